@@ -6,7 +6,8 @@ usage: bench/rename.py [--apply] TABLE
 
 A line of the table is `old new`, and # starts a comment. `old` is a whole name, or with a ~ before it one word of names: `~berth` stands in `own_berth` but
 not in `berths`, and `~Berth` in `IsBerth`. A whole name goes before a word of one, and nothing is renamed twice. In comments and docs a name is renamed
-if it cannot be prose: with `_` or a second capital in it, or between backticks.
+if it cannot be prose: with `_` or a second capital in it, or between backticks. Paths behind `new` limit the line to the files whose paths begin with one
+of them (`doing under_way crates/cpu/ crates/mctower/src/main.rt`); such a line goes before one of all files.
 
 Without --apply it changes nothing. It prints each new name that stands already, which would make two names one, and each line of prose that still says an old word.
 """
@@ -29,13 +30,29 @@ class Table:
     """What is renamed: whole names, and words of names."""
 
     def __init__(self, path):
-        self.whole, self.word = {}, {}
+        self.lines = []
         for line in open(path, encoding="utf-8"):
             found = line.split("#")[0].split()
-            if found and len(found) != 2:
+            if len(found) == 1:
                 sys.exit(f"rename: no line `old new`: {line.strip()}")
             if found:
-                (self.word if found[0][0] == "~" else self.whole)[found[0].lstrip("~")] = found[1]
+                self.lines.append((found[0], found[1], tuple(found[2:])))
+
+    def at(self, path):
+        """Returns what is renamed in one file."""
+        found = Names()
+        for limited in (False, True):
+            for old, new, within in self.lines:
+                if bool(within) == limited and (not within or path.startswith(within)):
+                    (found.word if old[0] == "~" else found.whole)[old.lstrip("~")] = new
+        return found
+
+
+class Names:
+    """What is renamed in one file: whole names, and words of names."""
+
+    def __init__(self):
+        self.whole, self.word = {}, {}
 
     def of(self, name):
         return self.whole.get(name) or "".join(self.word.get(it, it) for it in WORDS.findall(name))
@@ -70,6 +87,12 @@ def renamed(table, text, ending):
     return "\n".join(lines)
 
 
+def scope(path, text):
+    """Returns the path by which lines of the table are limited: a wrong body has the names of the file that it edits."""
+    edits = re.search(r"^file: (\S+)", text, re.M) if path.endswith(".edit") else None
+    return "/".join(path.split("/")[:2] + [edits[1]]) if edits else path
+
+
 def files():
     listed = subprocess.run(["git", "ls-files"], cwd=ROOT, stdout=subprocess.PIPE, text=True, check=True).stdout
     return [it for it in listed.split("\n") if it.endswith(CODE + DOCS) and os.path.exists(f"{ROOT}/{it}")]
@@ -91,21 +114,25 @@ def main():
     table, texts = Table(given.table), {}
     for it in files():
         texts[it] = open(f"{ROOT}/{it}", encoding="utf-8").read()
-    names = collections.Counter(name for path, text in texts.items() if path.endswith(CODE) for name in NAME.findall(text))
-    into = collections.defaultdict(list)
-    for name in names:
-        into[table.of(name)].append(name)
+    into = collections.defaultdict(collections.Counter)
+    for path, text in texts.items():
+        if path.endswith(CODE):
+            here = table.at(scope(path, text))
+            for name in NAME.findall(text):
+                into[here.of(name)][name] += 1
     for new, olds in sorted(into.items()):
         if len(olds) > 1:
-            print(f"two names become one: {', '.join(f'{it} ({names[it]})' for it in sorted(olds))} -> {new}")
-    old_word = re.compile(rf"\b({'|'.join(sorted(map(re.escape, table.olds())))})\b")
+            print(f"two names become one: {', '.join(f'{it} ({olds[it]})' for it in sorted(olds))} -> {new}")
     for path, text in texts.items():
-        made = renamed(table, text, os.path.splitext(path)[1])
-        for at, line in enumerate(made.split("\n"), 1):
-            if old_word.search(line):
-                print(f"{path}:{at}: {line.strip()[:160]}")
+        here = table.at(scope(path, text))
+        made = renamed(here, text, os.path.splitext(path)[1])
+        if here.olds():
+            old_word = re.compile(rf"\b({'|'.join(sorted(map(re.escape, here.olds())))})\b")
+            for at, line in enumerate(made.split("\n"), 1):
+                if old_word.search(line):
+                    print(f"{path}:{at}: {line.strip()[:160]}")
         if given.apply:
-            to = new_path(table, path)
+            to = new_path(here, path)
             if to != path:
                 os.makedirs(os.path.dirname(f"{ROOT}/{to}"), exist_ok=True)
                 subprocess.run(["git", "mv", path, to], cwd=ROOT, check=True)

@@ -48,12 +48,12 @@ ranged key None = Err (OutOfRange key)
 ranged key (Some x) = Ok x
 
 -- the value, if the test passes
-abbrev pub kept : {A : Type 0} → Bool → A → Option A
-kept passes x = if passes then Some x else None
+abbrev pub some_if : {A : Type 0} → Bool → A → Option A
+some_if passes x = if passes then Some x else None
 
 -- an integer from `least` to `most`
 abbrev pub number_within : ℕ → ℕ → ℤ → Option ℕ
-number_within least most (pos n) = kept (nat_le least n && nat_le n most) n
+number_within least most (pos n) = some_if (nat_le least n && nat_le n most) n
 number_within least most (negsuc n) = None
 
 -- an integer's key
@@ -66,7 +66,7 @@ list_at kind d = option_and_then (λ items. all_as kind (data_in items)) (option
 
 -- from 1 to `most` items
 abbrev pub some_to : {A : Type 0} → ℕ → List A → Option (List A)
-some_to most xs = kept (nat_le 1 (length xs) && nat_le (length xs) most) xs
+some_to most xs = some_if (nat_le 1 (length xs) && nat_le (length xs) most) xs
 
 -- the capacities
 unfoldable pub caps_at : Option Data → Result (List ℕ) BootError
@@ -92,7 +92,7 @@ unfoldable pub program_at : ℕ → ℕ → Option Data → Result (List Instruc
 program_at buffers t d =
     wanted (Program (record { 0 = t })) (list_at as_str d)
     >>= λ lines. of_thread t (program_in lines)
-    >>= λ program. ranged (Program (record { 0 = t })) (kept (list_all (names_below buffers) program) program)
+    >>= λ program. ranged (Program (record { 0 = t })) (some_if (list_all (names_below buffers) program) program)
 
 -- a thread's table
 unfoldable pub task_at : ℕ → ℕ → ℕ → Members → Result Task BootError
@@ -123,16 +123,16 @@ plan_of text = document_of (parse_document text) >>= plan_in
 
 -- what an error says of what is meant: that error, but nothing where memory was refused
 abbrev pub Fails : {Y : Type 0} → BootError → Result Y BootError → Type 0
-Fails NoMemory meant = Unit {0}
-Fails BadToml meant = meant ≡ Err BadToml
-Fails (MissingKey key) meant = meant ≡ Err (MissingKey key)
-Fails (OutOfRange key) meant = meant ≡ Err (OutOfRange key)
-Fails (Guest t line fault) meant = meant ≡ Err (Guest t line fault)
+Fails NoMemory ghost_of = Unit {0}
+Fails BadToml ghost_of = ghost_of ≡ Err BadToml
+Fails (MissingKey key) ghost_of = ghost_of ≡ Err (MissingKey key)
+Fails (OutOfRange key) ghost_of = ghost_of ≡ Err (OutOfRange key)
+Fails (Guest t line fault) ghost_of = ghost_of ≡ Err (Guest t line fault)
 
 -- a call gives the value that is meant, as it is viewed, or the error; want of memory aside
 abbrev pub Gives : {X Y : Type 0} → (X → Y) → Result X BootError → Result Y BootError → Type 0
-Gives view (Ok x) meant = meant ≡ Ok (view x)
-Gives view (Err e) meant = Fails e meant
+Gives view (Ok x) ghost_of = ghost_of ≡ Ok (view x)
+Gives view (Err e) ghost_of = Fails e ghost_of
 
 -- the home of a thread, and its program
 abbrev pub home_of : BootPlan → ℕ → ℕ

@@ -30,9 +30,9 @@ pub enum PlanKey {
 
 impl fmt::Display for PlanKey {
     ghost use Rattle.std.specs.Prelude.{Some};
-    ghost use Rattle.boot.specs.Names.{name_of};
+    ghost use Rattle.boot.specs.Names.{key_name};
 
-    ghost output = { λ key. Some (name_of key) };
+    ghost output = { λ key. Some (key_name key) };
 
     fn fmt<W: fmt::Write>(&self, f: &mut fmt::Formatter<W>) -> fmt::Result {
         match self {

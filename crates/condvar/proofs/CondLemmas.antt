@@ -13,20 +13,20 @@ use Rattle.layer_traits.specs.declared.conditions.CvOut.TheVariants as answer
 use Rattle.layer_traits.specs.declared.locked.QOut.{QOut}
 use Rattle.layer_traits.specs.declared.locked.QOut.TheVariants.{Acquired, Queued, Did, Released}
 use Rattle.layer_traits.specs.declared.locked.Side.{Side}
-use Rattle.layer_traits.specs.declared.moves.Line.{Line}
+use Rattle.layer_traits.specs.declared.moves.WaitList.{WaitList}
 use Rattle.layer_traits.specs.declared.queue_edits.QueueBlock.{QueueBlock}
 use Rattle.layer_traits.specs.declared.queue_edits.QueueEdit.{QueueEdit}
 use Rattle.layer_traits.specs.declared.queues.QueueAnswer.{QueueAnswer}
 use Rattle.layer_traits.specs.declared.queues.QueueEvent.{QueueEvent}
 use Rattle.layer_traits.specs.declared.scheds.SchedCall.{SchedCall}
 use Rattle.layer_traits.specs.declared.sleeps.Outcome.{Outcome}
-use Rattle.layer_traits.specs.Conditions.{Deeds, CvCall, cv_rules}
-use Rattle.layer_traits.specs.CvLaw.{CvPolled, MayWait, Waiting, cv_plan_for, left_told, left_waiting, waited, waiting_with}
+use Rattle.layer_traits.specs.Conditions.{MonitorRules, CvCall, cv_rules}
+use Rattle.layer_traits.specs.CvLaw.{CvPolled, MayWait, Waiting, cv_plan_for, left_reported, left_waiting, waited, waiting_with}
 use Rattle.layer_traits.specs.ListsAgree.{is_at}
-use Rattle.layer_traits.specs.Locking.{LockState, lock_after, lock_caller, line_in}
+use Rattle.layer_traits.specs.Locking.{LockState, lock_after, lock_caller, wait_list_in}
 use Rattle.layer_traits.specs.LockLaw.{Locking, LockPolled, LocksAgree, lock_kernel, lock_plan, slept_for}
 use Rattle.layer_traits.specs.MoveRules.{MoveRules}
-use Rattle.layer_traits.specs.Places.{AreMoves, Stands, Threads, home_of, one_if, berth_of}
+use Rattle.layer_traits.specs.Places.{AreMoves, Stands, Threads, home_of, one_if, wait_channel_of}
 use Rattle.layer_traits.specs.Plans.{Follows, Table}
 use Rattle.layer_traits.specs.QueueBlocks.{homes_in, inner}
 use Rattle.layer_traits.specs.Queues.{Kernel, buffer_sections, moves_in}
@@ -46,29 +46,32 @@ current_small homes c moves own t legal stands room runs =
     omega (arith, within, room)
 
 -- a thread that runs stands on no waiting list of any lock
-pub current_awake : {G B O : Type 0} (deeds : Deeds G B O) (opening : LockId → Option (QueueBlock (LockState B))) (seen : List (QueueEvent (CvCall G)))
+pub current_awake : {G B O : Type 0} (monitor_rules : MonitorRules G B O) (opening : LockId
+    → Option (QueueBlock (LockState B))) (seen : List (QueueEvent (CvCall G)))
     (c : CpuId) (own : Threads) (t : Tid)
-    → AreMoves (homes_in opening) (moves_in (lock_kernel (cv_rules deeds) opening) seen)
-    → Stands (homes_in opening) c (moves_in (lock_kernel (cv_rules deeds) opening) seen) own
-    → LocksAgree (cv_rules deeds) opening seen → own.current ≡ Some t
-    → (lock : LockId) (line : Line) → is_in t (line_in line (lock_after (cv_rules deeds) (inner opening) lock (buffer_sections seen))) ≡ false
-current_awake deeds opening seen c own t legal stands agree runs lock line =
-    let at = (current_at (homes_in opening) c (moves_in (lock_kernel (cv_rules deeds) opening) seen) own legal stands t runs).1 in
-    not_counted t (line_in line (lock_after (cv_rules deeds) (inner opening) lock (buffer_sections seen)))
-    (agree lock line t ∙ ap (λ w. one_if (is_at lock line (berth_of w))) at)
+    → AreMoves (homes_in opening) (moves_in (lock_kernel (cv_rules monitor_rules) opening) seen)
+    → Stands (homes_in opening) c (moves_in (lock_kernel (cv_rules monitor_rules) opening) seen) own
+    → LocksAgree (cv_rules monitor_rules) opening seen → own.current ≡ Some t
+    → (lock : LockId) (line : WaitList) → is_in t (wait_list_in line (lock_after (cv_rules monitor_rules) (inner opening) lock (buffer_sections seen))) ≡ false
+current_awake monitor_rules opening seen c own t legal stands agree runs lock line =
+    let at = (current_at (homes_in opening) c (moves_in (lock_kernel (cv_rules monitor_rules) opening) seen) own legal stands t runs).1 in
+    not_counted t (wait_list_in line (lock_after (cv_rules monitor_rules) (inner opening) lock (buffer_sections seen)))
+    (agree lock line t ∙ ap (λ w. one_if (is_at lock line (wait_channel_of w))) at)
 
 -- the poll of a thread that was woken out of its wait
-pub over_polled : {G B O : Type 0} (deeds : Deeds G B O) (k : Kernel (CvCall G) (LockState B) (Outcome (QOut (CvOut O)))) (ActsFor : CpuId → Type 0)
+pub over_polled : {G B O : Type 0} (monitor_rules : MonitorRules G B O) (k : Kernel (CvCall G) (LockState B) (Outcome (QOut (CvOut O)))) (ActsFor : CpuId
+    → Type 0)
     (c : CpuId) (b : BufId) (call : CvCall G)
     (old : List (QueueEvent (CvCall G))) (own : Waiting O) (under_way : Option (SchedCall (CvCall G))) (may : Type 0) (side : Side)
     (waits : List (Option BufId)) (at : Option BufId)
-    → is_some at ≡ true → MayWait at under_way b call (lock_caller (cv_rules deeds) call) may
-    → ((line : Line) → is_in (lock_caller (cv_rules deeds) call) (line_in line (lock_after (cv_rules deeds) k.opening (Buffer b) (buffer_sections old)))
+    → is_some at ≡ true → MayWait at under_way b call (lock_caller (cv_rules monitor_rules) call) may
+    → ((line : WaitList) → is_in (lock_caller (cv_rules monitor_rules) call) (wait_list_in line (lock_after (cv_rules monitor_rules) k.opening (Buffer b)
+    (buffer_sections old)))
     ≡ false)
-    → side ≡ side_in call → waits ≡ slice_set own.waits (lock_caller (cv_rules deeds) call).0 None
-    → CvPolled deeds k ActsFor c b call at old old own under_way (waiting_with own.lock waits (Some (waited side)))
-over_polled deeds k ActsFor c b call old own under_way may side waits None some duty left same now = absurd cc
-over_polled {O = O} deeds k ActsFor c b call old own under_way may side waits (Some at) some duty left same now =
+    → side ≡ side_in call → waits ≡ slice_set own.waits (lock_caller (cv_rules monitor_rules) call).0 None
+    → CvPolled monitor_rules k ActsFor c b call at old old own under_way (waiting_with own.lock waits (Some (waited side)))
+over_polled monitor_rules k ActsFor c b call old own under_way may side waits None some duty left same now = absurd cc
+over_polled {O = O} monitor_rules k ActsFor c b call old own under_way may side waits (Some at) some duty left same now =
     let of : side ≡ duty.2.0 = same ∙ ap side_in duty.2.1 in
     record {
       side = duty.2.0;
@@ -76,14 +79,14 @@ over_polled {O = O} deeds k ActsFor c b call old own under_way may side waits (S
       left = left;
       ends = duty.0;
       leaves = ap (λ w. waiting_with own.lock w (Some (waited {O = O} side))) now
-          ∙ ap (λ s. waiting_with own.lock (slice_set own.waits (lock_caller (cv_rules deeds) call).0 None) (Some (waited {O = O} s))) of;
+          ∙ ap (λ s. waiting_with own.lock (slice_set own.waits (lock_caller (cv_rules monitor_rules) call).0 None) (Some (waited {O = O} s))) of;
     }
 
 -- what the lock's answer leaves, by what it says
 left_by_out : {O : Type 0} (t : Tid) (b : BufId) (waits now : List (Option BufId)) (lock : Locking (CvOut O)) (out : QOut (CvOut O))
     (outcome : Outcome (QOut (CvOut O))) (result : Option (Outcome (QOut (CvOut O))))
     → now ≡ (if is_waiting out then slice_set waits t.0 (Some b) else waits) → result ≡ (if is_waiting out then None else Some outcome)
-    → waiting_with lock now result ≡ left_told t b waits lock out outcome
+    → waiting_with lock now result ≡ left_reported t b waits lock out outcome
 left_by_out t b waits now lock Acquired outcome result same told = rw (same, told) refl
 left_by_out t b waits now lock Queued outcome result same told = rw (same, told) refl
 left_by_out t b waits now lock (Did out) outcome result same told = rw (same, told) refl
@@ -93,29 +96,30 @@ left_by_out t b waits now lock (Released answer.Left) outcome result same told =
 left_by_out t b waits now lock (Released (answer.Waited side)) outcome result same told = rw (same, told) refl
 
 -- what the lock's answer leaves
-pub told_left : {O : Type 0} (t : Tid) (b : BufId) (waits now : List (Option BufId)) (lock : Locking (CvOut O))
+pub reported_left : {O : Type 0} (t : Tid) (b : BufId) (waits now : List (Option BufId)) (lock : Locking (CvOut O))
     (answer result : Option (Outcome (QOut (CvOut O))))
     → now ≡ (if is_wait answer then slice_set waits t.0 (Some b) else waits) → result ≡ (if is_wait answer then None else answer)
     → waiting_with lock now result ≡ left_waiting t b waits lock answer
-told_left t b waits now lock None result same told = rw (same, told) refl
-told_left t b waits now lock (Some outcome) result same told = left_by_out t b waits now lock outcome.out outcome result same told
+reported_left t b waits now lock None result same told = rw (same, told) refl
+reported_left t b waits now lock (Some outcome) result same told = left_by_out t b waits now lock outcome.out outcome result same told
 
 -- the poll of a thread that does not wait
-pub waits_polled : {G B O : Type 0} (deeds : Deeds G B O) (k : Kernel (CvCall G) (LockState B) (Outcome (QOut (CvOut O)))) (ActsFor : CpuId → Type 0)
+pub waits_polled : {G B O : Type 0} (monitor_rules : MonitorRules G B O) (k : Kernel (CvCall G) (LockState B) (Outcome (QOut (CvOut O)))) (ActsFor : CpuId
+    → Type 0)
     (c : CpuId) (b : BufId) (call : CvCall G)
     (old new : List (QueueEvent (CvCall G))) (own : Waiting O) (under_way : Option (SchedCall (CvCall G))) (lock : Locking (CvOut O))
     (waits : List (Option BufId)) (answer result : Option (Outcome (QOut (CvOut O)))) (at : Option BufId)
     → is_some at ≡ false
-    → LockPolled (cv_rules deeds) k ActsFor c b call (slept_for own.lock.slept (lock_caller (cv_rules deeds) call)) old new own.lock under_way
+    → LockPolled (cv_rules monitor_rules) k ActsFor c b call (slept_for own.lock.slept (lock_caller (cv_rules monitor_rules) call)) old new own.lock under_way
     (record { own = lock; answer = answer })
-    → waits ≡ (if is_wait answer then slice_set own.waits (lock_caller (cv_rules deeds) call).0 (Some b) else own.waits)
+    → waits ≡ (if is_wait answer then slice_set own.waits (lock_caller (cv_rules monitor_rules) call).0 (Some b) else own.waits)
     → result ≡ (if is_wait answer then None else answer)
-    → CvPolled deeds k ActsFor c b call at old new own under_way (waiting_with lock waits result)
-waits_polled deeds k ActsFor c b call old new own under_way lock waits answer result (Some at) none polled same told = absurd cc
-waits_polled deeds k ActsFor c b call old new own under_way lock waits answer result None none polled same told = record {
+    → CvPolled monitor_rules k ActsFor c b call at old new own under_way (waiting_with lock waits result)
+waits_polled monitor_rules k ActsFor c b call old new own under_way lock waits answer result (Some at) none polled same told = absurd cc
+waits_polled monitor_rules k ActsFor c b call old new own under_way lock waits answer result None none polled same told = record {
   left = record { own = lock; answer = answer };
   polled = polled;
-  leaves = told_left (lock_caller (cv_rules deeds) call) b own.waits waits lock answer result same told;
+  leaves = reported_left (lock_caller (cv_rules monitor_rules) call) b own.waits waits lock answer result same told;
 }
 
 -- it follows its plan where the lock's poll follows its own
@@ -129,6 +133,6 @@ pub waits_follow : {G B O : Type 0} (ActsFor : CpuId → Type 0) (table : Table 
     → Follows ActsFor table opening c (cv_plan_for mv homes c b call own at) old new (waiting_with lock waits result)
 waits_follow ActsFor table opening mv homes c b call own old new lock waits answer result (Some at) none follows same told = absurd cc
 waits_follow ActsFor table opening mv homes c b call own old new lock waits answer result None none follows same told =
-    rw (told_left (mv.caller call) b own.waits waits lock answer result same told)
+    rw (reported_left (mv.caller call) b own.waits waits lock answer result same told)
     (follows_raised ActsFor table opening c (λ l. left_waiting (mv.caller call) b own.waits l.own l.answer) (lock_plan mv homes c b call own.lock) old new
     (record { own = lock; answer = answer }) follows)

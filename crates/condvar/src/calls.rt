@@ -11,7 +11,7 @@ use layer_traits::{CvEdit, CvLeave, Guarded, QEdit, Side};
 /// The thread that calls.
 #[inline(always)]
 pub fn caller_of<G: Guarded>(call: &QEdit<CvEdit<G>, CvLeave>) -> Tid
-    ensures { result ≡ lock_caller (cv_rules G.deeds) call.now }
+    ensures { result ≡ lock_caller (cv_rules G.monitor_rules) call.now }
 {
     match call {
         QEdit::Acquire(t) => *t,

@@ -4,8 +4,8 @@ use crate::calls::{caller_of, side_of};
 use crate::waits::Waits;
 use event_log::{BufId, CpuId, Tid};
 use layer_traits::{
-    CvEdit, CvLayer, CvLeave, CvOut, Guarded, Line, Outcome, OwnedConds, OwnedQLocks, Pass, QEdit,
-    QLockLayer, QOut, Tray,
+    CvEdit, CvLayer, CvLeave, CvOut, Guarded, Outcome, OwnedConds, OwnedQLocks, Pass, Payload,
+    QEdit, QLockLayer, QOut, WaitList,
 };
 
 /// One CPU's part of queuing locks with Mesa conditions (Anderson and Dahlin), over a part `Q` of
@@ -27,7 +27,7 @@ impl<G: Guarded, Q: QLockLayer<CvEdit<G>>> CvLayer<G> for Cond<Q> {
     ghost use Rattle.layer_traits.specs.Plans.{Follows, IsWhole, table_of};
     ghost use Rattle.layer_traits.specs.QueueBlocks.{homes_in};
     ghost use Rattle.layer_traits.specs.QueueRules.{queue_rules};
-    ghost use Rattle.layer_traits.specs.Trays.{cv_brought, cv_carried, lock_brought, lock_carried};
+    ghost use Rattle.layer_traits.specs.Payloads.{cv_brought, cv_carried, lock_brought, lock_carried};
     ghost use Rattle.condvar.specs.Waiting.{with_waits};
 
     type Machine = Q::Machine;
@@ -111,25 +111,25 @@ impl<G: Guarded, Q: QLockLayer<CvEdit<G>>> CvLayer<G> for Cond<Q> {
         m: &mut Q::Machine,
         buffer: BufId,
         call: QEdit<CvEdit<G>, CvLeave>,
-        tray: &mut Tray,
+        payload: &mut Payload,
     ) -> Option<Outcome<QOut<CvOut<G::Out>>>>
         requires fits { Q.Fits self.old.lower m.old }
         requires buffer { IsSome (Q.opening m.old (Buffer buffer)) }
         requires room { 0 < Q.room m.old }
-        requires caller { (Q.own self.old.lower).sleep.threads.current ≡ Some (lock_caller (cv_rules G.deeds) call) }
-        requires call { MayWait (slept_for self.old.waits.buffers (lock_caller (cv_rules G.deeds) call)) (Q.under_way self.old.lower) buffer
-            call (lock_caller (cv_rules G.deeds) call)
-            (MayGo (slept_for (Q.own self.old.lower).slept (lock_caller (cv_rules G.deeds) call)) (Q.under_way self.old.lower) buffer call
-            (lock_caller (cv_rules G.deeds) call)
-            (MayLock (cv_rules G.deeds) (lock_kernel (cv_rules G.deeds) (Q.opening m.old)) (Q.cpu_of self.old.lower) (Q.seen m.old)
+        requires caller { (Q.own self.old.lower).sleep.threads.current ≡ Some (lock_caller (cv_rules G.monitor_rules) call) }
+        requires call { MayWait (slept_for self.old.waits.buffers (lock_caller (cv_rules G.monitor_rules) call)) (Q.under_way self.old.lower) buffer
+            call (lock_caller (cv_rules G.monitor_rules) call)
+            (MayGo (slept_for (Q.own self.old.lower).slept (lock_caller (cv_rules G.monitor_rules) call)) (Q.under_way self.old.lower) buffer call
+            (lock_caller (cv_rules G.monitor_rules) call)
+            (MayLock (cv_rules G.monitor_rules) (lock_kernel (cv_rules G.monitor_rules) (Q.opening m.old)) (Q.cpu_of self.old.lower) (Q.seen m.old)
             (Q.own self.old.lower).sleep.threads.hand buffer call)) }
-        requires carried { lock_carried (cv_carried G.carried) call tray.old.message }
-        ensures seen { CvPolled G.deeds (lock_kernel (cv_rules G.deeds) (Q.opening m.old)) (λ c. Q.ActsFor m.old c) (Q.cpu_of self.old.lower)
-            buffer call (slept_for self.old.waits.buffers (lock_caller (cv_rules G.deeds) call)) (Q.seen m.old) (Q.seen m.new)
+        requires carried { lock_carried (cv_carried G.carried) call payload.old.message }
+        ensures seen { CvPolled G.monitor_rules (lock_kernel (cv_rules G.monitor_rules) (Q.opening m.old)) (λ c. Q.ActsFor m.old c) (Q.cpu_of self.old.lower)
+            buffer call (slept_for self.old.waits.buffers (lock_caller (cv_rules G.monitor_rules) call)) (Q.seen m.old) (Q.seen m.new)
             (with_waits (Q.own self.old.lower) self.old.waits.buffers) (Q.under_way self.new.lower)
             (waiting_with (Q.own self.new.lower) self.new.waits.buffers result) }
-        ensures woken { IsSome (slept_for self.old.waits.buffers (lock_caller (cv_rules G.deeds) call)) → m.new ≡ m.old }
-        ensures handed { IsSome (slept_for (Q.own self.old.lower).slept (lock_caller (cv_rules G.deeds) call)) → m.new ≡ m.old }
+        ensures woken { IsSome (slept_for self.old.waits.buffers (lock_caller (cv_rules G.monitor_rules) call)) → m.new ≡ m.old }
+        ensures handed { IsSome (slept_for (Q.own self.old.lower).slept (lock_caller (cv_rules G.monitor_rules) call)) → m.new ≡ m.old }
         ensures fits { Q.Fits self.new.lower m.new }
         ensures cpu { Q.cpu_of self.new.lower ≡ Q.cpu_of self.old.lower }
         ensures opening { Q.opening m.new ≡ Q.opening m.old }
@@ -137,14 +137,14 @@ impl<G: Guarded, Q: QLockLayer<CvEdit<G>>> CvLayer<G> for Cond<Q> {
         ensures room { Q.room m.old ≤ Q.room m.new + 1 }
         ensures acts { (c : CpuId) → Q.ActsFor m.old c → Q.ActsFor m.new c }
         ensures others { (p : Q) → Q.cpu_of p ≢ Q.cpu_of self.old.lower → Q.Fits p m.old → Q.Fits p m.new }
-        ensures brought { IfSome result (λ outcome. lock_brought (cv_brought G.brought) outcome.out tray.new.message) }
+        ensures brought { IfSome result (λ outcome. lock_brought (cv_brought G.brought) outcome.out payload.new.message) }
         ensures prompt { IsWhole Q.IsStepwise → result ≡ None
-            → MustStay (lock_caller (cv_rules G.deeds) call) buffer (with_waits (Q.own self.old.lower) self.old.waits.buffers)
+            → MustStay (lock_caller (cv_rules G.monitor_rules) call) buffer (with_waits (Q.own self.old.lower) self.old.waits.buffers)
             (with_waits (Q.own self.new.lower) self.new.waits.buffers) }
         ensures follows { Q.IsStepwise
-            → Follows (λ c. Q.ActsFor m.old c) (table_of (queue_rules (lock_rules (cv_rules G.deeds)) (lock_moves (cv_rules G.deeds))))
+            → Follows (λ c. Q.ActsFor m.old c) (table_of (queue_rules (lock_rules (cv_rules G.monitor_rules)) (lock_moves (cv_rules G.monitor_rules))))
             (Q.opening m.old) (Q.cpu_of self.old.lower)
-            (cv_plan (lock_moves (cv_rules G.deeds)) (homes_in (Q.opening m.old)) (Q.cpu_of self.old.lower) buffer call
+            (cv_plan (lock_moves (cv_rules G.monitor_rules)) (homes_in (Q.opening m.old)) (Q.cpu_of self.old.lower) buffer call
             (with_waits (Q.own self.old.lower) self.old.waits.buffers))
             (Q.acts m.old) (Q.acts m.new) (waiting_with (Q.own self.new.lower) self.new.waits.buffers result) }
     {
@@ -156,13 +156,13 @@ impl<G: Guarded, Q: QLockLayer<CvEdit<G>>> CvLayer<G> for Cond<Q> {
                 woke: None,
             });
         }
-        let answer = self.lower.poll(m, buffer, call, tray);
-        self.waits.told(t, buffer, answer)
+        let answer = self.lower.poll(m, buffer, call, payload);
+        self.waits.complete(t, buffer, answer)
     }
 
     #[inline(always)]
-    fn pass(&mut self, m: &mut Q::Machine, call: Pass, tray: &mut Tray) -> Option<()> {
-        self.lower.pass(m, call, tray)
+    fn pass(&mut self, m: &mut Q::Machine, call: Pass, payload: &mut Payload) -> Option<()> {
+        self.lower.pass(m, call, payload)
     }
 
     ghost own_cpu = { λ p m. Q.own_cpu p.lower m };
@@ -177,7 +177,7 @@ impl<G: Guarded, Q: QLockLayer<CvEdit<G>>> CvLayer<G> for Cond<Q> {
 
     ghost lawful = { Q.lawful };
 
-    ghost moving = { Q.moving };
+    ghost moves_legal = { Q.moves_legal };
 
     ghost known = { Q.known };
 
@@ -234,13 +234,13 @@ impl<G: Guarded, Q: OwnedQLocks<CvEdit<G>>> OwnedConds<G> for Cond<Q> {
     }
 
     #[inline(always)]
-    fn line_in(m: &Q::Machine, b: BufId, t: Tid) -> Option<Line> {
-        Q::line_in(m, b, t)
+    fn wait_list_in(m: &Q::Machine, b: BufId, t: Tid) -> Option<WaitList> {
+        Q::wait_list_in(m, b, t)
     }
 
     #[inline(always)]
-    fn line_here(&self, b: BufId, t: Tid) -> Option<Line> {
-        self.lower.line_here(b, t)
+    fn wait_list_here(&self, b: BufId, t: Tid) -> Option<WaitList> {
+        self.lower.wait_list_here(b, t)
     }
 
     #[inline(always)]
@@ -257,13 +257,13 @@ impl<G: Guarded, Q: OwnedQLocks<CvEdit<G>>> OwnedConds<G> for Cond<Q> {
         (λ (p : Self). Q.cpu_of p.lower)
         (λ d. Q.IsStepwise × (is_in_section (phase d (Q.acts m)) ≡ true)) (λ d. Q.IsStepwise × (is_in_section (phase d (Q.acts m)) ≡ true))
         (λ p. Q.lock_with p b) (Q.lock_at m b)
-        (lock_after (cv_rules G.deeds) (inner (Q.opening m)) (Buffer b) (buffer_sections (Q.seen m)))
+        (lock_after (cv_rules G.monitor_rules) (inner (Q.opening m)) (Buffer b) (buffer_sections (Q.seen m)))
         (λ p fits. fits) (λ p fits. refl) (λ d inside. inside) (Q.shown m c b acts there) };
 
     ghost queues = { λ m c d acts there. shown_under (λ (p : Self). p.lower) (λ p. Q.Fits p m) (λ (p : Self). Self.Fits p m) (λ p. Q.cpu_of p)
         (λ (p : Self). Q.cpu_of p.lower)
         (λ d. Q.IsStepwise × (is_in_section (phase d (Q.acts m)) ≡ true)) (λ d. Q.IsStepwise × (is_in_section (phase d (Q.acts m)) ≡ true))
         (λ p. Q.queue_with p d) (Q.queue_at m d)
-        (Some (pending_by (moves_in (lock_kernel (cv_rules G.deeds) (Q.opening m)) (Q.seen m)) d))
+        (Some (pending_by (moves_in (lock_kernel (cv_rules G.monitor_rules) (Q.opening m)) (Q.seen m)) d))
         (λ p fits. fits) (λ p fits. refl) (λ d inside. inside) (Q.queues m c d acts there) };
 }

@@ -44,7 +44,7 @@ impl Waits {
     /// Takes what the lock of `buffer` told `t`: the answer of a wait is held back, and the thread
     /// waits there; each other answer is handed on.
     #[inline(always)]
-    pub fn told<O: Drop>(
+    pub fn complete<O: Drop>(
         &mut self,
         t: Tid,
         buffer: BufId,
@@ -52,7 +52,7 @@ impl Waits {
     ) -> Option<Outcome<QOut<CvOut<O>>>>
         requires { t.0 < THREADS }
         ensures waits { self.new.buffers ≡ (if is_wait answer then slice_set self.old.buffers t.0 (Some buffer) else self.old.buffers) }
-        ensures told { result ≡ (if is_wait answer then None else answer) }
+        ensures complete { result ≡ (if is_wait answer then None else answer) }
     {
         if has_waited(&answer) {
             self.buffers[usize::from(t.0)] = Some(buffer);

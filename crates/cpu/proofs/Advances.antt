@@ -9,16 +9,16 @@ use Rattle.std.proofs.lemmas.Option.{slice_get_within}
 use Rattle.event_log.specs.declared.entries.Entry.{Entry}
 use Rattle.event_log.specs.declared.ids.CpuId.{CpuId}
 use Rattle.event_log.specs.declared.ids.TheConstants.{CPUS, THREADS}
-use Rattle.event_log.specs.Actions.{Action, doer, phase}
+use Rattle.event_log.specs.Actions.{Action, cpu_of_action, phase}
 use Rattle.event_log.specs.History.{AreForeign, AreOthers, same_cpu}
 use Rattle.event_log.proofs.Foreign.{phase_others}
 use Rattle.event_log.proofs.Same.{same_cpu_self}
-use Rattle.layer_traits.specs.BufferLaw.{Doing, entry_cpu}
+use Rattle.layer_traits.specs.BufferLaw.{UnderWay, cpu_of_entry}
 use Rattle.layer_traits.specs.OnePlace.{cpu_at}
 use Rattle.layer_traits.specs.Places.{Threads}
 use Rattle.layer_traits.specs.declared.steps.Reason.{Reason}
 use Rattle.layer_traits.specs.declared.steps.Reason.TheVariants.{StepsUsed}
-use Rattle.layer_traits.specs.declared.talks.Talk.{Talk}
+use Rattle.layer_traits.specs.declared.call_states.CallState.{CallState}
 use Rattle.cpu.specs.declared.guests.Guest.{Guest}
 use Rattle.cpu.specs.Cpus.{ActsGrow, IsCpu, SeenGrows, of_cpu}
 use Rattle.cpu.specs.Claims.{CpuShown, Shown}
@@ -27,11 +27,11 @@ use Rattle.cpu.proofs.CpuStates.{valid_cpu}
 use Rattle.cpu.proofs.GuestLists.{cpu_same}
 use Rattle.cpu.proofs.ListReads.{all_both, all_by, all_left, all_right, set_again, set_else, set_there}
 use Rattle.cpu.proofs.Schedules.{seen_stays}
-use Rattle.cpu.proofs.Sounding.{Told}
+use Rattle.cpu.proofs.Sounding.{Observed}
 
 -- where the holder acts for each CPU that there may be, no effect is foreign
 no_others : (ActsFor : CpuId → Type 0) (others : List Entry) → ((c : CpuId) → c.0 < CPUS → ActsFor c) → AllByRecursion (λ e. e.cpu.0 < CPUS) others
-    → AreForeign ActsFor entry_cpu others → others ≡ []
+    → AreForeign ActsFor cpu_of_entry others → others ≡ []
 no_others ActsFor [] all known foreign = refl
 no_others ActsFor (e ∷ others) all known foreign =
     let theirs = (foreign e.cpu (all e.cpu known.0)).0 in
@@ -39,17 +39,17 @@ no_others ActsFor (e ∷ others) all known foreign =
     absurd (cc (theirs, same))
 
 -- effects of one CPU are none of another's
-others_of : (k c : CpuId) (mine : List Entry) → c.0 ≢ k.0 → AllByRecursion (λ e. e.cpu ≡ k) mine → AreOthers entry_cpu c mine
+others_of : (k c : CpuId) (mine : List Entry) → c.0 ≢ k.0 → AllByRecursion (λ e. e.cpu ≡ k) mine → AreOthers cpu_of_entry c mine
 others_of k c [] other own = tt
 others_of k c (e ∷ mine) other own = (
   ne_eqb e.cpu.0 c.0 (λ same. other (sym (sym (ap (λ (d : CpuId). d.0) own.0) ∙ same))),
   others_of k c mine other own.1,
 )
 
-acts_of : {N : Type 0} (k c : CpuId) (mine : List (Action N)) → c.0 ≢ k.0 → AllByRecursion (λ a. doer a ≡ k) mine → AreOthers doer c mine
+acts_of : {N : Type 0} (k c : CpuId) (mine : List (Action N)) → c.0 ≢ k.0 → AllByRecursion (λ a. cpu_of_action a ≡ k) mine → AreOthers cpu_of_action c mine
 acts_of k c [] other own = tt
 acts_of k c (a ∷ mine) other own = (
-  ne_eqb (doer a).0 c.0 (λ same. other (sym (sym (ap (λ (d : CpuId). d.0) own.0) ∙ same))),
+  ne_eqb (cpu_of_action a).0 c.0 (λ same. other (sym (sym (ap (λ (d : CpuId). d.0) own.0) ∙ same))),
   acts_of k c mine other own.1,
 )
 
@@ -61,7 +61,7 @@ same_of ActsFor k c old new other acts grows =
     ∙ mine_gone grows.mine (others_of k c grows.mine other grows.own)
     ∙ cpu_same ActsFor c grows.others old grows.foreign acts
   where
-    mine_gone : (mine : List Entry) → AreOthers entry_cpu c mine → of_cpu c (mine ++ (grows.others ++ old)) ≡ of_cpu c (grows.others ++ old)
+    mine_gone : (mine : List Entry) → AreOthers cpu_of_entry c mine → of_cpu c (mine ++ (grows.others ++ old)) ≡ of_cpu c (grows.others ++ old)
     mine_gone [] theirs = refl
     mine_gone (e ∷ mine) theirs = rw theirs.0 (mine_gone mine theirs.1)
 
@@ -75,13 +75,13 @@ phase_stays ActsFor k c old new other acts grows =
 
 -- another CPU's step leaves what always holds of a CPU
 pub cpu_frame : (homes homes2 : List CpuId) (buffers buffers2 : ℕ) (seen seen2 : List Entry)
-    (own : Threads) (talks : List Talk) (doing : Option Doing) (number : CpuId)
+    (own : Threads) (call_states : List CallState) (under_way : Option UnderWay) (number : CpuId)
     (guests : List (Option Guest)) (trace : List Entry) (limit capacity : ℕ) → homes2 ≡ homes → buffers2 ≡ buffers → of_cpu number seen2 ≡ of_cpu number seen
-    → IsCpu homes buffers seen own talks doing number guests trace limit capacity
-    → IsCpu homes2 buffers2 seen2 own talks doing number guests trace limit capacity
-cpu_frame homes homes2 buffers buffers2 seen seen2 own talks doing number guests trace limit capacity same_homes same_buffers same is =
-    subst (λ (h : List CpuId). IsCpu h buffers2 seen2 own talks doing number guests trace limit capacity) (sym same_homes)
-    (subst (λ (n : ℕ). IsCpu homes n seen2 own talks doing number guests trace limit capacity) (sym same_buffers)
+    → IsCpu homes buffers seen own call_states under_way number guests trace limit capacity
+    → IsCpu homes2 buffers2 seen2 own call_states under_way number guests trace limit capacity
+cpu_frame homes homes2 buffers buffers2 seen seen2 own call_states under_way number guests trace limit capacity same_homes same_buffers same is =
+    subst (λ (h : List CpuId). IsCpu h buffers2 seen2 own call_states under_way number guests trace limit capacity) (sym same_homes)
+    (subst (λ (n : ℕ). IsCpu homes n seen2 own call_states under_way number guests trace limit capacity) (sym same_buffers)
     (seen_stays (valid_cpu is) seen2 same))
 
 -- the system after a step of CPU k, which left y in its place
@@ -147,19 +147,19 @@ system_step One Two number Acts1 Acts2 IsStepwise acts1 acts2 cpus homes homes2 
         record { number_is = before.number_is; holds = there j x other (omega (arith, inside, most)) before }
 
 -- What a machine M and the CPUs X that work in it tell of themselves: whether a CPU's part fits the machine, its number and that of its
--- part, what it shows, its talks, what it is doing, and for how many entries its trace has memory; of the machine for whom it acts, whether
+-- part, what it shows, its call states, what it is doing, and for how many entries its trace has memory; of the machine for whom it acts, whether
 -- it does one action a step, what it tells, and how much room is left; and what else is asked of a CPU and of the system.
 pub record Works (M X : Type 0) : Type 1 where
   pub Fits : X → M → Type 0
   pub number : X → CpuId
   pub cpu : X → CpuId
   pub shown : X → CpuShown
-  pub talks : X → List Talk
-  pub doing : X → Option Doing
+  pub call_states : X → List CallState
+  pub under_way : X → Option UnderWay
   pub capacity : X → ℕ
   pub ActsFor : M → CpuId → Type 0
   pub IsStepwise : Type 0
-  pub told : M → Told
+  pub told : M → Observed
   pub left : M → ℕ
   pub Tabled : M → X → Type 0
   pub Sound : M → List X → ℕ → ℕ → Type 0
@@ -167,7 +167,7 @@ pub record Works (M X : Type 0) : Type 1 where
 module _ {M X : Type 0} (of : Works M X) where
   -- what always holds of one CPU
   abbrev Keeps : M → X → Type 0
-  Keeps m x = IsCpu (of.told m).homes (length (of.told m).caps) (of.told m).seen (of.shown x).own (of.talks x) (of.doing x) (of.number x)
+  Keeps m x = IsCpu (of.told m).homes (length (of.told m).caps) (of.told m).seen (of.shown x).own (of.call_states x) (of.under_way x) (of.number x)
       (of.shown x).guests (of.shown x).trace (of.shown x).limit (of.capacity x)
 
   abbrev IsOne : M → X → Type 0
@@ -212,7 +212,7 @@ module _ {M X : Type 0} (of : Works M X) where
             others z (λ e. apart (ap (λ (c : CpuId). c.0) (sym before.holds.1 ∙ e))) before.holds.0,
             before.holds.1,
             cpu_frame (of.told m).homes (of.told m2).homes (length (of.told m).caps) (length (of.told m2).caps) (of.told m).seen (of.told m2).seen
-                (of.shown z).own (of.talks z) (of.doing z) (of.number z) (of.shown z).guests (of.shown z).trace (of.shown z).limit (of.capacity z)
+                (of.shown z).own (of.call_states z) (of.under_way z) (of.number z) (of.shown z).guests (of.shown z).trace (of.shown z).limit (of.capacity z)
                 same_homes (ap (λ (l : List ℕ). length l) same_caps)
                 (same_of (of.ActsFor m) (of.number x) (of.number z) (of.told m).seen (of.told m2).seen apart act grows)
                 before.holds.2,

@@ -15,8 +15,8 @@ use Rattle.event_log.specs.declared.ids.TheConstants.{CPUS, THREADS}
 use Rattle.event_log.specs.Actions.{Action}
 use Rattle.guest.specs.Calls.{starts}
 use Rattle.layer_traits.specs.declared.ipc_layers.IpcLayer.{Ghosts}
-use Rattle.layer_traits.specs.declared.talks.Talk.{Talk}
-use Rattle.layer_traits.specs.BufferLaw.{quiet, talk_of}
+use Rattle.layer_traits.specs.declared.call_states.CallState.{CallState}
+use Rattle.layer_traits.specs.BufferLaw.{no_call, call_state_of}
 use Rattle.layer_traits.specs.OnePlace.{cpu_at}
 use Rattle.layer_traits.specs.Openings.{AreOpenable}
 use Rattle.layer_traits.specs.Places.{at_boot}
@@ -28,12 +28,12 @@ use Rattle.cpu.specs.Cpus.{IsCpu, begun_count, guest_at, is_begun_guest}
 use Rattle.cpu.specs.Systems.{IsAt, IsSystem}
 
 -- a thread that never called
-quiet_at : (t : Tid) → talk_of (replicate THREADS quiet) t ≡ quiet
-quiet_at t = go (cases_lt t.0 THREADS)
+no_call_at : (t : Tid) → call_state_of (replicate THREADS no_call) t ≡ no_call
+no_call_at t = go (cases_lt t.0 THREADS)
   where
-    go : (t.0 < THREADS) ⊎ (THREADS ≤ t.0) → talk_of (replicate THREADS quiet) t ≡ quiet
-    go (inl within) = get_or-replicate THREADS t.0 quiet quiet within
-    go (inr past) = get_or_past (replicate THREADS quiet) t.0 quiet (let long = length-replicate THREADS quiet in omega (arith, long, past))
+    go : (t.0 < THREADS) ⊎ (THREADS ≤ t.0) → call_state_of (replicate THREADS no_call) t ≡ no_call
+    go (inl within) = get_or-replicate THREADS t.0 no_call no_call within
+    go (inr past) = get_or_past (replicate THREADS no_call) t.0 no_call (let long = length-replicate THREADS no_call in omega (arith, long, past))
 
 -- guests that are all new have begun no call
 none_begun : (guests : List (Option Guest)) → ((k : ℕ) (g : Guest) → guest_at guests k ≡ Some g → is_begun g.stage ≡ false) → begun_count guests ≡ 0
@@ -53,12 +53,12 @@ none_begun (x ∷ guests) none =
 -- a CPU before its first step
 pub boots : (homes : List CpuId) (buffers : ℕ) (number : CpuId) (guests : List (Option Guest)) (limit capacity : ℕ) → AreGuests homes buffers number guests
     → length homes ≤ THREADS → limit ≤ capacity
-    → IsCpu homes buffers [] (at_boot homes number) (replicate THREADS quiet) None number guests [] limit capacity
+    → IsCpu homes buffers [] (at_boot homes number) (replicate THREADS no_call) None number guests [] limit capacity
 boots homes buffers number guests limit capacity are few reserved = record {
   kept = refl;
   stays = tt;
-  follow = λ t g at. subst (λ (talk : Talk). HasCome g [] talk) (sym (quiet_at t))
-      (subst (λ (x : Guest). HasCome x [] quiet) (sym (are.fresh t g at)) ((λ none. refl), (refl, starts)));
+  follow = λ t g at. subst (λ (call_state : CallState). HasCome g [] call_state) (sym (no_call_at t))
+      (subst (λ (x : Guest). HasCome x [] no_call) (sym (are.fresh t g at)) ((λ none. refl), (refl, starts)));
   over = λ t ended g at. absurd (cc ended);
   homed = are.homed;
   named = are.named;
@@ -73,15 +73,15 @@ boots homes buffers number guests limit capacity are few reserved = record {
 -- a CPU that was made so, in a machine that is fresh
 pub boots_as : {P M : Type 0} (I : Ghosts P M) (m : M) (p : Cpu P M) (homes : List CpuId) (buffers k : ℕ) (guests : List (Option Guest)) (most : ℕ)
     → IsBootedAs (λ q n. I.Fits q n) (λ n d. I.IsFresh n homes d) (λ n. length (I.caps n)) I.IsStepwise buffers homes k guests most p.part (I.cpu_of p.part)
-    (I.own p.part) (I.threads p.part) (I.talks p.part) (I.doing p.part) p.number p.guests.items p.trace.items p.limit (vec_capacity p.trace)
+    (I.own p.part) (I.threads p.part) (I.call_states p.part) (I.under_way p.part) p.number p.guests.items p.trace.items p.limit (vec_capacity p.trace)
     → I.IsFresh m homes (cpu_at k) → length (I.caps m) ≡ buffers → I.homes_of m ≡ homes → I.seen m ≡ [] → AreGuests homes buffers (cpu_at k) guests
     → length homes ≤ THREADS
-    → I.Fits p.part m × (I.cpu_of p.part ≡ p.number) × IsCpu (I.homes_of m) (length (I.caps m)) (I.seen m) (I.threads p.part) (I.talks p.part)
-    (I.doing p.part) p.number p.guests.items p.trace.items p.limit (vec_capacity p.trace)
+    → I.Fits p.part m × (I.cpu_of p.part ≡ p.number) × IsCpu (I.homes_of m) (length (I.caps m)) (I.seen m) (I.threads p.part) (I.call_states p.part)
+    (I.under_way p.part) p.number p.guests.items p.trace.items p.limit (vec_capacity p.trace)
 boots_as I m p homes buffers k guests most is fresh counted same none are few = (
   is.fits m fresh counted,
   is.cpu_is ∙ sym is.booted.number_is,
-  subst (λ z. z) (λ i. IsCpu (sym same i) (sym counted i) (sym none i) (sym is.threads_are i) (sym is.nobody_talks i) (sym is.nothing_done i)
+  subst (λ z. z) (λ i. IsCpu (sym same i) (sym counted i) (sym none i) (sym is.threads_are i) (sym is.nobody_calls i) (sym is.nothing_done i)
       (sym is.booted.number_is i) (sym is.booted.guests_are i) (sym is.booted.nothing i) (sym is.booted.limit_is i) (vec_capacity p.trace))
       (boots homes buffers (cpu_at k) guests most (vec_capacity p.trace) are few is.booted.reserved),
 )

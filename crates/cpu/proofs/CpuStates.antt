@@ -5,10 +5,10 @@ use Rattle.event_log.specs.declared.ids.CpuId.{CpuId}
 use Rattle.event_log.specs.declared.ids.LockId.{LockId}
 use Rattle.event_log.specs.declared.ids.Tid.{Tid}
 use Rattle.event_log.specs.Actions.{Action, phase}
-use Rattle.layer_traits.specs.declared.talks.Talk.{Talk}
+use Rattle.layer_traits.specs.declared.call_states.CallState.{CallState}
 use Rattle.layer_traits.specs.Places.{Threads, home_of}
 use Rattle.layer_traits.specs.Plans.{is_in_section}
-use Rattle.layer_traits.specs.BufferLaw.{Buffering, Doing}
+use Rattle.layer_traits.specs.BufferLaw.{Buffering, UnderWay}
 use Rattle.cpu.specs.declared.guests.Guest.{Guest}
 use Rattle.cpu.specs.Cpus.{IsCpu}
 use Rattle.cpu.specs.Tables.{IsTabled}
@@ -20,31 +20,32 @@ pub record CpuState : Type 0 where
   pub homes : List CpuId
   pub buffers : ℕ
   pub seen : List Entry
-  pub doing : Option Doing
+  pub under_way : Option UnderWay
   pub number : CpuId
   pub guests : List (Option Guest)
   pub trace : List Entry
   pub limit : ℕ
   pub capacity : ℕ
 
--- a CPU, by the threads and talks that its part tells, of which holds what always holds of one
+-- a CPU, by the threads and call states that its part tells, of which holds what always holds of one
 pub record ValidCpu : Type 0 where
   pub state : CpuState
   pub open state use *
   pub own : Threads
-  pub talks : List Talk
-  pub is : IsCpu homes buffers seen own talks doing number guests trace limit capacity
+  pub call_states : List CallState
+  pub is : IsCpu homes buffers seen own call_states under_way number guests trace limit capacity
 
 -- the CPU of which a fact tells that it holds
-abbrev pub valid_cpu : {homes : List CpuId} {buffers : ℕ} {seen : List Entry} {own : Threads} {talks : List Talk} {doing : Option Doing} {number : CpuId}
+abbrev pub valid_cpu : {homes : List CpuId} {buffers : ℕ} {seen : List Entry} {own : Threads} {call_states : List CallState} {under_way : Option UnderWay}
+    {number : CpuId}
     {guests : List (Option Guest)} {trace : List Entry} {limit capacity : ℕ}
-    → IsCpu homes buffers seen own talks doing number guests trace limit capacity → ValidCpu
-valid_cpu {homes} {buffers} {seen} {own} {talks} {doing} {number} {guests} {trace} {limit} {capacity} is = record {
+    → IsCpu homes buffers seen own call_states under_way number guests trace limit capacity → ValidCpu
+valid_cpu {homes} {buffers} {seen} {own} {call_states} {under_way} {number} {guests} {trace} {limit} {capacity} is = record {
   state = record {
     homes = homes;
     buffers = buffers;
     seen = seen;
-    doing = doing;
+    under_way = under_way;
     number = number;
     guests = guests;
     trace = trace;
@@ -52,7 +53,7 @@ valid_cpu {homes} {buffers} {seen} {own} {talks} {doing} {number} {guests} {trac
     capacity = capacity;
   };
   own = own;
-  talks = talks;
+  call_states = call_states;
   is = is;
 }
 
@@ -63,17 +64,17 @@ pub record TabledCpu : Type 0 where
   pub caps : List ℕ
   pub own : Buffering
   pub opening : LockId → Option TowerBlock
-  pub is : IsCpu homes buffers seen (threads_in own) own.talks doing number guests trace limit capacity
-  pub tabled : IsTabled homes caps number own doing guests opening
+  pub is : IsCpu homes buffers seen (threads_in own) own.call_states under_way number guests trace limit capacity
+  pub tabled : IsTabled homes caps number own under_way guests opening
   pub home : (u : Tid) → (threads_in own).current ≡ Some u → home_of homes u ≡ Some number
 
 abbrev pub valid : TabledCpu → ValidCpu
-valid cpu = record { state = cpu.state; own = threads_in cpu.own; talks = cpu.own.talks; is = cpu.is }
+valid cpu = record { state = cpu.state; own = threads_in cpu.own; call_states = cpu.own.call_states; is = cpu.is }
 
 -- the machine's holder acts for a CPU, of whose part it is known whether a section is under way and that the thread in its hand has a home
 pub record Outset (ActsFor : CpuId → Type 0) (cpu : TabledCpu) (old : List (Action TowerName)) : Type 0 where
   pub inside : Bool
   pub acts : ActsFor cpu.number
-  pub rests : cpu.doing ≡ None → inside ≡ false
+  pub idle : cpu.under_way ≡ None → inside ≡ false
   pub busy : inside ≡ is_in_section (phase cpu.number old)
   pub known : (u : Tid) → (threads_in cpu.own).hand ≡ Some u → IsSome (slice_get cpu.homes u.0)

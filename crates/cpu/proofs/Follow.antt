@@ -18,60 +18,62 @@ use Rattle.layer_traits.specs.declared.calls.Call.{Call}
 use Rattle.layer_traits.specs.declared.calls.Call.TheVariants.{Send, Recv, Close}
 use Rattle.layer_traits.specs.declared.calls.Effect.{Effect}
 use Rattle.layer_traits.specs.declared.calls.Reply.{Reply}
-use Rattle.layer_traits.specs.declared.talks.Talk.{Talk}
-use Rattle.layer_traits.specs.declared.talks.Stage.{Stage}
-use Rattle.layer_traits.specs.declared.talks.Stage.TheVariants as at
-use Rattle.layer_traits.specs.BufferLaw.{Answered, IsEffectOf, MayTalk, begun_at, begun_of, buffer_of, entry_of, going, going_at, reply_by, reply_of}
+use Rattle.layer_traits.specs.declared.call_states.CallState.{CallState}
+use Rattle.layer_traits.specs.declared.call_states.Stage.{Stage}
+use Rattle.layer_traits.specs.declared.call_states.Stage.TheVariants as at
+use Rattle.layer_traits.specs.BufferLaw.{Answered, IsEffectOf, MayPollCall, begun_at, begun_of, buffer_of, entry_of, going, going_at, reply_by, reply_of}
 use Rattle.cpu.specs.declared.guests.GuestStage.{GuestStage}
-use Rattle.cpu.specs.declared.guests.GuestStage.TheVariants.{Between, Begun, Done, Ended}
+use Rattle.cpu.specs.declared.guests.GuestStage.TheVariants.{Idle, Begun, Done, Ended}
 use Rattle.cpu.specs.declared.guests.Todo.TheVariants.{Finish, Calls}
 use Rattle.cpu.specs.Guests.{HasComeIn, IsSettled, after_answer, after_effect, after_received, after_sent, entries_of, fresh_effect, had, stage_after, todo_at}
 
-going_effect : (stage : Stage) (talk : Talk) (c : Call) → (going_at stage talk c).call ≡ Some c
-    → (going_at stage talk c).effect ≡ had (begun_at stage talk.call) talk.effect
-going_effect at.Between talk c may = refl
-going_effect at.Acquires talk c may = sym (ap (λ x. had x talk.effect) may)
-going_effect at.Enters talk c may = sym (ap (λ x. had x talk.effect) may)
-going_effect at.Tries talk c may = sym (ap (λ x. had x talk.effect) may)
-going_effect at.Waits talk c may = sym (ap (λ x. had x talk.effect) may)
-going_effect at.AcquiresAgain talk c may = sym (ap (λ x. had x talk.effect) may)
-going_effect at.Signals talk c may = sym (ap (λ x. had x talk.effect) may)
-going_effect at.SignalsOwn talk c may = sym (ap (λ x. had x talk.effect) may)
-going_effect at.Releases talk c may = sym (ap (λ x. had x talk.effect) may)
+going_effect : (stage : Stage) (call_state : CallState) (c : Call) → (going_at stage call_state c).call ≡ Some c
+    → (going_at stage call_state c).effect ≡ had (begun_at stage call_state.call) call_state.effect
+going_effect at.Idle call_state c may = refl
+going_effect at.Acquires call_state c may = sym (ap (λ x. had x call_state.effect) may)
+going_effect at.Enters call_state c may = sym (ap (λ x. had x call_state.effect) may)
+going_effect at.Tries call_state c may = sym (ap (λ x. had x call_state.effect) may)
+going_effect at.Waits call_state c may = sym (ap (λ x. had x call_state.effect) may)
+going_effect at.AcquiresAgain call_state c may = sym (ap (λ x. had x call_state.effect) may)
+going_effect at.Signals call_state c may = sym (ap (λ x. had x call_state.effect) may)
+going_effect at.SignalsOwn call_state c may = sym (ap (λ x. had x call_state.effect) may)
+going_effect at.Releases call_state c may = sym (ap (λ x. had x call_state.effect) may)
 
 -- what a call that may be polled has had
-pub had_going : (talk : Talk) (c : Call) → MayTalk talk c → (going talk c).effect ≡ had (begun_of talk) talk.effect
-had_going talk c may = going_effect talk.stage talk c may
+pub had_going : (call_state : CallState) (c : Call) → MayPollCall call_state c → (going call_state c).effect ≡ had (begun_of call_state) call_state.effect
+had_going call_state c may = going_effect call_state.stage call_state c may
 
-going_begun : (stage : Stage) (talk : Talk) (c : Call) → begun_at stage talk.call ≡ Some c → (going_at stage talk c).call ≡ Some c
-going_begun at.Between talk c is = refl
-going_begun at.Acquires talk c is = is
-going_begun at.Enters talk c is = is
-going_begun at.Tries talk c is = is
-going_begun at.Waits talk c is = is
-going_begun at.AcquiresAgain talk c is = is
-going_begun at.Signals talk c is = is
-going_begun at.SignalsOwn talk c is = is
-going_begun at.Releases talk c is = is
+going_begun : (stage : Stage) (call_state : CallState) (c : Call) → begun_at stage call_state.call ≡ Some c → (going_at stage call_state c).call ≡ Some c
+going_begun at.Idle call_state c is = refl
+going_begun at.Acquires call_state c is = is
+going_begun at.Enters call_state c is = is
+going_begun at.Tries call_state c is = is
+going_begun at.Waits call_state c is = is
+going_begun at.AcquiresAgain call_state c is = is
+going_begun at.Signals call_state c is = is
+going_begun at.SignalsOwn call_state c is = is
+going_begun at.Releases call_state c is = is
 
--- a talk may go on with the call that it has begun, and where it has begun none with any
-pub may_talk : (talk : Talk) (c : Call) → IsSettled talk → (begun_of talk ≡ None) ⊎ (begun_of talk ≡ Some c) → MayTalk talk c
-may_talk talk c settled (inl none) = subst (λ (s : Stage). (going_at s talk c).call ≡ Some c) (sym (settled none)) refl
-may_talk talk c settled (inr some) = going_begun talk.stage talk c some
+-- a call state may go on with the call that it has begun, and where it has begun none with any
+pub may_poll_call : (call_state : CallState) (c : Call) → IsSettled call_state → (begun_of call_state ≡ None) ⊎ (begun_of call_state ≡ Some c)
+    → MayPollCall call_state c
+may_poll_call call_state c settled (inl none) = subst (λ (s : Stage). (going_at s call_state c).call ≡ Some c) (sym (settled none)) refl
+may_poll_call call_state c settled (inr some) = going_begun call_state.stage call_state c some
 
--- an answered talk is settled
-pub stays_settled : (c : Call) (talk : Talk) (answer : Option Reply) → Answered c talk answer → IsSettled talk
-stays_settled c talk None is = λ none. absurd (cc (is, none))
-stays_settled c talk (Some reply) is = λ none. is.0
+-- an answered call state is settled
+pub stays_settled : (c : Call) (call_state : CallState) (answer : Option Reply) → Answered c call_state answer → IsSettled call_state
+stays_settled c call_state None is = λ none. absurd (cc (is, none))
+stays_settled c call_state (Some reply) is = λ none. is.0
 
--- an answer and what the talk then says, on plain values
+-- an answer and what the call state then says, on plain values
 abbrev pub AnsweredBy : Call → Option Call → Option Effect → Option Reply → Type 0
 AnsweredBy c saved effect None = saved ≡ Some c
 AnsweredBy c saved effect (Some reply) = (saved ≡ None) × ((f : Effect) × (effect ≡ Some f) × (reply ≡ reply_of c f))
 
-pub answered_by : (c : Call) (talk : Talk) (answer : Option Reply) → Answered c talk answer → AnsweredBy c (begun_of talk) talk.effect answer
-answered_by c talk None is = is
-answered_by c talk (Some reply) is = (ap (λ s. begun_at s talk.call) is.0, is.1)
+pub answered_by : (c : Call) (call_state : CallState) (answer : Option Reply) → Answered c call_state answer
+    → AnsweredBy c (begun_of call_state) call_state.effect answer
+answered_by c call_state None is = is
+answered_by c call_state (Some reply) is = (ap (λ s. begun_at s call_state.call) is.0, is.1)
 
 -- the reply to a send, and to a receive, moves the guest to where an effect of this kind leads
 sent_state : (of : Kind) (k : Option ℕ) (value : Message) (d b : BufId) (m : Message) (from : Source) (s : State)
@@ -171,7 +173,7 @@ module _ (program : List Instruction) (s : State) (i : Instruction) (c : Call) (
   -- before a poll: by the stage, what the call has had, and what an effect after the poll adds
   before : (stage : GuestStage) (es : List Entry) (saved : Option Call) (effect : Option Effect)
       → HasComeIn stage program s es saved effect → Mid (had saved effect) es
-  before Between es saved effect follows = subst (λ (x : Option Call). Mid (had x effect) es) (sym follows.0) follows.1
+  before Idle es saved effect follows = subst (λ (x : Option Call). Mid (had x effect) es) (sym follows.0) follows.1
   before Begun es saved effect follows =
       subst (λ (x : Option Call). Mid (had x effect) es) (sym follows.2)
       (subst (λ (x : Option Effect). Mid x es) (sym follows.3) follows.4)
@@ -190,7 +192,7 @@ module _ (program : List Instruction) (s : State) (i : Instruction) (c : Call) (
   -- an effect is fresh where the call had none before
   fresh_none : (stage : GuestStage) (es : List Entry) (saved : Option Call) (effect left : Option Effect)
       → HasComeIn stage program s es saved effect → had saved effect ≡ None → fresh_effect stage left ≡ left
-  fresh_none Between es saved effect left follows none = refl
+  fresh_none Idle es saved effect left follows none = refl
   fresh_none Begun es saved effect left follows none = refl
   fresh_none Done es saved effect left follows none =
       let some : had saved effect ≡ effect = ap (λ x. had x effect) follows.3 in
@@ -200,7 +202,7 @@ module _ (program : List Instruction) (s : State) (i : Instruction) (c : Call) (
   -- and where it had one nothing is
   fresh_some : (stage : GuestStage) (es : List Entry) (saved : Option Call) (effect left : Option Effect) (f : Effect)
       → HasComeIn stage program s es saved effect → had saved effect ≡ Some f → fresh_effect stage left ≡ None
-  fresh_some Between es saved effect left f follows some =
+  fresh_some Idle es saved effect left f follows some =
       let none : had saved effect ≡ None = ap (λ x. had x effect) follows.0 in
       absurd (cc (none, some))
   fresh_some Begun es saved effect left f follows some =

@@ -13,11 +13,11 @@ use Rattle.event_log.specs.declared.ids.Tid.{Tid}
 use Rattle.event_log.specs.History.{AreOthers, AreForeign}
 use Rattle.layer_traits.specs.declared.calls.Effect.{Effect}
 use Rattle.layer_traits.specs.declared.calls.Reply.{Reply}
-use Rattle.layer_traits.specs.BufferLaw.{entry_cpu, entry_of}
+use Rattle.layer_traits.specs.BufferLaw.{cpu_of_entry, entry_of}
 use Rattle.layer_traits.specs.Places.{one_if}
 use Rattle.cpu.specs.declared.guests.Guest.{Guest}
 use Rattle.cpu.specs.declared.guests.GuestStage.{GuestStage}
-use Rattle.cpu.specs.declared.guests.GuestStage.TheVariants.{Between, Begun, Done, Ended}
+use Rattle.cpu.specs.declared.guests.GuestStage.TheVariants.{Idle, Begun, Done, Ended}
 use Rattle.cpu.specs.Guests.{entries_of, fresh_effect, is_begun, is_calling, stage_after}
 use Rattle.cpu.specs.Cpus.{begun_count, guest_at, is_begun_guest, of_cpu, of_thread, programs_of, with_guest}
 use Rattle.guest.specs.declared.instructions.Instruction.{Instruction}
@@ -81,19 +81,19 @@ count_with guests t x within =
     omega (arith, old, new, whole)
 
 -- entries of others are none of this CPU's
-pub none_of : (number : CpuId) (others : List Entry) → AreOthers entry_cpu number others → of_cpu number others ≡ []
+pub none_of : (number : CpuId) (others : List Entry) → AreOthers cpu_of_entry number others → of_cpu number others ≡ []
 none_of number [] theirs = refl
 none_of number (e ∷ others) theirs = rw theirs.0 (none_of number others theirs.1)
 
 -- this CPU's entries after foreign ones
-pub cpu_same : (ActsFor : CpuId → Type 0) (number : CpuId) (others old : List Entry) → AreForeign ActsFor entry_cpu others → ActsFor number
+pub cpu_same : (ActsFor : CpuId → Type 0) (number : CpuId) (others old : List Entry) → AreForeign ActsFor cpu_of_entry others → ActsFor number
     → of_cpu number (others ++ old) ≡ of_cpu number old
 cpu_same ActsFor number others old foreign acts =
     filter-append (λ e. e.cpu.0 == number.0) others old ∙ ap (λ l. l ++ of_cpu number old) (none_of number others (foreign number acts))
 
 -- and after an own one too
 pub cpu_grown : (ActsFor : CpuId → Type 0) (number : CpuId) (t : Tid) (b : BufId) (mine : Option Effect) (others old : List Entry)
-    → AreForeign ActsFor entry_cpu others → ActsFor number
+    → AreForeign ActsFor cpu_of_entry others → ActsFor number
     → of_cpu number (entries_of number t b mine ++ (others ++ old)) ≡ entries_of number t b mine ++ of_cpu number old
 cpu_grown ActsFor number t b None others old foreign acts = cpu_same ActsFor number others old foreign acts
 cpu_grown ActsFor number t b (Some f) others old foreign acts =
@@ -123,10 +123,10 @@ pub room_kept : (stage : GuestStage) (effect : Option Effect) (answer : Option R
     → begun2 + one_if (is_begun stage) ≡ begun + one_if (is_begun (stage_after effect answer)) → n + begun ≤ limit
     → (not (is_calling stage) ≡ true → n + begun < limit) → (stage ≡ Done → effect ≢ None)
     → n + length (entries_of number t b (fresh_effect stage effect)) + begun2 ≤ limit
-room_kept Between None None number t b n begun begun2 limit counts room strict done = let less = strict refl in omega arith
-room_kept Between None (Some r) number t b n begun begun2 limit counts room strict done = let less = strict refl in omega arith
-room_kept Between (Some f) None number t b n begun begun2 limit counts room strict done = let less = strict refl in omega arith
-room_kept Between (Some f) (Some r) number t b n begun begun2 limit counts room strict done = let less = strict refl in omega arith
+room_kept Idle None None number t b n begun begun2 limit counts room strict done = let less = strict refl in omega arith
+room_kept Idle None (Some r) number t b n begun begun2 limit counts room strict done = let less = strict refl in omega arith
+room_kept Idle (Some f) None number t b n begun begun2 limit counts room strict done = let less = strict refl in omega arith
+room_kept Idle (Some f) (Some r) number t b n begun begun2 limit counts room strict done = let less = strict refl in omega arith
 room_kept Begun None None number t b n begun begun2 limit counts room strict done = omega arith
 room_kept Begun None (Some r) number t b n begun begun2 limit counts room strict done = omega arith
 room_kept Begun (Some f) None number t b n begun begun2 limit counts room strict done = omega arith

@@ -17,28 +17,28 @@ use Rattle.cpu.specs.CpuSteps.{IsCpuAt, IsTabledAt, Leaves}
 use Rattle.cpu.specs.Tower.Privates.{threads_in}
 use Rattle.cpu.proofs.CpuStates.{valid_cpu}
 use Rattle.cpu.proofs.Passing.{none_grow, none_moved, none_seen}
-use Rattle.cpu.proofs.TableCalls.{ToldCpu, ToldOutset, hand_known}
+use Rattle.cpu.proofs.TableCalls.{ObservedCpu, ObservedOutset, hand_known}
 
 -- what always holds of a CPU whose part fits the machine; what names the whole state of a part is said of a layer whose polls are actions
 pub record IsLayered {P M : Type 0} (I : Ghosts P M) (m : M) (p : Cpu P M) : Type 0 where
   pub number : I.cpu_of p.part ≡ p.number
   pub acts : I.ActsFor m (I.cpu_of p.part)
   pub stands : Stands (I.homes_of m) (I.cpu_of p.part) (I.moves m) (I.threads p.part)
-  pub moved : AreMoves (I.homes_of m) (I.moves m)
+  pub moves_legal : AreMoves (I.homes_of m) (I.moves m)
   pub is : IsCpuAt I m p
-  pub rests : I.doing p.part ≡ None → I.is_inside p.part ≡ false
+  pub idle : I.under_way p.part ≡ None → I.is_inside p.part ≡ false
   pub busy : I.IsStepwise → I.is_inside p.part ≡ is_in_section (phase (I.cpu_of p.part) (I.acts m))
-  pub tells : I.IsStepwise → (threads_in (I.own p.part) ≡ I.threads p.part) × ((I.own p.part).talks ≡ I.talks p.part)
+  pub reads_own : I.IsStepwise → (threads_in (I.own p.part) ≡ I.threads p.part) × ((I.own p.part).call_states ≡ I.call_states p.part)
   pub table : I.IsStepwise → IsTabledAt I m p
 
 -- the laws of a layer that say so
 pub record PartLaws {P M : Type 0} (I : Ghosts P M) : Type 0 where
   pub own_cpu : (p : P) (m : M) → I.Fits p m → I.ActsFor m (I.cpu_of p)
   pub stands : (p : P) (m : M) → I.Fits p m → Stands (I.homes_of m) (I.cpu_of p) (I.moves m) (I.threads p)
-  pub moved : (m : M) (c : CpuId) → I.ActsFor m c → AreMoves (I.homes_of m) (I.moves m)
-  pub rests : (p : P) (m : M) → I.Fits p m → I.doing p ≡ None → I.is_inside p ≡ false
+  pub moves_legal : (m : M) (c : CpuId) → I.ActsFor m c → AreMoves (I.homes_of m) (I.moves m)
+  pub idle : (p : P) (m : M) → I.Fits p m → I.under_way p ≡ None → I.is_inside p ≡ false
   pub busy : (p : P) (m : M) → I.Fits p m → I.IsStepwise → I.is_inside p ≡ is_in_section (phase (I.cpu_of p) (I.acts m))
-  pub tells : I.IsStepwise → (p : P) → (threads_in (I.own p) ≡ I.threads p) × ((I.own p).talks ≡ I.talks p)
+  pub reads_own : I.IsStepwise → (p : P) → (threads_in (I.own p) ≡ I.threads p) × ((I.own p).call_states ≡ I.call_states p)
 
 -- from all that a bound by the layer's trait gives
 pub laws_of : {world : World} {Part Machine : RattleType} {I : Ghosts Part.Denot Machine.Denot} {dict : Dict}
@@ -46,10 +46,10 @@ pub laws_of : {world : World} {Part Machine : RattleType} {I : Ghosts Part.Denot
 laws_of law = record {
   own_cpu = law.own_cpu;
   stands = law.stands;
-  moved = law.moved;
-  rests = law.rests;
+  moves_legal = law.moves_legal;
+  idle = law.idle;
   busy = law.busy;
-  tells = law.tells;
+  reads_own = law.reads_own;
 }
 
 -- a CPU whose part fits the machine
@@ -61,11 +61,11 @@ layered {I} laws m p fits number is table =
       number = number;
       acts = acts;
       stands = laws.stands p.part m fits;
-      moved = laws.moved m (I.cpu_of p.part) acts;
+      moves_legal = laws.moves_legal m (I.cpu_of p.part) acts;
       is = is;
-      rests = laws.rests p.part m fits;
+      idle = laws.idle p.part m fits;
       busy = laws.busy p.part m fits;
-      tells = λ step. laws.tells step p.part;
+      reads_own = λ step. laws.reads_own step p.part;
       table = table;
     }
 
@@ -73,7 +73,7 @@ module _ {P M : Type 0} {I : Ghosts P M} {m : M} {p : Cpu P M} (at : IsLayered I
   -- a thread that runs is at home with it
   pub runs_home : (t : Tid) → (I.threads p.part).current ≡ Some t → home_of (I.homes_of m) t ≡ Some p.number
   runs_home t runs =
-      (current_at (I.homes_of m) (I.cpu_of p.part) (I.moves m) (I.threads p.part) at.moved at.stands t runs).0
+      (current_at (I.homes_of m) (I.cpu_of p.part) (I.moves m) (I.threads p.part) at.moves_legal at.stands t runs).0
       ∙ ap (λ (d : CpuId). Some d) at.number
 
   -- the machine's holder acts for it
@@ -81,26 +81,26 @@ module _ {P M : Type 0} {I : Ghosts P M} {m : M} {p : Cpu P M} (at : IsLayered I
   acts_for = subst (λ (d : CpuId). I.ActsFor m d) at.number at.acts
 
   module _ (step : I.IsStepwise) where
-    abbrev pub told_cpu : ToldCpu
-    told_cpu = record {
+    abbrev pub observed_cpu : ObservedCpu
+    observed_cpu = record {
       cpu = valid_cpu at.is;
       caps = I.caps m;
       part = I.own p.part;
       opening = I.opening m;
       part_of = I.cpu_of p.part;
       number_is = at.number;
-      tells = at.tells step;
+      reads_own = at.reads_own step;
       tabled = at.table step;
       home = runs_home;
     }
 
-    abbrev pub told_outset : ToldOutset (λ d. I.ActsFor m d) told_cpu (I.acts m)
-    told_outset = record {
+    abbrev pub observed_outset : ObservedOutset (λ d. I.ActsFor m d) observed_cpu (I.acts m)
+    observed_outset = record {
       inside = I.is_inside p.part;
       acts = acts_for;
-      rests = at.rests;
+      idle = at.idle;
       busy = at.busy step;
-      known = hand_known (I.homes_of m) (I.cpu_of p.part) (I.moves m) (I.threads p.part) at.stands at.moved;
+      known = hand_known (I.homes_of m) (I.cpu_of p.part) (I.moves m) (I.threads p.part) at.stands at.moves_legal;
     }
 
 -- a step that touches neither the machine nor the CPU's part

@@ -15,7 +15,7 @@ use Rattle.cpu.specs.Sound.{IsReachedByTable}
 use Rattle.cpu.specs.Cpus.{IsCpu, programs_of}
 use Rattle.cpu.specs.Systems.{IsAt, SamePlan}
 use Rattle.cpu.proofs.Advances.{Holds, Works, stepped}
-use Rattle.cpu.proofs.Sounding.{Told, shown_in}
+use Rattle.cpu.proofs.Sounding.{Observed, shown_in}
 use Rattle.cpu.proofs.ListReads.{shown_at, shown_same, shown_length}
 use Rattle.cpu.proofs.Orders.{Has}
 
@@ -24,12 +24,12 @@ abbrev pub shown_by : {P M : Type 0} → Ghosts P M → Cpu P M → CpuShown
 shown_by I x = cpu_shown (I.threads x.part) x.guests.items x.trace.items x.limit (I.is_inside x.part) (I.own x.part)
 
 -- what the machine tells, who owns its locks among it
-abbrev pub told_by : {P M : Type 0} → Ghosts P M → (M → BufId → Option Tid) → M → Told
-told_by I owner m = record {
+abbrev pub observed_by : {P M : Type 0} → Ghosts P M → (M → BufId → Option Tid) → M → Observed
+observed_by I owner m = record {
   caps = I.caps m;
   homes = I.homes_of m;
   seen = I.seen m;
-  lines = I.lines m;
+  wait_lists = I.wait_lists m;
   owner = owner m;
   moves = I.moves m;
   acts = I.acts m;
@@ -42,16 +42,16 @@ works_by I owner threads = record {
   number = λ x. x.number;
   cpu = λ x. I.cpu_of x.part;
   shown = shown_by I;
-  talks = λ x. I.talks x.part;
-  doing = λ x. I.doing x.part;
+  call_states = λ x. I.call_states x.part;
+  under_way = λ x. I.under_way x.part;
   capacity = λ x. vec_capacity x.trace;
   ActsFor = λ m c. I.ActsFor m c;
   IsStepwise = I.IsStepwise;
-  told = told_by I owner;
+  told = observed_by I owner;
   left = λ m. I.room m;
   Tabled = λ m x. I.IsStepwise → IsTabledAt I m x;
   Sound = λ m cpus space done. (threads ≡ length (I.homes_of m))
-      × (I.IsStepwise → IsReachedByTable (shown_in (told_by I owner m) (map (shown_by I) cpus) space done));
+      × (I.IsStepwise → IsReachedByTable (shown_in (observed_by I owner m) (map (shown_by I) cpus) space done));
 }
 
 module _ {P M : Type 0} (I : Ghosts P M) (owner : M → BufId → Option Tid) (threads : ℕ) where
@@ -68,10 +68,10 @@ module _ {P M : Type 0} (I : Ghosts P M) (owner : M → BufId → Option Tid) (t
       left.grows known left.homes left.caps left.room live
 
   -- and the system keeps its plan
-  pub plan_kept : (m n : M) (cpus : List (Cpu P M)) (room taken later k : ℕ) (x y : Cpu P M) → slice_get cpus k ≡ Some x → Leaves I m x n y
-      → SamePlan (shown_in (told_by I owner m) (map (shown_by I) cpus) room taken)
-      (shown_in (told_by I owner n) (map (shown_by I) (slice_set cpus k y)) room later)
-  plan_kept m n cpus room taken later k x y at left = record {
+  pub plan_preserved : (m n : M) (cpus : List (Cpu P M)) (room taken later k : ℕ) (x y : Cpu P M) → slice_get cpus k ≡ Some x → Leaves I m x n y
+      → SamePlan (shown_in (observed_by I owner m) (map (shown_by I) cpus) room taken)
+      (shown_in (observed_by I owner n) (map (shown_by I) (slice_set cpus k y)) room later)
+  plan_preserved m n cpus room taken later k x y at left = record {
     caps = left.caps;
     homes = left.homes;
     programs = shown_same (shown_by I) (λ (p : CpuShown). programs_of p.guests) cpus k x y at left.programs;
@@ -93,10 +93,11 @@ cpus_have {P} {M} I m cpus each stand = shown_at (shown_by I) (λ k p. Has (I.ho
         let at = (each k x there).number_is in
         let holds = (each k x there).holds in
         record {
-          talks = I.talks x.part;
-          doing = I.doing x.part;
+          call_states = I.call_states x.part;
+          under_way = I.under_way x.part;
           capacity = vec_capacity x.trace;
-          is = subst (λ (c : CpuId). IsCpu (I.homes_of m) (length (I.caps m)) (I.seen m) (I.threads x.part) (I.talks x.part) (I.doing x.part) c x.guests.items
+          is = subst (λ (c : CpuId). IsCpu (I.homes_of m) (length (I.caps m)) (I.seen m) (I.threads x.part) (I.call_states x.part)
+              (I.under_way x.part) c x.guests.items
               x.trace.items x.limit (vec_capacity x.trace)) at holds.2;
           stands = subst (λ (c : CpuId). Stands (I.homes_of m) c (I.moves m) (I.threads x.part)) (holds.1 ∙ at) (stand x.part holds.0);
         }

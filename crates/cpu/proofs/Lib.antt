@@ -10,7 +10,7 @@ pub mod ListReads
 pub mod Orders
 pub mod Onces
 pub mod Advances
-pub mod Tellers
+pub mod Observers
 pub mod TableSystems
 pub mod Booting
 pub mod PlanGuests
@@ -23,7 +23,7 @@ pub mod TableHalts
 pub mod Sounding
 pub mod Started
 pub mod Quieting
-pub mod Telling
+pub mod Observing
 pub mod Placing
 pub mod TableQuiet
 pub mod LayeredSteps

@@ -7,32 +7,33 @@ use Rattle.event_log.specs.declared.ids.CpuId.{CpuId}
 use Rattle.event_log.specs.declared.ids.LockId.{LockId}
 use Rattle.event_log.specs.declared.ids.LockId.TheVariants.{Buffer}
 use Rattle.event_log.specs.declared.ids.Tid.{Tid}
-use Rattle.layer_traits.specs.declared.moves.Line.{Line}
-use Rattle.layer_traits.specs.declared.moves.Line.TheVariants.{Sleepers, Receivers, Senders}
-use Rattle.layer_traits.specs.IpcLaw.{LinesAgree}
-use Rattle.layer_traits.specs.ListsAgree.{is_at, same_line}
+use Rattle.layer_traits.specs.declared.moves.WaitList.{WaitList}
+use Rattle.layer_traits.specs.declared.moves.WaitList.TheVariants.{Sleepers, Receivers, Senders}
+use Rattle.layer_traits.specs.IpcLaw.{WaitListsAgree}
+use Rattle.layer_traits.specs.ListsAgree.{is_at, same_list}
 use Rattle.layer_traits.specs.OnePlace.{cpu_at, total}
-use Rattle.layer_traits.specs.Places.{AreMoves, Asleep, At, Hand, Home, Pend, Berth, Stands, Step, Where, home_of, is_asleep, one_if, berth_of, where_is}
+use Rattle.layer_traits.specs.Places.{AreMoves, Asleep, At, Hand, Home, Pend, WaitChannel}
+use Rattle.layer_traits.specs.Places.{Stands, Step, Where, home_of, is_asleep, one_if, wait_channel_of, where_is}
 use Rattle.layer_traits.proofs.OnePlaceLemmas.{one_place, total_none, total_one, total_same}
-use Rattle.cpu.specs.Claims.{Beds, CpuShown, Shown, StandsOnce, beds_at, beds_by, buffer_at, in_beds, listed, no_beds, own_at, own_in}
+use Rattle.cpu.specs.Claims.{WaitersAgree, CpuShown, Shown, StandsOnce, waiters_at, waiters_by, buffer_at, in_waiters, listed, no_waiters, own_at, own_in}
 use Rattle.cpu.proofs.ListReads.{listed_length, listed_there, there_is}
 
 -- how often a place is one of buffer b
-times_at : ℕ → Option Berth → ℕ
+times_at : ℕ → Option WaitChannel → ℕ
 times_at b p =
     one_if (is_at (Buffer (buffer_at b)) Sleepers p) + one_if (is_at (Buffer (buffer_at b)) Receivers p) + one_if (is_at (Buffer (buffer_at b)) Senders p)
 
 -- a place in a line of buffer d is one of buffer d once, and none of another one
-times_here : (d : BufId) (line : Line) → times_at d.0 (Some (At (Buffer d) line)) ≡ 1
+times_here : (d : BufId) (line : WaitList) → times_at d.0 (Some (At (Buffer d) line)) ≡ 1
 unfolding times_at
 times_here d line = let same : (d.0 == d.0) ≡ true = eq-eqb d.0 d.0 refl in rw same (go line)
   where
-    go : (at : Line) → one_if (same_line at Sleepers) + one_if (same_line at Receivers) + one_if (same_line at Senders) ≡ 1
+    go : (at : WaitList) → one_if (same_list at Sleepers) + one_if (same_list at Receivers) + one_if (same_list at Senders) ≡ 1
     go Sleepers = refl
     go Receivers = refl
     go Senders = refl
 
-times_else : (d : BufId) (line : Line) (b : ℕ) → (d.0 ≡ b → ⊥) → times_at b (Some (At (Buffer d) line)) ≡ 0
+times_else : (d : BufId) (line : WaitList) (b : ℕ) → (d.0 ≡ b → ⊥) → times_at b (Some (At (Buffer d) line)) ≡ 0
 unfolding times_at
 times_else d line b other = let differ : (d.0 == b) ≡ false = ne_eqb d.0 b other in rw differ refl
 
@@ -40,8 +41,8 @@ times_none : (b : ℕ) → times_at b None ≡ 0
 unfolding times_at
 times_none b = refl
 
-module _ (n : ℕ) (homes : List CpuId) (moves : List Step) (lines : BufId → Line → List Tid) (agree : LinesAgree n homes moves lines) (t : Tid) where
-  by_times : (b : ℕ) → b < n → in_beds t (beds_by lines b) ≡ times_at b (berth_of (where_is homes moves t))
+module _ (n : ℕ) (homes : List CpuId) (moves : List Step) (lines : BufId → WaitList → List Tid) (agree : WaitListsAgree n homes moves lines) (t : Tid) where
+  by_times : (b : ℕ) → b < n → in_waiters t (waiters_by lines b) ≡ times_at b (wait_channel_of (where_is homes moves t))
   unfolding times_at
   by_times b within =
       let s = agree.once (buffer_at b) Sleepers t within in
@@ -50,11 +51,12 @@ module _ (n : ℕ) (homes : List CpuId) (moves : List Step) (lines : BufId → L
       omega (arith, s, r, w)
 
   -- over all buffers a thread stands once among the sleepers where it sleeps, and else never
-  pub sleeping_is : total (λ b. in_beds t (beds_by lines b)) n ≡ one_if (is_asleep (where_is homes moves t))
+  pub sleeping_is : total (λ b. in_waiters t (waiters_by lines b)) n ≡ one_if (is_asleep (where_is homes moves t))
   sleeping_is =
-      total_same (λ b. in_beds t (beds_by lines b)) (λ b. times_at b (berth_of (where_is homes moves t))) n by_times ∙ go (where_is homes moves t) refl
+      total_same (λ b. in_waiters t (waiters_by lines b)) (λ b. times_at b (wait_channel_of (where_is homes moves t))) n by_times
+      ∙ go (where_is homes moves t) refl
     where
-      go : (w : Where) → where_is homes moves t ≡ w → total (λ b. times_at b (berth_of w)) n ≡ one_if (is_asleep w)
+      go : (w : Where) → where_is homes moves t ≡ w → total (λ b. times_at b (wait_channel_of w)) n ≡ one_if (is_asleep w)
       go Home is = total_none (λ b. times_at b None) n (λ b within. times_none b)
       go (Hand c) is = total_none (λ b. times_at b None) n (λ b within. times_none b)
       go (Pend c) is = total_none (λ b. times_at b None) n (λ b within. times_none b)
@@ -65,11 +67,11 @@ module _ (n : ℕ) (homes : List CpuId) (moves : List Step) (lines : BufId → L
           (total_one d.0 (λ b. times_at b (Some (At (Buffer d) line))) n known.2 (times_here d line) (λ b other. times_else d line b other))
 
 -- each thread of a system stands in exactly one place
-pub once_of : (s : Shown) (n : ℕ) (lines : BufId → Line → List Tid) → s.beds ≡ listed (beds_by lines) 0 n → LinesAgree n s.homes s.moves lines
+pub once_of : (s : Shown) (n : ℕ) (lines : BufId → WaitList → List Tid) → s.waiters_law ≡ listed (waiters_by lines) 0 n → WaitListsAgree n s.homes s.moves lines
     → ((t : Tid) (home : CpuId) → home_of s.homes t ≡ Some home → home.0 < length s.cpus) → AreMoves s.homes s.moves
     → ((k : ℕ) (p : CpuShown) → slice_get s.cpus k ≡ Some p → Stands s.homes (cpu_at k) s.moves p.own) → StandsOnce s
-once_of s n lines beds_are agree within moved stands t =
-    one_place s.homes (length s.cpus) s.moves (own_at s) (λ u. total (λ b. in_beds u (beds_at s b)) (length s.beds)) (record {
+once_of s n lines waiters_are agree within moved stands t =
+    one_place s.homes (length s.cpus) s.moves (own_at s) (λ u. total (λ b. in_waiters u (waiters_at s b)) (length s.waiters_law)) (record {
       homes_within = within;
       moves_are = moved;
       stand = λ k inside. stand_at k (there_is s.cpus k inside);
@@ -80,15 +82,15 @@ once_of s n lines beds_are agree within moved stands t =
     stand_at : (k : ℕ) → (p : CpuShown) × (slice_get s.cpus k ≡ Some p) → Stands s.homes (cpu_at k) s.moves (own_at s k)
     stand_at k there = subst (λ (o : Option CpuShown). Stands s.homes (cpu_at k) s.moves (own_in o)) (sym there.1) (stands k there.0 there.1)
 
-    count : length s.beds ≡ n
-    count = ap (λ (l : List Beds). length l) beds_are ∙ listed_length (beds_by lines) n 0
+    count : length s.waiters_law ≡ n
+    count = ap (λ (l : List WaitersAgree). length l) waiters_are ∙ listed_length (waiters_by lines) n 0
 
-    bed : (b : ℕ) → b < n → beds_at s b ≡ beds_by lines b
-    bed b inside =
-        ap (λ (l : List Beds). slice_index_or l b no_beds) beds_are ∙ listed_there (beds_by lines) n b no_beds inside
+    waiters_of : (b : ℕ) → b < n → waiters_at s b ≡ waiters_by lines b
+    waiters_of b inside =
+        ap (λ (l : List WaitersAgree). slice_index_or l b no_waiters) waiters_are ∙ listed_there (waiters_by lines) n b no_waiters inside
 
-    sleeps : (u : Tid) → total (λ b. in_beds u (beds_at s b)) (length s.beds) ≡ one_if (is_asleep (where_is s.homes s.moves u))
+    sleeps : (u : Tid) → total (λ b. in_waiters u (waiters_at s b)) (length s.waiters_law) ≡ one_if (is_asleep (where_is s.homes s.moves u))
     sleeps u =
-        ap (λ (m : ℕ). total (λ b. in_beds u (beds_at s b)) m) count
-        ∙ total_same (λ b. in_beds u (beds_at s b)) (λ b. in_beds u (beds_by lines b)) n (λ b inside. ap (in_beds u) (bed b inside))
+        ap (λ (m : ℕ). total (λ b. in_waiters u (waiters_at s b)) m) count
+        ∙ total_same (λ b. in_waiters u (waiters_at s b)) (λ b. in_waiters u (waiters_by lines b)) n (λ b inside. ap (in_waiters u) (waiters_of b inside))
         ∙ sleeping_is n s.homes s.moves lines agree u

@@ -18,14 +18,14 @@ use Rattle.guest.specs.Calls.{IsProgramsCalls, HasEnded}
 use Rattle.guest.specs.State.{State}
 use Rattle.layer_traits.specs.declared.calls.Call.{Call}
 use Rattle.layer_traits.specs.declared.calls.Effect.{Effect}
-use Rattle.layer_traits.specs.declared.talks.Talk.{Talk}
-use Rattle.layer_traits.specs.BufferLaw.{Doing, begun_of, talk_of}
+use Rattle.layer_traits.specs.declared.call_states.CallState.{CallState}
+use Rattle.layer_traits.specs.BufferLaw.{UnderWay, begun_of, call_state_of}
 use Rattle.layer_traits.specs.OnePlace.{cpu_at}
 use Rattle.layer_traits.specs.Places.{Stands, Step}
 use Rattle.layer_traits.proofs.EffectRunLemmas.{count_reversed}
 use Rattle.cpu.specs.declared.guests.Guest.{Guest}
 use Rattle.cpu.specs.declared.guests.GuestStage.{GuestStage}
-use Rattle.cpu.specs.declared.guests.GuestStage.TheVariants.{Between, Begun, Done, Ended}
+use Rattle.cpu.specs.declared.guests.GuestStage.TheVariants.{Idle, Begun, Done, Ended}
 use Rattle.cpu.specs.Guests.{HasComeIn, is_ended}
 use Rattle.cpu.specs.Cpus.{IsCpu, IsOfHome, guest_at, of_cpu, of_thread}
 use Rattle.cpu.specs.Claims.{CpuShown, Keeps, listed}
@@ -92,10 +92,10 @@ interleaved (e ∷ es) traces each known = (
 
 -- a CPU that is shown so is one of which what always holds is true
 pub record Has (homes : List CpuId) (buffers : ℕ) (seen : List Entry) (moves : List Step) (k : ℕ) (p : CpuShown) : Type 0 where
-  pub talks : List Talk
-  pub doing : Option Doing
+  pub call_states : List CallState
+  pub under_way : Option UnderWay
   pub capacity : ℕ
-  pub is : IsCpu homes buffers seen p.own talks doing (cpu_at k) p.guests p.trace p.limit capacity
+  pub is : IsCpu homes buffers seen p.own call_states under_way (cpu_at k) p.guests p.trace p.limit capacity
   pub stands : Stands homes (cpu_at k) moves p.own
 
 -- a guest keeps to its program
@@ -113,7 +113,7 @@ keeps_by g told_ended es begun effect follows over = go g.stage refl follows
     stood = (begun, effect, subst (λ (l : List Entry). HasComeIn g.stage g.program g.thread l begun effect) (sym (reverse-reverse es)) follows)
 
     go : (stage : GuestStage) → g.stage ≡ stage → HasComeIn stage g.program g.thread es begun effect → Keeps g told_ended (reverse es)
-    go Between at f = record { calls = (g.thread, turned g.thread f.1); ends = runs_on Between at refl; stands = stood; over = over }
+    go Idle at f = record { calls = (g.thread, turned g.thread f.1); ends = runs_on Idle at refl; stands = stood; over = over }
     go Begun at f = record { calls = (g.thread, turned g.thread f.4); ends = runs_on Begun at refl; stands = stood; over = over }
     go Done at f = record { calls = (_, turned _ f.6); ends = runs_on Done at refl; stands = stood; over = over }
     go Ended at f = record { calls = (g.thread, turned g.thread f.1); ends = λ ends. f.2; stands = stood; over = over }
@@ -126,7 +126,8 @@ module _ (homes : List CpuId) (buffers : ℕ) (seen : List Entry) (moves : List 
       let same : of_thread t.0 p.trace ≡ reverse (of_thread t.0 (of_cpu (cpu_at k) seen)) =
       ap (λ (l : List Entry). of_thread t.0 l) has.is.kept ∙ filter_reversed (λ (e : Entry). e.thread.0 == t.0) (of_cpu (cpu_at k) seen) in
       subst (λ (l : List Entry). Keeps g (is_in t p.own.ended) l) (sym same)
-      (keeps_by g (is_in t p.own.ended) (of_thread t.0 (of_cpu (cpu_at k) seen)) (begun_of (talk_of has.talks t)) (talk_of has.talks t).effect follows.1
+      (keeps_by g (is_in t p.own.ended) (of_thread t.0 (of_cpu (cpu_at k) seen)) (begun_of (call_state_of has.call_states t))
+      (call_state_of has.call_states t).effect follows.1
       (λ ended. has.is.over t ended g at))
 
   pub stay_home : (k : ℕ) (p : CpuShown) → Has homes buffers seen moves k p → AllByRecursion (IsOfHome homes (cpu_at k)) p.trace

@@ -5,11 +5,11 @@ use Rattle.event_log.specs.declared.entries.Entry.{Entry}
 use Rattle.event_log.specs.declared.ids.CpuId.{CpuId}
 use Rattle.event_log.specs.declared.ids.LockId.{LockId}
 use Rattle.event_log.specs.declared.ids.Tid.{Tid}
-use Rattle.event_log.specs.Actions.{Action, Try, Phase, Rests, Waits, Holds, action_in, doer, gives, phase, spot_of}
+use Rattle.event_log.specs.Actions.{Action, Try, Phase, Rests, Waits, Holds, action_in, cpu_of_action, gives, phase, spot_of}
 use Rattle.layer_traits.specs.declared.calls.Call.{Call}
 use Rattle.layer_traits.specs.declared.calls.Effect.{Effect}
 use Rattle.layer_traits.specs.declared.calls.Reply.{Reply}
-use Rattle.layer_traits.specs.declared.talks.Talk.{Talk}
+use Rattle.layer_traits.specs.declared.call_states.CallState.{CallState}
 use Rattle.layer_traits.specs.Looks.{Tries}
 use Rattle.layer_traits.specs.Places.{Step, Threads}
 use Rattle.layer_traits.specs.Plans.{Plan, Table, Left, Now, Act, Follows}
@@ -23,7 +23,7 @@ use Rattle.cpu.specs.Cpus.{ActsGrow, SeenGrows, of_cpu, passed_by, programs_of}
 use Rattle.cpu.proofs.GuestLists.{cpu_same, programs_with}
 
 -- an action that is due to a CPU is its own
-own_action : {N : Type 0} (cpu : CpuId) (lock : LockId) (name : N) (past : List (Action N)) (p : Phase) → doer (action_in cpu lock name past p) ≡ cpu
+own_action : {N : Type 0} (cpu : CpuId) (lock : LockId) (name : N) (past : List (Action N)) (p : Phase) → cpu_of_action (action_in cpu lock name past p) ≡ cpu
 own_action cpu lock name past Rests = refl
 own_action cpu lock name past (Waits at) = refl
 own_action cpu lock name past (Holds at) = refl
@@ -82,9 +82,10 @@ pub others_grow : (ActsFor : CpuId → Type 0) (cpu : CpuId) (old new : List Ent
 others_grow ActsFor cpu old new seen = record { others = seen.others; mine = []; foreign = seen.foreign; own = tt; few = omega arith; is = seen.is }
 
 -- a poll of a call has at most one effect, its CPU's own
-pub called_grows : (ActsFor : CpuId → Type 0) (cpu : CpuId) (t : Tid) (call : Call) (talks left : List Talk) (old new : List Entry) (answer : Option Reply)
-    → Called ActsFor cpu t call talks left old new answer → SeenGrows ActsFor cpu old new
-called_grows ActsFor cpu t call talks left old new answer called = go called.mine called.is
+pub called_grows : (ActsFor : CpuId → Type 0) (cpu : CpuId) (t : Tid) (call : Call) (call_states left : List CallState) (old new : List Entry)
+    (answer : Option Reply)
+    → Called ActsFor cpu t call call_states left old new answer → SeenGrows ActsFor cpu old new
+called_grows ActsFor cpu t call call_states left old new answer called = go called.mine called.is
   where
     go : (mine : Option Effect) → new ≡ entries_of cpu t (buffer_of call) mine ++ (called.others ++ old) → SeenGrows ActsFor cpu old new
     go None is = record { others = called.others; mine = []; foreign = called.foreign; own = tt; few = omega arith; is = is }
@@ -113,13 +114,13 @@ look_grows ActsFor cpu old new true tries still = tries_grow ActsFor cpu old new
 look_grows ActsFor cpu old new false tries still = none_grow ActsFor cpu old new (still refl)
 
 -- what is under way after a pass
-pub doing_done : {A : Type 0} (pass : Pass) (answer : Option A) → is_some answer ≡ true → still_passing pass answer ≡ None
-doing_done pass None some = absurd (cc some)
-doing_done pass (Some a) some = refl
+pub under_way_done : {A : Type 0} (pass : Pass) (answer : Option A) → is_some answer ≡ true → still_passing pass answer ≡ None
+under_way_done pass None some = absurd (cc some)
+under_way_done pass (Some a) some = refl
 
-pub doing_waits : {A : Type 0} (pass : Pass) (answer : Option A) → is_some answer ≡ false → still_passing pass answer ≡ Some (Passing pass)
-doing_waits pass None none = refl
-doing_waits pass (Some a) none = absurd (cc none)
+pub under_way_waits : {A : Type 0} (pass : Pass) (answer : Option A) → is_some answer ≡ false → still_passing pass answer ≡ Some (Passing pass)
+under_way_waits pass None none = refl
+under_way_waits pass (Some a) none = absurd (cc none)
 
 -- a pass leaves the programs
 pub programs_passed : (runs : Option Tid) (guests : List (Option Guest)) (pass : Pass) → programs_of (passed_by runs guests pass) ≡ programs_of guests

@@ -14,26 +14,26 @@ use Rattle.event_log.proofs.Same.{same_cpu_self}
 use Rattle.thread_blocks.specs.Queues.{is_in}
 use Rattle.layer_traits.specs.declared.calls.Place.{Place}
 use Rattle.layer_traits.specs.declared.calls.Place.TheVariants as place
-use Rattle.layer_traits.specs.declared.moves.Line.{Line}
-use Rattle.layer_traits.specs.declared.moves.Line.TheVariants.{Sleepers, Receivers, Senders}
+use Rattle.layer_traits.specs.declared.moves.WaitList.{WaitList}
+use Rattle.layer_traits.specs.declared.moves.WaitList.TheVariants.{Sleepers, Receivers, Senders}
 use Rattle.layer_traits.specs.BufferLaw.{Buffering}
-use Rattle.layer_traits.specs.IpcLaw.{LinesAgree}
+use Rattle.layer_traits.specs.IpcLaw.{WaitListsAgree}
 use Rattle.layer_traits.specs.ListsAgree.{is_at}
 use Rattle.layer_traits.specs.OnePlace.{cpu_at}
 use Rattle.layer_traits.specs.Passes.{or_else}
-use Rattle.layer_traits.specs.Places.{Asleep, At, Hand, Home, Pend, Stands, Step, Threads, Where, berth_of, copies, home_of, is_cpu, is_here}
+use Rattle.layer_traits.specs.Places.{Asleep, At, Hand, Home, Pend, Stands, Step, Threads, Where, wait_channel_of, copies, home_of, is_cpu, is_here}
 use Rattle.layer_traits.specs.Places.{is_home, is_pend, one_if, pending_by, where_is}
-use Rattle.layer_traits.specs.Told.{IsOwnPlace, queue_place}
+use Rattle.layer_traits.specs.Observed.{IsOwnPlace, queue_place}
 use Rattle.layer_traits.proofs.CountLemmas.{in_counted, is_cpu_true}
-use Rattle.layer_traits.proofs.ListsLemmas.{berth_here, counted_in}
+use Rattle.layer_traits.proofs.ListsLemmas.{wait_channel_here, counted_in}
 use Rattle.layer_traits.proofs.PlaceLemmas.{pend_count, pend_home}
 use Rattle.cpu.specs.declared.guests.Guest.{Guest}
-use Rattle.cpu.specs.Claims.{Beds, CpuShown, IsPlaceOf, MovesAgree, Shown, beds_at, beds_by, listed, no_beds}
+use Rattle.cpu.specs.Claims.{WaitersAgree, CpuShown, IsPlaceOf, MovesAgree, Shown, waiters_at, waiters_by, listed, no_waiters}
 use Rattle.cpu.specs.Systems.{whole_of}
 use Rattle.cpu.specs.Table.Setups.{Private, Setup, Thread, thread_at}
 use Rattle.cpu.specs.Table.Setups.{home_of as table_home}
 use Rattle.cpu.specs.Tables.{private, state_of, states}
-use Rattle.cpu.specs.Told.{CpuHas, CpuIsTold, HasBuffer, IsPlaceByTable}
+use Rattle.cpu.specs.Observed.{CpuHas, CpuIsObserved, HasBuffer, IsPlaceByTable}
 use Rattle.cpu.specs.Tower.Privates.{threads_in}
 use Rattle.cpu.proofs.ListReads.{listed_there, shows_at, there_is}
 use Rattle.cpu.proofs.Tower.Begins.{thread_here}
@@ -57,24 +57,25 @@ ended_home homes c moves own stands t is = go (is_here homes c moves t) refl
         let some = in_counted t own.ended is in
         absurd (omega (arith, count, some))
 
-module _ (s : Shown) (agree : MovesAgree s) (lines : BufId → Line → List Tid) (beds : s.beds ≡ listed (beds_by lines) 0 (length s.caps))
-    (lists : LinesAgree (length s.caps) s.homes s.moves lines) (setup : Setup)
-    (cpus : (k : ℕ) (p : CpuShown) → slice_get s.cpus k ≡ Some p → CpuIsTold setup s k p)
+module _ (s : Shown) (agree : MovesAgree s) (lines : BufId → WaitList → List Tid) (waiters_law : s.waiters_law ≡ listed (waiters_by lines) 0 (length s.caps))
+    (lists : WaitListsAgree (length s.caps) s.homes s.moves lines) (setup : Setup)
+    (cpus : (k : ℕ) (p : CpuShown) → slice_get s.cpus k ≡ Some p → CpuIsObserved setup s k p)
     (buffers : (b : ℕ) → b < length s.caps → HasBuffer setup s b) (homes : setup.homes ≡ s.homes) where
   -- who sleeps at a line of a buffer stands on the buffer's list of that line
-  asleep : (t : Tid) (b : BufId) (line : Line) → where_is s.homes s.moves t ≡ Asleep (At (AtBuffer b) line)
+  asleep : (t : Tid) (b : BufId) (line : WaitList) → where_is s.homes s.moves t ≡ Asleep (At (AtBuffer b) line)
       → (b.0 < length s.caps) × (is_in t (lines b line) ≡ true)
   asleep t b line here =
       let known = lists.known t (AtBuffer b) line here in
       let same : b ≡ known.0 = cc known.1 in
       let within : b.0 < length s.caps = let below = known.2 in let number = ap (λ (d : BufId). d.0) same in omega (arith, below, number) in
-      let one : one_if (is_at (AtBuffer b) line (berth_of (where_is s.homes s.moves t))) ≡ 1
-      = ap (λ w. one_if (is_at (AtBuffer b) line (berth_of w))) here ∙ ap one_if (berth_here (AtBuffer b) line) in
+      let one : one_if (is_at (AtBuffer b) line (wait_channel_of (where_is s.homes s.moves t))) ≡ 1
+      = ap (λ w. one_if (is_at (AtBuffer b) line (wait_channel_of w))) here ∙ ap one_if (wait_channel_here (AtBuffer b) line) in
       let count = lists.once b line t within in
       (within, counted_in t (lines b line) (omega (arith, one, count)))
 
-  bed : (b : ℕ) → b < length s.caps → beds_at s b ≡ beds_by lines b
-  bed b within = ap (λ (l : List Beds). slice_index_or l b no_beds) beds ∙ listed_there (beds_by lines) (length s.caps) b no_beds within
+  waiters_of : (b : ℕ) → b < length s.caps → waiters_at s b ≡ waiters_by lines b
+  waiters_of b within = ap (λ (l : List WaitersAgree). slice_index_or l b no_waiters) waiters_law
+      ∙ listed_there (waiters_by lines) (length s.caps) b no_waiters within
 
   -- what holds of the private state of a CPU that is shown holds of that CPU in the table
   cpu_has : (c : CpuId) (k : ℕ) (p : CpuShown) (Has : Private → Type 0) → c ≡ cpu_at k → slice_get s.cpus k ≡ Some p → Has p.private
@@ -120,7 +121,7 @@ module _ (s : Shown) (agree : MovesAgree s) (lines : BufId → Line → List Tid
       subst (λ (x : Place). IsPlaceByTable setup (whole_of s) t x) (same_Some (place.LockSleeper b) at is) (
         has.buffer,
         has.there,
-        ap (λ (l : List Tid). is_in t l) (sym has.told.sleepers) ∙ ap (λ (x : Beds). is_in t x.sleepers) (bed b.0 lies.0) ∙ lies.1,
+        ap (λ (l : List Tid). is_in t l) (sym has.told.sleepers) ∙ ap (λ (x : WaitersAgree). is_in t x.sleepers) (waiters_of b.0 lies.0) ∙ lies.1,
       )
   queue_so t (Asleep (At (lock.Buffer b) Receivers)) at here is =
       let lies = asleep t b Receivers here in
@@ -128,7 +129,7 @@ module _ (s : Shown) (agree : MovesAgree s) (lines : BufId → Line → List Tid
       subst (λ (x : Place). IsPlaceByTable setup (whole_of s) t x) (same_Some (place.WaitRecv b) at is) (
         has.buffer,
         has.there,
-        ap (λ (l : List Tid). is_in t l) (sym has.told.receivers) ∙ ap (λ (x : Beds). is_in t x.receivers) (bed b.0 lies.0) ∙ lies.1,
+        ap (λ (l : List Tid). is_in t l) (sym has.told.receivers) ∙ ap (λ (x : WaitersAgree). is_in t x.receivers) (waiters_of b.0 lies.0) ∙ lies.1,
       )
   queue_so t (Asleep (At (lock.Buffer b) Senders)) at here is =
       let lies = asleep t b Senders here in
@@ -136,9 +137,9 @@ module _ (s : Shown) (agree : MovesAgree s) (lines : BufId → Line → List Tid
       subst (λ (x : Place). IsPlaceByTable setup (whole_of s) t x) (same_Some (place.WaitSend b) at is) (
         has.buffer,
         has.there,
-        ap (λ (l : List Tid). is_in t l) (sym has.told.senders) ∙ ap (λ (x : Beds). is_in t x.senders) (bed b.0 lies.0) ∙ lies.1,
+        ap (λ (l : List Tid). is_in t l) (sym has.told.senders) ∙ ap (λ (x : WaitersAgree). is_in t x.senders) (waiters_of b.0 lies.0) ∙ lies.1,
       )
 
-  pub place_told : (t : Tid) (at : Place) → t.0 < length s.homes → IsPlaceOf s t at → IsPlaceByTable setup (whole_of s) t at
-  place_told t at known (inl (k, p, there, own)) = own_so k p t at known there own
-  place_told t at known (inr told) = queue_so t (where_is s.homes s.moves t) at refl told
+  pub place_read : (t : Tid) (at : Place) → t.0 < length s.homes → IsPlaceOf s t at → IsPlaceByTable setup (whole_of s) t at
+  place_read t at known (inl (k, p, there, own)) = own_so k p t at known there own
+  place_read t at known (inr told) = queue_so t (where_is s.homes s.moves t) at refl told

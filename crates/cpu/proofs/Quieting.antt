@@ -11,11 +11,11 @@ use Rattle.thread_blocks.specs.Queues.{is_in}
 use Rattle.thread_blocks.proofs.Members.{same_tid_self}
 use Rattle.layer_traits.specs.declared.calls.Place.{Place}
 use Rattle.layer_traits.specs.declared.calls.Place.TheVariants as place
-use Rattle.layer_traits.specs.declared.moves.Line.TheVariants.{Receivers, Senders, Sleepers}
+use Rattle.layer_traits.specs.declared.moves.WaitList.TheVariants.{Receivers, Senders, Sleepers}
 use Rattle.layer_traits.specs.OnePlace.{cpu_at}
 use Rattle.layer_traits.specs.Places.{AreMoves, Asleep, At, Hand, Home, Pend, Stands, Step, Threads, Where, count_in, home_of, is_cpu, is_hand, is_home}
 use Rattle.layer_traits.specs.Places.{is_pend, is_thread, one_if, pending_by, where_is}
-use Rattle.layer_traits.specs.Told.{IsOwnPlace, queue_place}
+use Rattle.layer_traits.specs.Observed.{IsOwnPlace, queue_place}
 use Rattle.layer_traits.proofs.CountLemmas.{in_counted, is_thread_self}
 use Rattle.layer_traits.proofs.PlaceLemmas.{hand_at, pend_count, pend_home, pend_where}
 use Rattle.cpu.specs.Calm.{AllQueuesEmpty}

@@ -17,17 +17,17 @@ use Rattle.layer_traits.specs.declared.passes.Pass.{Pass}
 use Rattle.layer_traits.specs.declared.passes.Pass.TheVariants.{Switch, YieldNow, Drain, MakeReady, End}
 use Rattle.layer_traits.specs.Passes.{MayPass, as_list, pass_after}
 use Rattle.layer_traits.specs.Places.{Threads, home_of, one_if}
-use Rattle.layer_traits.specs.BufferLaw.{Calling, Doing, Passing, begun_of, talk_of}
+use Rattle.layer_traits.specs.BufferLaw.{Calling, UnderWay, Passing, begun_of, call_state_of}
 use Rattle.cpu.specs.declared.cpus.Choice.{Choice}
 use Rattle.cpu.specs.declared.cpus.Choice.TheVariants.{Passes, Computes}
 use Rattle.cpu.specs.declared.guests.Guest.{Guest}
 use Rattle.cpu.specs.declared.guests.GuestStage.{GuestStage}
-use Rattle.cpu.specs.declared.guests.GuestStage.TheVariants.{Between, Begun, Done, Ended}
+use Rattle.cpu.specs.declared.guests.GuestStage.TheVariants.{Idle, Begun, Done, Ended}
 use Rattle.cpu.specs.declared.guests.Todo.{Todo}
 use Rattle.cpu.specs.declared.guests.Todo.TheVariants.{Finish, PassOn, Compute, Calls}
 use Rattle.cpu.specs.Guests.{HasCome, HasComeIn, after_pass, computed, is_begun, is_calling, is_ended, passed, todo_at, todo_of}
 use Rattle.cpu.specs.Cpus.{AllFollow, AreOver, IsCpu, IsOfHome, NamesBelow, begun_count, chosen, chosen_at, chosen_by, chosen_for}
-use Rattle.cpu.specs.Cpus.{chosen_idle, chosen_todo, doing_of, guest_at, is_begun_guest, of_cpu, of_thread, passed_by, with_guest}
+use Rattle.cpu.specs.Cpus.{chosen_idle, chosen_todo, under_way_of, guest_at, is_begun_guest, of_cpu, of_thread, passed_by, with_guest}
 use Rattle.cpu.proofs.CpuStates.{ValidCpu}
 use Rattle.cpu.proofs.GuestLists.{at_other, at_same, count_with, guest_within}
 
@@ -38,19 +38,19 @@ pub in_no_call : (g : Guest) (es : List Entry) (begun : Option Call) (effect : O
 in_no_call g es begun effect todo follows asks none = go g.stage follows
   where
     go : (stage : GuestStage) → HasComeIn stage g.program g.thread es begun effect → (is_calling stage ≡ false) × (is_begun stage ≡ false)
-    go Between f = (refl, refl)
+    go Idle f = (refl, refl)
     go Begun f = absurd (none f.0 (sym asks ∙ f.1))
     go Done f = absurd (none f.0 (sym asks ∙ f.2))
     go Ended f = (refl, refl)
 
 -- and it is between instructions unless it is to end
-between_at : (g : Guest) (es : List Entry) (begun : Option Call) (effect : Option Effect) (todo : Todo)
+idle_at : (g : Guest) (es : List Entry) (begun : Option Call) (effect : Option Effect) (todo : Todo)
     → HasComeIn g.stage g.program g.thread es begun effect
-    → todo_of g ≡ todo → ((c : Call) → todo ≡ Calls c → ⊥) → (todo ≡ Finish → ⊥) → g.stage ≡ Between
-between_at g es begun effect todo follows asks none some = go g.stage follows
+    → todo_of g ≡ todo → ((c : Call) → todo ≡ Calls c → ⊥) → (todo ≡ Finish → ⊥) → g.stage ≡ Idle
+idle_at g es begun effect todo follows asks none some = go g.stage follows
   where
-    go : (stage : GuestStage) → HasComeIn stage g.program g.thread es begun effect → stage ≡ Between
-    go Between f = refl
+    go : (stage : GuestStage) → HasComeIn stage g.program g.thread es begun effect → stage ≡ Idle
+    go Idle f = refl
     go Begun f = absurd (none f.0 (sym asks ∙ f.1))
     go Done f = absurd (none f.0 (sym asks ∙ f.2))
     go Ended f = absurd (some (sym asks ∙ ap (λ (i : Instruction). todo_at g.thread i) f.2))
@@ -72,7 +72,7 @@ follow_end : (g : Guest) (es : List Entry) (begun : Option Call) (effect : Optio
 follow_end g es begun effect follows asks = go g.stage follows
   where
     go : (stage : GuestStage) → HasComeIn stage g.program g.thread es begun effect → HasComeIn Ended g.program g.thread es begun effect
-    go Between f = (f.0, f.1, finish_exit g.thread (next_of g.program g.thread) asks)
+    go Idle f = (f.0, f.1, finish_exit g.thread (next_of g.program g.thread) asks)
     go Begun f = let no : Finish ≡ Calls f.0 = sym asks ∙ f.1 in absurd (cc no)
     go Done f = let no : Finish ≡ Calls f.0 = sym asks ∙ f.2 in absurd (cc no)
     go Ended f = f
@@ -90,17 +90,17 @@ in_before u t (x ∷ q) other is = go (u.0 == x.0) refl (in_before u t q other)
     go false differs more = rw differs (more (rw differs at is))
 
 module _ (cpu : ValidCpu) where
-  open cpu use {homes, buffers, seen, own, talks, doing, number, guests, trace, limit, capacity, is}
+  open cpu use {homes, buffers, seen, own, call_states, under_way, number, guests, trace, limit, capacity, is}
 
   -- the guests stay
-  guests_stay : (seen2 : List Entry) (own2 : Threads) (doing2 : Option Doing) → of_cpu number seen2 ≡ of_cpu number seen → own2.ended ≡ own.ended
-      → ((d : Doing) → doing2 ≡ Some d → doing_of (chosen own2 guests) ≡ Some d) → ((u : Tid) → doing2 ≡ Some (Calling u) → ⊥)
-      → ((u : Tid) → own2.current ≡ Some u → doing2 ≡ None → own2.hand ≡ None)
-      → IsCpu homes buffers seen2 own2 talks doing2 number guests trace limit capacity
-  guests_stay seen2 own2 doing2 same over agrees calls handed = record {
+  guests_stay : (seen2 : List Entry) (own2 : Threads) (under_way2 : Option UnderWay) → of_cpu number seen2 ≡ of_cpu number seen → own2.ended ≡ own.ended
+      → ((d : UnderWay) → under_way2 ≡ Some d → under_way_of (chosen own2 guests) ≡ Some d) → ((u : Tid) → under_way2 ≡ Some (Calling u) → ⊥)
+      → ((u : Tid) → own2.current ≡ Some u → under_way2 ≡ None → own2.hand ≡ None)
+      → IsCpu homes buffers seen2 own2 call_states under_way2 number guests trace limit capacity
+  guests_stay seen2 own2 under_way2 same over agrees calls handed = record {
     kept = is.kept ∙ ap (λ (l : List Entry). reverse l) (sym same);
     stays = subst (λ (l : List Entry). AllByRecursion (IsOfHome homes number) l) (sym same) is.stays;
-    follow = subst (λ (l : List Entry). AllFollow guests l talks) (sym same) is.follow;
+    follow = subst (λ (l : List Entry). AllFollow guests l call_states) (sym same) is.follow;
     over = subst (λ (l : List Tid). AreOver guests l) (sym over) is.over;
     homed = is.homed;
     named = is.named;
@@ -113,17 +113,18 @@ module _ (cpu : ValidCpu) where
   }
 
   -- one thread's guest goes on, without an entry
-  guest_goes : (t : Tid) (g : Guest) (f : Guest → Guest) (seen2 : List Entry) (own2 : Threads) (doing2 : Option Doing)
+  guest_goes : (t : Tid) (g : Guest) (f : Guest → Guest) (seen2 : List Entry) (own2 : Threads) (under_way2 : Option UnderWay)
       → guest_at guests t.0 ≡ Some g → of_cpu number seen2 ≡ of_cpu number seen → (f g).program ≡ g.program → is_begun (f g).stage ≡ is_begun g.stage
-      → HasComeIn (f g).stage (f g).program (f g).thread (of_thread t.0 (of_cpu number seen)) (begun_of (talk_of talks t)) (talk_of talks t).effect
+      → HasComeIn (f g).stage (f g).program (f g).thread (of_thread t.0 (of_cpu number seen)) (begun_of (call_state_of call_states t))
+      (call_state_of call_states t).effect
       → (is_in t own2.ended ≡ true → is_ended (f g).stage ≡ true) → ((u : Tid) → u.0 ≢ t.0 → is_in u own2.ended ≡ true → is_in u own.ended ≡ true)
-      → ((d : Doing) → doing2 ≡ Some d → ⊥) → ((u : Tid) → own2.current ≡ Some u → own2.hand ≡ None)
-      → IsCpu homes buffers seen2 own2 talks doing2 number (with_guest guests t.0 f) trace limit capacity
-  guest_goes t g f seen2 own2 doing2 at same program begun follows over_t over_other none handed = record {
+      → ((d : UnderWay) → under_way2 ≡ Some d → ⊥) → ((u : Tid) → own2.current ≡ Some u → own2.hand ≡ None)
+      → IsCpu homes buffers seen2 own2 call_states under_way2 number (with_guest guests t.0 f) trace limit capacity
+  guest_goes t g f seen2 own2 under_way2 at same program begun follows over_t over_other none handed = record {
     kept = is.kept ∙ ap (λ (l : List Entry). reverse l) (sym same);
     stays = subst (λ (l : List Entry). AllByRecursion (IsOfHome homes number) l) (sym same) is.stays;
-    follow = λ (u : Tid) (x : Guest) there. subst (λ (l : List Entry). HasCome x (of_thread u.0 l) (talk_of talks u)) (sym same)
-        (each (λ (k : ℕ) (y : Guest). HasCome y (of_thread k (of_cpu number seen)) (talk_of talks (record { 0 = k })))
+    follow = λ (u : Tid) (x : Guest) there. subst (λ (l : List Entry). HasCome x (of_thread u.0 l) (call_state_of call_states u)) (sym same)
+        (each (λ (k : ℕ) (y : Guest). HasCome y (of_thread k (of_cpu number seen)) (call_state_of call_states (record { 0 = k })))
         ((is.follow t g at).0, follows) (λ k y other old. is.follow (record { 0 = k }) y old) u.0 x there);
     over = λ (u : Tid) ended (x : Guest) there.
         each (λ (k : ℕ) (y : Guest). is_in (record { 0 = k }) own2.ended ≡ true → is_ended y.stage ≡ true) over_t
@@ -133,7 +134,7 @@ module _ (cpu : ValidCpu) where
         each (λ (k : ℕ) (y : Guest). NamesBelow buffers y.program) (subst (λ (p : List Instruction). NamesBelow buffers p) (sym program) (is.named t g at))
         (λ k y other old. is.named (record { 0 = k }) y old) u.0 x there;
     few = let long = length-set guests t.0 (option_map f (guest_at guests t.0)) in let few = is.few in omega (arith, long, few);
-    agrees = λ (d : Doing) does. absurd (none d does);
+    agrees = λ (d : UnderWay) does. absurd (none d does);
     calls = λ (u : Tid) (x : Guest) does there. absurd (none (Calling u) does);
     handed = λ (u : Tid) runs quiet. handed u runs;
     room =
@@ -199,33 +200,35 @@ module _ (cpu : ValidCpu) where
       go (Some u) runs chose = by_guest u (guest_at guests u.0) runs refl chose
 
   -- what is under way is what is chosen
-  pub does_chosen : (choice : Choice) (d : Doing) → chosen own guests ≡ choice → doing ≡ Some d → doing_of choice ≡ Some d
-  does_chosen choice d chose does = sym (ap doing_of chose) ∙ is.agrees d does
+  pub does_chosen : (choice : Choice) (d : UnderWay) → chosen own guests ≡ choice → under_way ≡ Some d → under_way_of choice ≡ Some d
+  does_chosen choice d chose does = sym (ap under_way_of chose) ∙ is.agrees d does
 
   pub noted_compute : (t : Tid) → chosen own guests ≡ Computes t
-      → IsCpu homes buffers seen own talks doing number (with_guest guests t.0 computed) trace limit capacity
+      → IsCpu homes buffers seen own call_states under_way number (with_guest guests t.0 computed) trace limit capacity
   noted_compute t chose =
       let runs = (computes_at t chose).0 in
       let g = (computes_at t chose).1.0 in
       let at : guest_at guests t.0 ≡ Some g = (computes_at t chose).1.1 in
       let asks : todo_of g ≡ Compute = (computes_at t chose).1.2 in
       let follows = is.follow t g at in
-      let quiet : (d : Doing) → doing ≡ Some d → ⊥ = λ (d : Doing) does. let no : None ≡ Some d = does_chosen (Computes t) d chose does in absurd (cc no) in
-      let between : g.stage ≡ Between = between_at g (of_thread t.0 (of_cpu number seen)) (begun_of (talk_of talks t))
-      (talk_of talks t).effect Compute follows.1 asks
+      let quiet : (d : UnderWay) → under_way ≡ Some d → ⊥ = λ (d : UnderWay) does. let no : None ≡ Some d = does_chosen (Computes t) d chose does in absurd
+      (cc no) in
+      let at_idle : g.stage ≡ Idle = idle_at g (of_thread t.0 (of_cpu number seen)) (begun_of (call_state_of call_states t))
+      (call_state_of call_states t).effect Compute follows.1 asks
       (λ c e. absurd (cc e)) (λ e. absurd (cc e)) in
-      let before : HasComeIn Between g.program g.thread (of_thread t.0 (of_cpu number seen)) (begun_of (talk_of talks t)) (talk_of talks t).effect =
-      subst (λ (s : GuestStage). HasComeIn s g.program g.thread (of_thread t.0 (of_cpu number seen)) (begun_of (talk_of talks t))
-      (talk_of talks t).effect) between follows.1 in
-      let after : HasComeIn Between g.program (computed g).thread (of_thread t.0 (of_cpu number seen)) (begun_of (talk_of talks t))
-      (talk_of talks t).effect =
+      let before : HasComeIn Idle g.program g.thread (of_thread t.0 (of_cpu number seen)) (begun_of (call_state_of call_states t))
+      (call_state_of call_states t).effect =
+      subst (λ (s : GuestStage). HasComeIn s g.program g.thread (of_thread t.0 (of_cpu number seen)) (begun_of (call_state_of call_states t))
+      (call_state_of call_states t).effect) at_idle follows.1 in
+      let after : HasComeIn Idle g.program (computed g).thread (of_thread t.0 (of_cpu number seen)) (begun_of (call_state_of call_states t))
+      (call_state_of call_states t).effect =
       (before.0, calls-local g.program (of_thread t.0 (of_cpu number seen)) g.thread before.1) in
-      guest_goes t g computed seen own doing at refl refl refl
-      (subst (λ (s : GuestStage). HasComeIn s g.program (computed g).thread (of_thread t.0 (of_cpu number seen)) (begun_of (talk_of talks t))
-      (talk_of talks t).effect) (sym between) after)
-      (λ over. is.over t over g at) (λ u other over. over) quiet (λ u runs. is.handed u runs (nothing doing quiet))
+      guest_goes t g computed seen own under_way at refl refl refl
+      (subst (λ (s : GuestStage). HasComeIn s g.program (computed g).thread (of_thread t.0 (of_cpu number seen)) (begun_of (call_state_of call_states t))
+      (call_state_of call_states t).effect) (sym at_idle) after)
+      (λ over. is.over t over g at) (λ u other over. over) quiet (λ u runs. is.handed u runs (nothing under_way quiet))
     where
-      nothing : (o : Option Doing) → ((d : Doing) → o ≡ Some d → ⊥) → o ≡ None
+      nothing : (o : Option UnderWay) → ((d : UnderWay) → o ≡ Some d → ⊥) → o ≡ None
       nothing None none = refl
       nothing (Some d) none = absurd (none d refl)
 
@@ -263,11 +266,11 @@ module _ (cpu : ValidCpu) where
       calling_calls u g (Calls d) at calling asks is_pass = absurd (cc is_pass)
       calling_calls u g Compute at calling asks is_pass = absurd (cc is_pass)
       calling_calls u g Finish at calling asks is_pass =
-          let no = in_no_call g (of_thread u.0 (of_cpu number seen)) (begun_of (talk_of talks u)) (talk_of talks u).effect Finish
+          let no = in_no_call g (of_thread u.0 (of_cpu number seen)) (begun_of (call_state_of call_states u)) (call_state_of call_states u).effect Finish
           (is.follow u g at).1 asks (λ c e. absurd (cc e)) in
           absurd (cc (calling, no.0))
       calling_calls u g PassOn at calling asks is_pass =
-          let no = in_no_call g (of_thread u.0 (of_cpu number seen)) (begun_of (talk_of talks u)) (talk_of talks u).effect PassOn
+          let no = in_no_call g (of_thread u.0 (of_cpu number seen)) (begun_of (call_state_of call_states u)) (call_state_of call_states u).effect PassOn
           (is.follow u g at).1 asks (λ c e. absurd (cc e)) in
           absurd (cc (calling, no.0))
 
@@ -301,80 +304,83 @@ module _ (cpu : ValidCpu) where
   current_within home t runs = let there = is.homed t (home t runs) in guest_within guests t.0 there.0 there.1
 
   -- a pass that has not answered
-  pub noted_wait : (pass : Pass) (seen2 : List Entry) (own2 : Threads) (doing2 : Option Doing) → chosen own guests ≡ Passes pass
-      → of_cpu number seen2 ≡ of_cpu number seen → own2 ≡ own → doing2 ≡ Some (Passing pass)
-      → IsCpu homes buffers seen2 own2 talks doing2 number guests trace limit capacity
-  noted_wait pass seen2 own2 doing2 chose same stays does =
-      guests_stay seen2 own2 doing2 same (ap (λ (o : Threads). o.ended) stays)
-      (λ d at. ap (λ (o : Threads). doing_of (chosen o guests)) stays ∙ (ap doing_of chose ∙ (sym does ∙ at)))
+  pub noted_wait : (pass : Pass) (seen2 : List Entry) (own2 : Threads) (under_way2 : Option UnderWay) → chosen own guests ≡ Passes pass
+      → of_cpu number seen2 ≡ of_cpu number seen → own2 ≡ own → under_way2 ≡ Some (Passing pass)
+      → IsCpu homes buffers seen2 own2 call_states under_way2 number guests trace limit capacity
+  noted_wait pass seen2 own2 under_way2 chose same stays does =
+      guests_stay seen2 own2 under_way2 same (ap (λ (o : Threads). o.ended) stays)
+      (λ d at. ap (λ (o : Threads). under_way_of (chosen o guests)) stays ∙ (ap under_way_of chose ∙ (sym does ∙ at)))
       (λ u at. let no : Some (Passing pass) ≡ Some (Calling u) = sym does ∙ at in absurd (cc no))
       (λ u runs none. let no : Some (Passing pass) ≡ None = sym does ∙ none in absurd (cc no))
 
   -- a pass that is done
   case_done : (pass : Pass) (queue : List Tid) (seen2 : List Entry) → PassCase pass → of_cpu number seen2 ≡ of_cpu number seen
-      → IsCpu homes buffers seen2 (pass_after pass queue own) talks None number (passed_by own.current guests pass) trace limit capacity
+      → IsCpu homes buffers seen2 (pass_after pass queue own) call_states None number (passed_by own.current guests pass) trace limit capacity
   case_done Switch queue seen2 (switches runs has some) same =
-      subst (λ (o : Option Tid). IsCpu homes buffers seen2 (pass_after Switch queue own) talks None number
+      subst (λ (o : Option Tid). IsCpu homes buffers seen2 (pass_after Switch queue own) call_states None number
       (passed_by o guests Switch) trace limit capacity) (sym runs)
       (guests_stay seen2 (pass_after Switch queue own) None same refl (λ d at. absurd (cc at)) (λ u at. absurd (cc at)) (λ u at none. has))
   case_done Drain queue seen2 (drains runs has empty) same =
-      subst (λ (o : Option Tid). IsCpu homes buffers seen2 (pass_after Drain queue own) talks None number
+      subst (λ (o : Option Tid). IsCpu homes buffers seen2 (pass_after Drain queue own) call_states None number
       (passed_by o guests Drain) trace limit capacity) (sym runs)
       (guests_stay seen2 (pass_after Drain queue own) None same refl (λ d at. absurd (cc at)) (λ u at. absurd (cc at)) (λ u at none. absurd (cc at)))
   case_done (MakeReady s) queue seen2 (sends_idle _ runs has) same =
-      subst (λ (o : Option Tid). IsCpu homes buffers seen2 (pass_after (MakeReady s) queue own) talks None number
+      subst (λ (o : Option Tid). IsCpu homes buffers seen2 (pass_after (MakeReady s) queue own) call_states None number
       (passed_by o guests (MakeReady s)) trace limit capacity) (sym runs)
       (guests_stay seen2 (pass_after (MakeReady s) queue own) None same refl (λ d at. absurd (cc at)) (λ u at. absurd (cc at)) (λ u at none. refl))
   case_done (MakeReady s) queue seen2 (sends_on _ t g runs has at) same =
-      subst (λ (o : Option Tid). IsCpu homes buffers seen2 (pass_after (MakeReady s) queue own) talks None number
+      subst (λ (o : Option Tid). IsCpu homes buffers seen2 (pass_after (MakeReady s) queue own) call_states None number
       (passed_by o guests (MakeReady s)) trace limit capacity) (sym runs)
       (guest_goes t g (after_pass (MakeReady s)) seen2 (pass_after (MakeReady s) queue own) None at same refl refl (is.follow t g at).1
       (λ over. is.over t over g at) (λ u other over. over) (λ d none. absurd (cc none)) (λ u at. refl))
   case_done YieldNow queue seen2 (passes_on t g runs has at asks) same =
       let follows = is.follow t g at in
-      let between : g.stage ≡ Between = between_at g (of_thread t.0 (of_cpu number seen)) (begun_of (talk_of talks t))
-      (talk_of talks t).effect PassOn follows.1 asks
+      let at_idle : g.stage ≡ Idle = idle_at g (of_thread t.0 (of_cpu number seen)) (begun_of (call_state_of call_states t))
+      (call_state_of call_states t).effect PassOn follows.1 asks
       (λ c e. absurd (cc e)) (λ e. absurd (cc e)) in
-      let before : HasComeIn Between g.program g.thread (of_thread t.0 (of_cpu number seen)) (begun_of (talk_of talks t)) (talk_of talks t).effect =
-      subst (λ (s : GuestStage). HasComeIn s g.program g.thread (of_thread t.0 (of_cpu number seen)) (begun_of (talk_of talks t))
-      (talk_of talks t).effect) between follows.1 in
-      let after : HasComeIn Between g.program (passed g).thread (of_thread t.0 (of_cpu number seen)) (begun_of (talk_of talks t)) (talk_of talks t).effect =
+      let before : HasComeIn Idle g.program g.thread (of_thread t.0 (of_cpu number seen)) (begun_of (call_state_of call_states t))
+      (call_state_of call_states t).effect =
+      subst (λ (s : GuestStage). HasComeIn s g.program g.thread (of_thread t.0 (of_cpu number seen)) (begun_of (call_state_of call_states t))
+      (call_state_of call_states t).effect) at_idle follows.1 in
+      let after : HasComeIn Idle g.program (passed g).thread (of_thread t.0 (of_cpu number seen)) (begun_of (call_state_of call_states t))
+      (call_state_of call_states t).effect =
       (before.0, calls-yield g.program (of_thread t.0 (of_cpu number seen)) g.thread before.1) in
-      subst (λ (o : Option Tid). IsCpu homes buffers seen2 (pass_after YieldNow queue own) talks None number
+      subst (λ (o : Option Tid). IsCpu homes buffers seen2 (pass_after YieldNow queue own) call_states None number
       (passed_by o guests YieldNow) trace limit capacity) (sym runs)
       (guest_goes t g (after_pass YieldNow) seen2 (pass_after YieldNow queue own) None at same refl refl
-      (subst (λ (s : GuestStage). HasComeIn s g.program (passed g).thread (of_thread t.0 (of_cpu number seen)) (begun_of (talk_of talks t))
-      (talk_of talks t).effect) (sym between) after)
+      (subst (λ (s : GuestStage). HasComeIn s g.program (passed g).thread (of_thread t.0 (of_cpu number seen)) (begun_of (call_state_of call_states t))
+      (call_state_of call_states t).effect) (sym at_idle) after)
       (λ over. is.over t over g at) (λ u other over. over) (λ d none. absurd (cc none)) (λ u at. absurd (cc at)))
   case_done End queue seen2 (finishes t g runs has at asks) same =
       let follows = is.follow t g at in
-      let free = in_no_call g (of_thread t.0 (of_cpu number seen)) (begun_of (talk_of talks t)) (talk_of talks t).effect Finish follows.1 asks
+      let free = in_no_call g (of_thread t.0 (of_cpu number seen)) (begun_of (call_state_of call_states t))
+      (call_state_of call_states t).effect Finish follows.1 asks
       (λ c e. absurd (cc e)) in
-      subst (λ (o : Option Tid). IsCpu homes buffers seen2 (pass_after End queue own) talks None number
+      subst (λ (o : Option Tid). IsCpu homes buffers seen2 (pass_after End queue own) call_states None number
       (passed_by o guests End) trace limit capacity) (sym runs)
       (guest_goes t g (after_pass End) seen2 (pass_after End queue own) None at same refl (sym free.1)
-      (follow_end g (of_thread t.0 (of_cpu number seen)) (begun_of (talk_of talks t)) (talk_of talks t).effect follows.1 asks)
+      (follow_end g (of_thread t.0 (of_cpu number seen)) (begun_of (call_state_of call_states t)) (call_state_of call_states t).effect follows.1 asks)
       (λ over. refl)
       (λ u other over. in_before u t own.ended other (subst (λ (o : Option Tid). is_in u (own.ended ++ as_list o) ≡ true) runs over))
       (λ d none. absurd (cc none)) (λ u at. absurd (cc at)))
 
-  pub noted_done : (pass : Pass) (queue : List Tid) (seen2 : List Entry) (own2 : Threads) (doing2 : Option Doing) (guests2 : List (Option Guest))
+  pub noted_done : (pass : Pass) (queue : List Tid) (seen2 : List Entry) (own2 : Threads) (under_way2 : Option UnderWay) (guests2 : List (Option Guest))
       → ((t : Tid) → own.current ≡ Some t → home_of homes t ≡ Some number) → chosen own guests ≡ Passes pass → of_cpu number seen2 ≡ of_cpu number seen
-      → own2 ≡ pass_after pass queue own → doing2 ≡ None → guests2 ≡ passed_by own.current guests pass
-      → IsCpu homes buffers seen2 own2 talks doing2 number guests2 trace limit capacity
-  noted_done pass queue seen2 own2 doing2 guests2 home chose same stays does moved =
-      subst (λ (o : Threads). IsCpu homes buffers seen2 o talks doing2 number guests2 trace limit capacity) (sym stays)
-      (subst (λ (d : Option Doing). IsCpu homes buffers seen2 (pass_after pass queue own) talks d number guests2 trace limit capacity) (sym does)
-      (subst (λ (l : List (Option Guest)). IsCpu homes buffers seen2 (pass_after pass queue own) talks None number l trace limit capacity) (sym moved)
+      → own2 ≡ pass_after pass queue own → under_way2 ≡ None → guests2 ≡ passed_by own.current guests pass
+      → IsCpu homes buffers seen2 own2 call_states under_way2 number guests2 trace limit capacity
+  noted_done pass queue seen2 own2 under_way2 guests2 home chose same stays does moved =
+      subst (λ (o : Threads). IsCpu homes buffers seen2 o call_states under_way2 number guests2 trace limit capacity) (sym stays)
+      (subst (λ (d : Option UnderWay). IsCpu homes buffers seen2 (pass_after pass queue own) call_states d number guests2 trace limit capacity) (sym does)
+      (subst (λ (l : List (Option Guest)). IsCpu homes buffers seen2 (pass_after pass queue own) call_states None number l trace limit capacity) (sym moved)
       (case_done pass queue seen2 (pass_case pass home chose) same)))
 
   -- effects of others alone
   pub seen_stays : (seen2 : List Entry) → of_cpu number seen2 ≡ of_cpu number seen
-      → IsCpu homes buffers seen2 own talks doing number guests trace limit capacity
+      → IsCpu homes buffers seen2 own call_states under_way number guests trace limit capacity
   seen_stays seen2 same = record {
     kept = is.kept ∙ ap (λ (l : List Entry). reverse l) (sym same);
     stays = subst (λ (l : List Entry). AllByRecursion (IsOfHome homes number) l) (sym same) is.stays;
-    follow = subst (λ (l : List Entry). AllFollow guests l talks) (sym same) is.follow;
+    follow = subst (λ (l : List Entry). AllFollow guests l call_states) (sym same) is.follow;
     over = is.over;
     homed = is.homed;
     named = is.named;

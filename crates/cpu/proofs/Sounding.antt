@@ -10,7 +10,7 @@ use Rattle.event_log.specs.declared.ids.CpuId.{CpuId}
 use Rattle.event_log.specs.declared.ids.TheConstants.{CPUS, THREADS}
 use Rattle.event_log.specs.declared.ids.Tid.{Tid}
 use Rattle.event_log.specs.Actions.{Action, AreLegal}
-use Rattle.layer_traits.specs.declared.moves.Line.{Line}
+use Rattle.layer_traits.specs.declared.moves.WaitList.{WaitList}
 use Rattle.layer_traits.specs.declared.steps.Reason.{Reason}
 use Rattle.layer_traits.specs.declared.steps.Step.{Step}
 use Rattle.layer_traits.specs.declared.steps.Step.TheVariants.{Stepped, Halted}
@@ -99,24 +99,24 @@ reached_on c s r answer within same went reached setup is =
     (subst (λ (w : Whole). IsReached setup s.room w) next (steps c (reached setup before) (omega (arith, count, within))))
 
 -- what a machine tells
-pub record Told : Type 0 where
+pub record Observed : Type 0 where
   pub caps : List ℕ
   pub homes : List CpuId
   pub seen : List Entry
-  pub lines : BufId → Line → List Tid
+  pub wait_lists : BufId → WaitList → List Tid
   pub owner : BufId → Option Tid
   pub moves : List Moving
   pub acts : List (Action TowerName)
 
-abbrev pub shown_in : Told → List CpuShown → ℕ → ℕ → Shown
-shown_in m cpus room taken = shown_of m.caps m.homes m.seen m.lines m.owner m.moves m.acts cpus room taken
+abbrev pub shown_in : Observed → List CpuShown → ℕ → ℕ → Shown
+shown_in m cpus room taken = shown_of m.caps m.homes m.seen m.wait_lists m.owner m.moves m.acts cpus room taken
 
 -- a step of CPU c, at number k among those that are shown: x became y, and what the machine told before, it tells after; there was room
 -- for so many steps, and so many were taken
 pub record Change (X : Type 0) : Type 0 where
   pub shown : X → CpuShown
-  pub before : Told
-  pub after : Told
+  pub before : Observed
+  pub after : Observed
   pub c : CpuId
   pub cpus : List X
   pub k : ℕ

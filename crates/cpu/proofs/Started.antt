@@ -8,7 +8,7 @@ use Rattle.event_log.specs.declared.ids.CpuId.{CpuId}
 use Rattle.event_log.specs.declared.ids.TheConstants.{THREADS}
 use Rattle.event_log.proofs.ListLemmas.{alike_at}
 use Rattle.guest.specs.State.{State, at_start}
-use Rattle.layer_traits.specs.BufferLaw.{buffering_at_start, quiet}
+use Rattle.layer_traits.specs.BufferLaw.{buffering_at_start, no_call}
 use Rattle.layer_traits.specs.OnePlace.{cpu_at}
 use Rattle.layer_traits.specs.Places.{homed}
 use Rattle.layer_traits.proofs.CountLemmas.{same_cpu_sym}
@@ -38,7 +38,7 @@ homed_is c n (home ∷ homes) =
 -- a thread at boot
 thread_new : (homes : List CpuId) (c : CpuId) (n : ℕ) (guest : State) → guest ≡ at_start → thread_of (buffering_at_start homes c) (tid n) guest ≡ new_thread
 thread_new homes c n guest is =
-    λ i. thread_from (alike_at THREADS n quiet i) (alike_at THREADS n no_buffer i) (alike_at THREADS n no_buffer i) false false (is i)
+    λ i. thread_from (alike_at THREADS n no_call i) (alike_at THREADS n no_buffer i) (alike_at THREADS n no_buffer i) false false (is i)
 
 threads_new : (own : List CpuId) (c : CpuId) (n : ℕ) (guests : List State) (homes : List CpuId) → length guests ≡ length homes
     → ((k : ℕ) → slice_index_or guests k at_start ≡ at_start)

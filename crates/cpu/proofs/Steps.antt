@@ -18,20 +18,20 @@ use Rattle.layer_traits.specs.declared.calls.Call.{Call}
 use Rattle.layer_traits.specs.declared.calls.Call.TheVariants.{Send, Recv, Close}
 use Rattle.layer_traits.specs.declared.calls.Effect.{Effect}
 use Rattle.layer_traits.specs.declared.calls.Reply.{Reply}
-use Rattle.layer_traits.specs.declared.talks.Talk.{Talk}
+use Rattle.layer_traits.specs.declared.call_states.CallState.{CallState}
 use Rattle.layer_traits.specs.Places.{Threads, home_of, one_if}
-use Rattle.layer_traits.specs.BufferLaw.{Called, Calling, Doing, MayGoOn, MayTalk, RunsOn, begun_of, buffer_of, entry_of, still_calling, talk_of}
+use Rattle.layer_traits.specs.BufferLaw.{Called, Calling, UnderWay, MayGoOn, MayPollCall, RunsOn, begun_of, buffer_of, entry_of, still_calling, call_state_of}
 use Rattle.cpu.specs.declared.cpus.Choice.TheVariants.{Polls}
 use Rattle.cpu.specs.declared.guests.Guest.{Guest}
 use Rattle.cpu.specs.declared.guests.GuestStage.{GuestStage}
-use Rattle.cpu.specs.declared.guests.GuestStage.TheVariants.{Between, Begun, Done, Ended}
+use Rattle.cpu.specs.declared.guests.GuestStage.TheVariants.{Idle, Begun, Done, Ended}
 use Rattle.cpu.specs.declared.guests.Todo.{Todo}
 use Rattle.cpu.specs.declared.guests.Todo.TheVariants.{Finish, PassOn, Compute, Calls}
 use Rattle.cpu.specs.Guests.{HasCome, HasComeIn, entries_of, fresh_effect, had, is_begun, is_calling, is_ended, polled, stage_after, todo_at, todo_of}
 use Rattle.cpu.specs.Cpus.{AllFollow, AreOver, IsCpu, IsOfHome, NamesBelow, begins_at, begun_count, is_begun_guest, chosen, chosen_at}
-use Rattle.cpu.specs.Cpus.{chosen_by, chosen_for, chosen_idle, chosen_todo, doing_of, fresh_at, guest_at, of_cpu, of_thread, with_guest}
+use Rattle.cpu.specs.Cpus.{chosen_by, chosen_for, chosen_idle, chosen_todo, under_way_of, fresh_at, guest_at, of_cpu, of_thread, with_guest}
 use Rattle.cpu.proofs.CpuStates.{ValidCpu}
-use Rattle.cpu.proofs.Follow.{answered_by, followed, had_going, may_talk, stays_settled}
+use Rattle.cpu.proofs.Follow.{answered_by, followed, had_going, may_poll_call, stays_settled}
 use Rattle.cpu.proofs.GuestLists.{at_other, at_same, count_with, cpu_grown, guest_within, reversed, room_kept, thread_other, thread_same}
 
 -- what a chosen poll tells: its thread runs, and its guest asks for the call
@@ -81,23 +81,24 @@ polls_is own guests t c is = go own.current refl is
     go (Some u) runs chose = for_polls own guests u t own.hand (guest_at guests u.0) c runs refl chose
 
 -- a guest that asks for a call has not ended
-asks_lives : (g : Guest) (es : List Entry) (talk : Talk) (c : Call) → HasCome g es talk → todo_of g ≡ Calls c → is_ended g.stage ≡ false
-asks_lives g es talk c follows asks = go g.stage follows.1
+asks_lives : (g : Guest) (es : List Entry) (call_state : CallState) (c : Call) → HasCome g es call_state → todo_of g ≡ Calls c → is_ended g.stage ≡ false
+asks_lives g es call_state c follows asks = go g.stage follows.1
   where
-    go : (stage : GuestStage) → HasComeIn stage g.program g.thread es (begun_of talk) talk.effect → is_ended stage ≡ false
-    go Between f = refl
+    go : (stage : GuestStage) → HasComeIn stage g.program g.thread es (begun_of call_state) call_state.effect → is_ended stage ≡ false
+    go Idle f = refl
     go Begun f = refl
     go Done f = refl
     go Ended f =
         let none : Finish ≡ Calls c = sym (ap (λ (i : Instruction). todo_at g.thread i) f.2) ∙ asks in
         absurd (cc none)
 
-begun_for : (g : Guest) (es : List Entry) (talk : Talk) (c : Call) → HasCome g es talk → todo_of g ≡ Calls c
-    → (begun_of talk ≡ None) ⊎ (begun_of talk ≡ Some c)
-begun_for g es talk c follows asks = go g.stage follows.1
+begun_for : (g : Guest) (es : List Entry) (call_state : CallState) (c : Call) → HasCome g es call_state → todo_of g ≡ Calls c
+    → (begun_of call_state ≡ None) ⊎ (begun_of call_state ≡ Some c)
+begun_for g es call_state c follows asks = go g.stage follows.1
   where
-    go : (stage : GuestStage) → HasComeIn stage g.program g.thread es (begun_of talk) talk.effect → (begun_of talk ≡ None) ⊎ (begun_of talk ≡ Some c)
-    go Between f = inl f.0
+    go : (stage : GuestStage) → HasComeIn stage g.program g.thread es (begun_of call_state) call_state.effect
+        → (begun_of call_state ≡ None) ⊎ (begun_of call_state ≡ Some c)
+    go Idle f = inl f.0
     go Begun f = let same : f.0 ≡ c = cc (f.1, asks) in inr (f.2 ∙ ap (λ (x : Call). Some x) same)
     go Done f = let same : f.0 ≡ c = cc (f.2, asks) in inr (f.3 ∙ ap (λ (x : Call). Some x) same)
     go Ended f = inl f.0
@@ -123,50 +124,50 @@ named_buffer (ins.Jnz r k) s c buffers asks named = absurd cc
 
 -- what one poll of a call leaves of a CPU, for whom the machine's holder acts
 pub record PolledCpu (ActsFor : CpuId → Type 0) (cpu : ValidCpu) (t : Tid) (c : Call) : Type 0 where
-  pub talks : List Talk
+  pub call_states : List CallState
   pub seen : List Entry
   pub own : Threads
-  pub doing : Option Doing
+  pub under_way : Option UnderWay
   pub guests : List (Option Guest)
   pub trace : List Entry
   pub capacity : ℕ
   pub answer : Option Reply
   pub acts : ActsFor cpu.number
   pub home : home_of cpu.homes t ≡ Some cpu.number
-  pub called : Called ActsFor cpu.number t c cpu.talks talks cpu.seen seen answer
+  pub called : Called ActsFor cpu.number t c cpu.call_states call_states cpu.seen seen answer
   pub runs_on : RunsOn t cpu.own own answer
-  pub doing_is : doing ≡ still_calling t own.current answer
-  pub guests_is : guests ≡ with_guest cpu.guests t.0 (λ g. polled g ((talk_of talks t).effect) answer)
-  pub trace_is : trace ≡ cpu.trace ++ entries_of cpu.number t (buffer_of c) (fresh_at (guest_at cpu.guests t.0) ((talk_of talks t).effect))
+  pub under_way_is : under_way ≡ still_calling t own.current answer
+  pub guests_is : guests ≡ with_guest cpu.guests t.0 (λ g. polled g ((call_state_of call_states t).effect) answer)
+  pub trace_is : trace ≡ cpu.trace ++ entries_of cpu.number t (buffer_of c) (fresh_at (guest_at cpu.guests t.0) ((call_state_of call_states t).effect))
   -- a call began only where the trace had room for its entry, and the trace's own room is no less
   pub strict : begins_at (guest_at cpu.guests t.0) ≡ true → length cpu.trace + begun_count cpu.guests < cpu.limit
   pub capacity_is : cpu.capacity ≤ capacity
 
 module _ (cpu : ValidCpu) (t : Tid) (c : Call) (chose : chosen cpu.own cpu.guests ≡ Polls t c) where
-  open cpu use {homes, buffers, seen, own, talks, doing, number, guests, trace, limit, capacity, is}
+  open cpu use {homes, buffers, seen, own, call_states, under_way, number, guests, trace, limit, capacity, is}
 
   pub polls_at : PollsAt own guests t c
   polls_at = polls_is own guests t c chose
 
-  follows_at : HasCome polls_at.guest (of_thread t.0 (of_cpu number seen)) (talk_of talks t)
+  follows_at : HasCome polls_at.guest (of_thread t.0 (of_cpu number seen)) (call_state_of call_states t)
   follows_at = is.follow t polls_at.guest polls_at.at
 
   -- what the poll asks for
-  pub poll_talks : MayTalk (talk_of talks t) c
-  poll_talks = may_talk (talk_of talks t) c follows_at.0
-      (begun_for polls_at.guest (of_thread t.0 (of_cpu number seen)) (talk_of talks t) c follows_at polls_at.asks)
+  pub poll_call_states : MayPollCall (call_state_of call_states t) c
+  poll_call_states = may_poll_call (call_state_of call_states t) c follows_at.0
+      (begun_for polls_at.guest (of_thread t.0 (of_cpu number seen)) (call_state_of call_states t) c follows_at polls_at.asks)
 
-  pub poll_goes_on : MayGoOn doing (Calling t)
-  poll_goes_on = go doing refl
+  pub poll_goes_on : MayGoOn under_way (Calling t)
+  poll_goes_on = go under_way refl
     where
-      go : (d : Option Doing) → doing ≡ d → MayGoOn d (Calling t)
+      go : (d : Option UnderWay) → under_way ≡ d → MayGoOn d (Calling t)
       go None at = tt
       go (Some d) at =
-          let agreed : doing_of (chosen own guests) ≡ Some d = is.agrees d at in
-          let calling : Some (Calling t) ≡ Some d = sym (ap doing_of chose) ∙ agreed in
+          let agreed : under_way_of (chosen own guests) ≡ Some d = is.agrees d at in
+          let calling : Some (Calling t) ≡ Some d = sym (ap under_way_of chose) ∙ agreed in
           cc calling
 
-  pub poll_hand : doing ≡ None → own.hand ≡ None
+  pub poll_hand : under_way ≡ None → own.hand ≡ None
   poll_hand none = is.handed t polls_at.runs none
 
   pub poll_buffer : (buffer_of c).0 < buffers
@@ -182,11 +183,20 @@ module _ (cpu : ValidCpu) (t : Tid) (c : Call) (chose : chosen cpu.own cpu.guest
 
   -- What one poll leaves.
   module _ (ActsFor : CpuId → Type 0) (after : PolledCpu ActsFor cpu t c) where
-    open after use {talks as talks2, seen as seen2, own as own2, doing as doing2, guests as guests2, trace as trace2, capacity as capacity2, answer}
-    open after use {acts, home, called, runs_on, doing_is, guests_is, trace_is, strict, capacity_is}
+    open after use {
+      call_states as talks2,
+      seen as seen2,
+      own as own2,
+      under_way as under_way2,
+      guests as guests2,
+      trace as trace2,
+      capacity as capacity2,
+      answer,
+    }
+    open after use {acts, home, called, runs_on, under_way_is, guests_is, trace_is, strict, capacity_is}
 
     abbrev left : Option Effect
-    left = (talk_of talks2 t).effect
+    left = (call_state_of talks2 t).effect
 
     abbrev g : Guest
     g = polls_at.guest
@@ -201,13 +211,13 @@ module _ (cpu : ValidCpu) (t : Tid) (c : Call) (chose : chosen cpu.own cpu.guest
     next = polled g left answer
 
     follow_t : (called.mine ≡ fresh) × HasComeIn next.stage g.program next.thread (new ++ of_thread t.0 (of_cpu number seen))
-        (begun_of (talk_of talks2 t)) left
+        (begun_of (call_state_of talks2 t)) left
     follow_t =
-        let goes = had_going (talk_of talks t) c poll_talks in
+        let goes = had_going (call_state_of call_states t) c poll_call_states in
         followed g.program g.thread (next_of g.program g.thread) c number t refl polls_at.asks g.stage (of_thread t.0 (of_cpu number seen))
-        (begun_of (talk_of talks t)) (begun_of (talk_of talks2 t)) (talk_of talks t).effect left called.mine answer follows_at.1
+        (begun_of (call_state_of call_states t)) (begun_of (call_state_of talks2 t)) (call_state_of call_states t).effect left called.mine answer follows_at.1
         (λ f mine. let of_call = called.fresh f mine in (sym goes ∙ of_call.0, of_call.1, of_call.2))
-        (λ none. called.stays none ∙ goes) (answered_by c (talk_of talks2 t) answer called.answers)
+        (λ none. called.stays none ∙ goes) (answered_by c (call_state_of talks2 t) answer called.answers)
 
     seen_is : seen2 ≡ new ++ (called.others ++ seen)
     seen_is = called.is ∙ ap (λ (x : Option Effect). entries_of number t (buffer_of c) x ++ (called.others ++ seen)) follow_t.0
@@ -247,16 +257,16 @@ module _ (cpu : ValidCpu) (t : Tid) (c : Call) (chose : chosen cpu.own cpu.guest
     stays_with (Some f) = (record { cpu = refl; home = home }, is.stays)
 
     follow_new : AllFollow guests2 (of_cpu number seen2) talks2
-    follow_new = λ (u : Tid) (x : Guest) at. subst (λ (l : List Entry). HasCome x (of_thread u.0 l) (talk_of talks2 u)) (sym mine_is)
-        (each (λ (k : ℕ) (y : Guest). HasCome y (of_thread k (new ++ of_cpu number seen)) (talk_of talks2 (record { 0 = k }))) (
-          stays_settled c (talk_of talks2 t) answer called.answers,
-          subst (λ (l : List Entry). HasComeIn next.stage g.program next.thread l (begun_of (talk_of talks2 t)) left)
+    follow_new = λ (u : Tid) (x : Guest) at. subst (λ (l : List Entry). HasCome x (of_thread u.0 l) (call_state_of talks2 u)) (sym mine_is)
+        (each (λ (k : ℕ) (y : Guest). HasCome y (of_thread k (new ++ of_cpu number seen)) (call_state_of talks2 (record { 0 = k }))) (
+          stays_settled c (call_state_of talks2 t) answer called.answers,
+          subst (λ (l : List Entry). HasComeIn next.stage g.program next.thread l (begun_of (call_state_of talks2 t)) left)
               (sym (thread_same number t (buffer_of c) fresh (of_cpu number seen) t.0 refl)) follow_t.1,
         )
         (λ k y other there.
-        subst (λ (l : List Entry). HasCome y l (talk_of talks2 (record { 0 = k })))
+        subst (λ (l : List Entry). HasCome y l (call_state_of talks2 (record { 0 = k })))
         (sym (thread_other number t (buffer_of c) fresh (of_cpu number seen) k other))
-        (subst (λ (talk : Talk). HasCome y (of_thread k (of_cpu number seen)) talk) (sym (called.apart (record { 0 = k }) other))
+        (subst (λ (call_state : CallState). HasCome y (of_thread k (of_cpu number seen)) call_state) (sym (called.apart (record { 0 = k }) other))
         (is.follow (record { 0 = k }) y there)))
         u.0 x at)
 
@@ -266,7 +276,7 @@ module _ (cpu : ValidCpu) (t : Tid) (c : Call) (chose : chosen cpu.own cpu.guest
         each (λ (k : ℕ) (y : Guest). is_in (record { 0 = k }) own.ended ≡ true → is_ended y.stage ≡ true)
         (λ over.
         let yes = is.over t over g polls_at.at in
-        let no = asks_lives g (of_thread t.0 (of_cpu number seen)) (talk_of talks t) c follows_at polls_at.asks in
+        let no = asks_lives g (of_thread t.0 (of_cpu number seen)) (call_state_of call_states t) c follows_at polls_at.asks in
         absurd (cc (yes, no)))
         (λ k y other there over. is.over (record { 0 = k }) over y there)
         u.0 x at before
@@ -290,11 +300,11 @@ module _ (cpu : ValidCpu) (t : Tid) (c : Call) (chose : chosen cpu.own cpu.guest
     calling_none None = refl
     calling_none (Some f) = refl
 
-    agrees_new : (d : Doing) → doing2 ≡ Some d → doing_of (chosen own2 guests2) ≡ Some d
-    agrees_new d at = go answer own2.current refl refl (sym doing_is ∙ at)
+    agrees_new : (d : UnderWay) → under_way2 ≡ Some d → under_way_of (chosen own2 guests2) ≡ Some d
+    agrees_new d at = go answer own2.current refl refl (sym under_way_is ∙ at)
       where
         go : (a : Option Reply) (current : Option Tid) → answer ≡ a → own2.current ≡ current → still_calling t current a ≡ Some d
-            → doing_of (chosen own2 guests2) ≡ Some d
+            → under_way_of (chosen own2 guests2) ≡ Some d
         go (Some r) None told runs still = absurd (cc still)
         go (Some r) (Some u) told runs still = absurd (cc still)
         go None None told runs still = absurd (cc still)
@@ -308,7 +318,7 @@ module _ (cpu : ValidCpu) (t : Tid) (c : Call) (chose : chosen cpu.own cpu.guest
             ∙ (ap (λ (o : Option Guest). chosen_for u own2.hand o) there
             ∙ (ap (λ (b : Bool). chosen_by u b own2.hand (todo_of g)) (calling_none left)
             ∙ ap (λ (todo : Todo). chosen_todo u todo) polls_at.asks)) in
-            ap doing_of polls ∙ (ap (λ (x : Tid). Some (Calling x)) same ∙ still_is u still)
+            ap under_way_of polls ∙ (ap (λ (x : Tid). Some (Calling x)) same ∙ still_is u still)
           where
             goes_on : (u : Tid) → own2.current ≡ Some u → (own2.current ≡ Some t) ⊎ ((own2.current ≡ None) × (answer ≡ None)) → u ≡ t
             goes_on u runs (inl same) = cc (runs, same)
@@ -317,8 +327,8 @@ module _ (cpu : ValidCpu) (t : Tid) (c : Call) (chose : chosen cpu.own cpu.guest
             still_is : (u : Tid) → still_calling t (Some u) None ≡ Some d → Some (Calling t) ≡ Some d
             still_is u still = still
 
-    calls_new : (u : Tid) (x : Guest) → doing2 ≡ Some (Calling u) → guest_at guests2 u.0 ≡ Some x → is_calling x.stage ≡ true
-    calls_new u x at there = go answer own2.current refl (sym doing_is ∙ at)
+    calls_new : (u : Tid) (x : Guest) → under_way2 ≡ Some (Calling u) → guest_at guests2 u.0 ≡ Some x → is_calling x.stage ≡ true
+    calls_new u x at there = go answer own2.current refl (sym under_way_is ∙ at)
       where
         go : (a : Option Reply) (current : Option Tid) → answer ≡ a → still_calling t current a ≡ Some (Calling u) → is_calling x.stage ≡ true
         go (Some r) None told still = absurd (cc still)
@@ -330,8 +340,8 @@ module _ (cpu : ValidCpu) (t : Tid) (c : Call) (chose : chosen cpu.own cpu.guest
             let equal : next ≡ x = cc (guest_new, here) in
             ap (λ (y : Guest). is_calling y.stage) (sym equal) ∙ (ap (λ (a : Option Reply). is_calling (stage_after left a)) told ∙ calling_none left)
 
-    handed_new : (u : Tid) → own2.current ≡ Some u → doing2 ≡ None → own2.hand ≡ None
-    handed_new u runs none = go answer refl (ap (λ (x : Option Tid). still_calling t x answer) (sym runs) ∙ (sym doing_is ∙ none))
+    handed_new : (u : Tid) → own2.current ≡ Some u → under_way2 ≡ None → own2.hand ≡ None
+    handed_new u runs none = go answer refl (ap (λ (x : Option Tid). still_calling t x answer) (sym runs) ∙ (sym under_way_is ∙ none))
       where
         go : (a : Option Reply) → answer ≡ a → still_calling t (Some u) a ≡ None → own2.hand ≡ None
         go None told still = absurd (cc still)
@@ -352,15 +362,17 @@ module _ (cpu : ValidCpu) (t : Tid) (c : Call) (chose : chosen cpu.own cpu.guest
         has_had : g.stage ≡ Done → left ≢ None
         has_had done none =
             let stale : called.mine ≡ None = follow_t.0 ∙ ap (λ (s : GuestStage). fresh_effect s left) done in
-            let stays : left ≡ had (begun_of (talk_of talks t)) (talk_of talks t).effect = called.stays stale ∙ had_going (talk_of talks t) c poll_talks in
-            let before : HasComeIn Done g.program g.thread (of_thread t.0 (of_cpu number seen)) (begun_of (talk_of talks t)) (talk_of talks t).effect =
-            subst (λ (s : GuestStage). HasComeIn s g.program g.thread (of_thread t.0 (of_cpu number seen)) (begun_of (talk_of talks t))
-            (talk_of talks t).effect) done follows_at.1 in
-            let some : had (begun_of (talk_of talks t)) (talk_of talks t).effect ≡ (talk_of talks t).effect = ap
-            (λ (x : Option Call). had x (talk_of talks t).effect) before.3 in
+            let stays : left ≡ had (begun_of (call_state_of call_states t)) (call_state_of call_states t).effect = called.stays stale
+            ∙ had_going (call_state_of call_states t) c poll_call_states in
+            let before : HasComeIn Done g.program g.thread (of_thread t.0 (of_cpu number seen)) (begun_of (call_state_of call_states t))
+            (call_state_of call_states t).effect =
+            subst (λ (s : GuestStage). HasComeIn s g.program g.thread (of_thread t.0 (of_cpu number seen)) (begun_of (call_state_of call_states t))
+            (call_state_of call_states t).effect) done follows_at.1 in
+            let some : had (begun_of (call_state_of call_states t)) (call_state_of call_states t).effect ≡ (call_state_of call_states t).effect = ap
+            (λ (x : Option Call). had x (call_state_of call_states t).effect) before.3 in
             absurd (cc (none, stays, some, before.4))
 
-    pub noted_call : IsCpu homes buffers seen2 own2 talks2 doing2 number guests2 trace2 limit capacity2
+    pub noted_call : IsCpu homes buffers seen2 own2 talks2 under_way2 number guests2 trace2 limit capacity2
     noted_call = record {
       kept = kept_new;
       stays = subst (λ (l : List Entry). AllByRecursion (IsOfHome homes number) l) (sym mine_is) (stays_with fresh);

@@ -1,4 +1,4 @@
--- The clauses of a CPU's calls on the table, from those of the layer: its part tells its threads and its talks.
+-- The clauses of a CPU's calls on the table, from those of the layer: its part tells its threads and its call states.
 use Rattle.std.proofs.Common.{◌≡◌, ℕ, Bool, true, false, List, ◌++◌, slice_get, Option}
 use Rattle.std.proofs.Common.{Some, None, IsSome, is_some, option_map, if◌then◌else◌, refl, ap, sym, ◌∙◌, subst}
 use Rattle.std.proofs.lemmas.Bool.{lt-ltb}
@@ -14,14 +14,15 @@ use Rattle.layer_traits.specs.declared.calls.Reply.TheVariants.{NoBuffer}
 use Rattle.layer_traits.specs.declared.passes.Pass.{Pass}
 use Rattle.layer_traits.specs.declared.steps.Reason.{Reason}
 use Rattle.layer_traits.specs.declared.steps.Step.TheVariants.{Stepped, Halted}
-use Rattle.layer_traits.specs.declared.talks.Talk.{Talk}
+use Rattle.layer_traits.specs.declared.call_states.CallState.{CallState}
 use Rattle.layer_traits.specs.Along.{IsStep}
 use Rattle.layer_traits.specs.Looks.{Tries}
 use Rattle.layer_traits.specs.Passes.{PassPolled, pass_after}
 use Rattle.layer_traits.specs.Places.{AreMoves, Hand, Home, Asleep, Pend, Stands, Step, Threads, Where}
 use Rattle.layer_traits.specs.Places.{home_of, is_hand, is_home, is_thread, pending_by, where_is}
 use Rattle.layer_traits.specs.Plans.{Follows, Now, is_in_section}
-use Rattle.layer_traits.specs.BufferLaw.{Buffering, Doing, buffer_of, buffering_at_start, fifo_pass_plan, fifo_plan, still_calling, still_passing, talk_of}
+use Rattle.layer_traits.specs.BufferLaw.{Buffering, UnderWay, buffer_of, buffering_at_start}
+use Rattle.layer_traits.specs.BufferLaw.{fifo_pass_plan, fifo_plan, still_calling, still_passing, call_state_of}
 use Rattle.event_log.specs.declared.ids.LockId.TheVariants.{Pending, Buffer as AtBuffer}
 use Rattle.layer_traits.specs.declared.queue_edits.QueueBlock.TheVariants.{Above}
 use Rattle.layer_traits.specs.BufferEffects.{fresh_lock}
@@ -61,12 +62,12 @@ hand_known homes c moves own stands lawful u has =
     away_known homes moves u lawful (hand_away c (where_is homes moves u) (sym (stands.hand u) ∙ (ap (is_thread u) has ∙ same_tid_self u)))
 
 -- also where another machine has the same homes
-pub hand_kept : (homes now : List CpuId) (c : CpuId) (moves : List Step) (own : Threads) → now ≡ homes → Stands now c moves own → AreMoves now moves
+pub hand_preserved : (homes now : List CpuId) (c : CpuId) (moves : List Step) (own : Threads) → now ≡ homes → Stands now c moves own → AreMoves now moves
     → (u : Tid) → own.hand ≡ Some u → IsSome (slice_get homes u.0)
-hand_kept homes now c moves own same stands lawful u has = subst (λ h. IsSome (slice_get h u.0)) same (hand_known now c moves own stands lawful u has)
+hand_preserved homes now c moves own same stands lawful u has = subst (λ h. IsSome (slice_get h u.0)) same (hand_known now c moves own stands lawful u has)
 
--- a CPU whose part tells its whole state besides its threads and its talks, and its own number
-pub record ToldCpu : Type 0 where
+-- a CPU whose part tells its whole state besides its threads and its call states, and its own number
+pub record ObservedCpu : Type 0 where
   pub cpu : ValidCpu
   pub open cpu use *
   pub caps : List ℕ
@@ -74,27 +75,27 @@ pub record ToldCpu : Type 0 where
   pub opening : LockId → Option TowerBlock
   pub part_of : CpuId
   pub number_is : part_of ≡ number
-  pub tells : (threads_in part ≡ own) × (part.talks ≡ talks)
-  pub tabled : IsTabled homes caps number part doing guests opening
+  pub reads_own : (threads_in part ≡ own) × (part.call_states ≡ call_states)
+  pub tabled : IsTabled homes caps number part under_way guests opening
   pub home : (u : Tid) → own.current ≡ Some u → home_of homes u ≡ Some number
 
 -- the machine's holder acts for such a CPU
-pub record ToldOutset (ActsFor : CpuId → Type 0) (told : ToldCpu) (old : List (Action TowerName)) : Type 0 where
+pub record ObservedOutset (ActsFor : CpuId → Type 0) (told : ObservedCpu) (old : List (Action TowerName)) : Type 0 where
   pub inside : Bool
   pub acts : ActsFor told.number
-  pub rests : told.doing ≡ None → inside ≡ false
+  pub idle : told.under_way ≡ None → inside ≡ false
   pub busy : inside ≡ is_in_section (phase told.part_of old)
   pub known : (u : Tid) → told.own.hand ≡ Some u → IsSome (slice_get told.homes u.0)
 
 -- what one poll of a call leaves of such a CPU
-pub record ToldPoll (ActsFor : CpuId → Type 0) (told : ToldCpu) (t : Tid) (c : Call) (old : List (Action TowerName)) : Type 0 where
+pub record ObservedPoll (ActsFor : CpuId → Type 0) (told : ObservedCpu) (t : Tid) (c : Call) (old : List (Action TowerName)) : Type 0 where
   pub homes : List CpuId
   pub homes_are : homes ≡ told.homes
   pub part : Buffering
   pub own : Threads
-  pub talks : List Talk
-  pub tells : (threads_in part ≡ own) × (part.talks ≡ talks)
-  pub doing : Option Doing
+  pub call_states : List CallState
+  pub reads_own : (threads_in part ≡ own) × (part.call_states ≡ call_states)
+  pub under_way : Option UnderWay
   pub guests : List (Option Guest)
   pub trace : List Entry
   pub new : List (Action TowerName)
@@ -103,18 +104,18 @@ pub record ToldPoll (ActsFor : CpuId → Type 0) (told : ToldCpu) (t : Tid) (c :
   pub follows : Follows ActsFor tower told.opening told.part_of (ipc_plan told.buffers homes told.part_of t c told.part) old new
       (record { own = part; answer = result })
   pub ended_is : own.ended ≡ told.own.ended
-  pub doing_is : doing ≡ still_calling t own.current result
-  pub guests_is : guests ≡ with_guest told.guests t.0 (λ x. polled x ((talk_of talks t).effect) result)
-  pub trace_is : trace ≡ told.trace ++ entries_of told.number t (buffer_of c) (fresh_at (guest_at told.guests t.0) ((talk_of talks t).effect))
+  pub under_way_is : under_way ≡ still_calling t own.current result
+  pub guests_is : guests ≡ with_guest told.guests t.0 (λ x. polled x ((call_state_of call_states t).effect) result)
+  pub trace_is : trace ≡ told.trace ++ entries_of told.number t (buffer_of c) (fresh_at (guest_at told.guests t.0) ((call_state_of call_states t).effect))
 
 -- what one poll of a pass leaves of it
-pub record ToldPass (ActsFor : CpuId → Type 0) (told : ToldCpu) (pass : Pass) (old : List (Action TowerName)) : Type 0 where
+pub record ObservedPass (ActsFor : CpuId → Type 0) (told : ObservedCpu) (pass : Pass) (old : List (Action TowerName)) : Type 0 where
   pub homes : List CpuId
   pub homes_are : homes ≡ told.homes
   pub part : Buffering
   pub own : Threads
-  pub tells : threads_in part ≡ own
-  pub doing : Option Doing
+  pub reads_own : threads_in part ≡ own
+  pub under_way : Option UnderWay
   pub guests : List (Option Guest)
   pub new : List (Action TowerName)
   pub result : Option (Unit {0})
@@ -124,12 +125,12 @@ pub record ToldPass (ActsFor : CpuId → Type 0) (told : ToldCpu) (pass : Pass) 
   pub follows : Follows ActsFor tower told.opening told.part_of (fifo_pass_plan homes told.part_of pass told.part) old new
       (record { own = part; answer = result })
   pub passed : PassPolled told.homes ActsFor told.part_of pass result before after told.own own
-  pub doing_is : doing ≡ still_passing pass result
+  pub under_way_is : under_way ≡ still_passing pass result
   pub guests_is : guests ≡ (if is_some result then passed_by told.own.current told.guests pass else told.guests)
 
-module _ (told : ToldCpu) where
-  open told use {homes, caps, buffers, seen, part, own as threads, talks, doing, part_of, number, guests, trace, limit, capacity, opening}
-  open told use {number_is, tells, is, tabled, home}
+module _ (told : ObservedCpu) where
+  open told use {homes, caps, buffers, seen, part, own as threads, call_states, under_way, part_of, number, guests, trace, limit, capacity, opening}
+  open told use {number_is, reads_own, is, tabled, home}
 
   abbrev tabled_cpu : TabledCpu
   tabled_cpu = record {
@@ -137,59 +138,59 @@ module _ (told : ToldCpu) where
     caps = caps;
     own = part;
     opening = opening;
-    is = subst (λ x. x) (λ i. IsCpu homes buffers seen (sym tells.0 i) (sym tells.1 i) doing number guests trace limit capacity) is;
+    is = subst (λ x. x) (λ i. IsCpu homes buffers seen (sym reads_own.0 i) (sym reads_own.1 i) under_way number guests trace limit capacity) is;
     tabled = tabled;
-    home = λ u runs. home u (sym (ap (λ (x : Threads). x.current) tells.0) ∙ runs);
+    home = λ u runs. home u (sym (ap (λ (x : Threads). x.current) reads_own.0) ∙ runs);
   }
 
   -- the table halts the CPU for the reason that it has
-  pub halted_told : (setup : Setup) → IsSetupOf setup homes caps guests limit
+  pub halted_read : (setup : Setup) → IsSetupOf setup homes caps guests limit
       → table_halted setup number (private part guests trace) ≡ halted_at threads guests trace limit
-  halted_told setup of = halted_same tabled_cpu setup of ∙ ap (λ (x : Threads). halted_at x guests trace limit) tells.0
+  halted_read setup of = halted_same tabled_cpu setup of ∙ ap (λ (x : Threads). halted_at x guests trace limit) reads_own.0
 
   halted_own : (inside : Bool) (reason : Option Reason) → reason_in inside (halted_at threads guests trace limit) ≡ reason
       → reason_in inside (halted_at (threads_in part) guests trace limit) ≡ reason
-  halted_own inside reason so = ap (λ (x : Threads). reason_in inside (halted_at x guests trace limit)) tells.0 ∙ so
+  halted_own inside reason so = ap (λ (x : Threads). reason_in inside (halted_at x guests trace limit)) reads_own.0 ∙ so
 
-  module _ (ActsFor : CpuId → Type 0) (old : List (Action TowerName)) (outset : ToldOutset ActsFor told old) where
+  module _ (ActsFor : CpuId → Type 0) (old : List (Action TowerName)) (outset : ObservedOutset ActsFor told old) where
     abbrev outset_own : Outset ActsFor tabled_cpu old
     outset_own = record {
       inside = outset.inside;
       acts = outset.acts;
-      rests = outset.rests;
+      idle = outset.idle;
       busy = outset.busy ∙ ap (λ d. is_in_section (phase d old)) number_is;
-      known = λ u has. outset.known u (sym (ap (λ (x : Threads). x.hand) tells.0) ∙ has);
+      known = λ u has. outset.known u (sym (ap (λ (x : Threads). x.hand) reads_own.0) ∙ has);
     }
 
     -- a poll of a call
     module _ (t : Tid) (c : Call) (chose : chosen threads guests ≡ Polls t c)
-        (live : reason_in outset.inside (halted_at threads guests trace limit) ≡ None) (after : ToldPoll ActsFor told t c old) where
+        (live : reason_in outset.inside (halted_at threads guests trace limit) ≡ None) (after : ObservedPoll ActsFor told t c old) where
       chose_own : chosen (threads_in part) guests ≡ Polls t c
-      chose_own = ap (λ (x : Threads). chosen x guests) tells.0 ∙ chose
+      chose_own = ap (λ (x : Threads). chosen x guests) reads_own.0 ∙ chose
 
       abbrev poll_own : TabledPoll ActsFor tabled_cpu t c old
       poll_own = record {
         own = after.part;
-        doing = after.doing;
+        under_way = after.under_way;
         guests = after.guests;
         trace = after.trace;
         new = after.new;
         result = after.result;
-        known = λ u has. after.known u (sym (ap (λ (x : Threads). x.hand) after.tells.0) ∙ has);
+        known = λ u has. after.known u (sym (ap (λ (x : Threads). x.hand) after.reads_own.0) ∙ has);
         follows =
             subst (λ p. Follows ActsFor tower opening number p old after.new (record { own = after.part; answer = after.result }))
             (ap (λ b. if b then fifo_plan homes number t c part else Now (record { own = part; answer = Some NoBuffer }))
             (lt-ltb (buffer_of c).0 buffers (poll_buffer (valid tabled_cpu) t c chose_own)))
             (subst (λ x. x) (λ i. Follows ActsFor tower opening (number_is i) (ipc_plan buffers (after.homes_are i) (number_is i) t c part) old after.new
             (record { own = after.part; answer = after.result })) after.follows);
-        ended_is = ap (λ (x : Threads). x.ended) after.tells.0 ∙ (after.ended_is ∙ sym (ap (λ (x : Threads). x.ended) tells.0));
-        doing_is = after.doing_is ∙ sym (ap (λ (x : Threads). still_calling t x.current after.result) after.tells.0);
-        guests_is = after.guests_is ∙ sym (ap (λ k. with_guest guests t.0 (λ x. polled x ((talk_of k t).effect) after.result)) after.tells.1);
+        ended_is = ap (λ (x : Threads). x.ended) after.reads_own.0 ∙ (after.ended_is ∙ sym (ap (λ (x : Threads). x.ended) reads_own.0));
+        under_way_is = after.under_way_is ∙ sym (ap (λ (x : Threads). still_calling t x.current after.result) after.reads_own.0);
+        guests_is = after.guests_is ∙ sym (ap (λ k. with_guest guests t.0 (λ x. polled x ((call_state_of k t).effect) after.result)) after.reads_own.1);
         trace_is = after.trace_is
-            ∙ sym (ap (λ k. trace ++ entries_of number t (buffer_of c) (fresh_at (guest_at guests t.0) ((talk_of k t).effect))) after.tells.1);
+            ∙ sym (ap (λ k. trace ++ entries_of number t (buffer_of c) (fresh_at (guest_at guests t.0) ((call_state_of k t).effect))) after.reads_own.1);
       }
 
-      pub call_tabled : IsTabled homes caps number after.part after.doing after.guests opening
+      pub call_tabled : IsTabled homes caps number after.part after.under_way after.guests opening
       call_tabled = poll_tabled tabled_cpu t c chose_own ActsFor old outset_own (halted_own outset.inside None live) poll_own
 
       pub call_steps : WentByTable ActsFor homes caps number limit part after.part guests after.guests trace after.trace old after.new Stepped
@@ -197,16 +198,16 @@ module _ (told : ToldCpu) where
 
     -- a poll of a pass
     module _ (pass : Pass) (chose : chosen threads guests ≡ Passes pass)
-        (live : reason_in outset.inside (halted_at threads guests trace limit) ≡ None) (after : ToldPass ActsFor told pass old) where
+        (live : reason_in outset.inside (halted_at threads guests trace limit) ≡ None) (after : ObservedPass ActsFor told pass old) where
       chose_pass : chosen (threads_in part) guests ≡ Passes pass
-      chose_pass = ap (λ (x : Threads). chosen x guests) tells.0 ∙ chose
+      chose_pass = ap (λ (x : Threads). chosen x guests) reads_own.0 ∙ chose
 
       abbrev queue : List Tid
       queue = pending_by (after.passed.others ++ after.before) part_of
 
       threads_own : threads_in after.part ≡ threads_if (threads_in part) pass queue after.result
       threads_own =
-          go after.result (after.tells ∙ (after.passed.after ∙ sym (ap (λ x. if is_some after.result then pass_after pass queue x else x) tells.0)))
+          go after.result (after.reads_own ∙ (after.passed.after ∙ sym (ap (λ x. if is_some after.result then pass_after pass queue x else x) reads_own.0)))
         where
           go : (r : Option (Unit {0})) → threads_in after.part ≡ (if is_some r then pass_after pass queue (threads_in part) else threads_in part)
               → threads_in after.part ≡ threads_if (threads_in part) pass queue r
@@ -216,7 +217,7 @@ module _ (told : ToldCpu) where
       guests_pass : after.guests ≡ passed_if (threads_in part).current guests pass after.result
       guests_pass =
           go after.result
-          (after.guests_is ∙ sym (ap (λ (x : Threads). if is_some after.result then passed_by x.current guests pass else guests) tells.0))
+          (after.guests_is ∙ sym (ap (λ (x : Threads). if is_some after.result then passed_by x.current guests pass else guests) reads_own.0))
         where
           go : (r : Option (Unit {0})) → after.guests ≡ (if is_some r then passed_by (threads_in part).current guests pass else guests)
               → after.guests ≡ passed_if (threads_in part).current guests pass r
@@ -226,22 +227,22 @@ module _ (told : ToldCpu) where
       abbrev pass_own : TabledPass ActsFor tabled_cpu pass old
       pass_own = record {
         own = after.part;
-        doing = after.doing;
+        under_way = after.under_way;
         guests = after.guests;
         new = after.new;
         result = after.result;
         queue = queue;
-        known = λ u has. after.known u (sym (ap (λ (x : Threads). x.hand) after.tells) ∙ has);
+        known = λ u has. after.known u (sym (ap (λ (x : Threads). x.hand) after.reads_own) ∙ has);
         follows =
             subst (λ x. x) (λ i. Follows ActsFor tower opening (number_is i) (fifo_pass_plan (after.homes_are i) (number_is i) pass part) old after.new
             (record { own = after.part; answer = after.result })) after.follows;
         threads_are = threads_own;
-        doing_is = after.doing_is;
+        under_way_is = after.under_way_is;
         at_once = after.passed.at_once;
         guests_are = guests_pass;
       }
 
-      pub passed_tabled : IsTabled homes caps number after.part after.doing after.guests opening
+      pub passed_tabled : IsTabled homes caps number after.part after.under_way after.guests opening
       passed_tabled = pass_tabled tabled_cpu pass chose_pass ActsFor old pass_own
 
       pub passed_steps : WentByTable ActsFor homes caps number limit part after.part guests after.guests trace trace old after.new Stepped
@@ -251,7 +252,8 @@ module _ (told : ToldCpu) where
     pub computed_steps : (t : Tid) → chosen threads guests ≡ Computes t → reason_in outset.inside (halted_at threads guests trace limit) ≡ None
         → WentByTable ActsFor homes caps number limit part part guests (with_guest guests t.0 computed) trace trace old old Stepped
     computed_steps t chose live setup of =
-        compute_steps tabled_cpu t (ap (λ (x : Threads). chosen x guests) tells.0 ∙ chose) ActsFor old outset_own (halted_own outset.inside None live) setup of
+        compute_steps tabled_cpu t (ap (λ (x : Threads). chosen x guests) reads_own.0
+        ∙ chose) ActsFor old outset_own (halted_own outset.inside None live) setup of
 
     -- no step
     pub stopped_steps : (reason : Reason) → reason_in outset.inside (halted_at threads guests trace limit) ≡ Some reason
@@ -266,10 +268,10 @@ module _ (told : ToldCpu) where
         answers_so setup number (private part guests trace) (named old) outset.inside (halted_at (threads_in part) guests trace limit)
         (outset_own.busy ∙ sym (ap is_in_section (phase_renamed name_of number old)))
         (halted_same tabled_cpu setup of)
-        ∙ ap (λ (x : Threads). step_answer (reason_in outset.inside (halted_at x guests trace limit))) tells.0
+        ∙ ap (λ (x : Threads). step_answer (reason_in outset.inside (halted_at x guests trace limit))) reads_own.0
 
-  pub computed_tabled : (t : Tid) → chosen threads guests ≡ Computes t → IsTabled homes caps number part doing (with_guest guests t.0 computed) opening
-  computed_tabled t chose = compute_tabled tabled_cpu t (ap (λ (x : Threads). chosen x guests) tells.0 ∙ chose)
+  pub computed_tabled : (t : Tid) → chosen threads guests ≡ Computes t → IsTabled homes caps number part under_way (with_guest guests t.0 computed) opening
+  computed_tabled t chose = compute_tabled tabled_cpu t (ap (λ (x : Threads). chosen x guests) reads_own.0 ∙ chose)
 
 -- a look
 pub looked_steps : (ActsFor : CpuId → Type 0) (homes : List CpuId) (caps : List ℕ) (cpu number : CpuId) (limit : ℕ) (own own2 : Buffering)

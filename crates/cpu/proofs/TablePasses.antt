@@ -19,19 +19,19 @@ use Rattle.layer_traits.specs.declared.passes.Pass.{Pass}
 use Rattle.layer_traits.specs.declared.passes.Pass.TheVariants.{Switch, YieldNow, Drain, MakeReady, End}
 use Rattle.layer_traits.specs.declared.steps.Reason.{Reason}
 use Rattle.layer_traits.specs.declared.steps.Step.TheVariants.{Stepped, Halted}
-use Rattle.layer_traits.specs.declared.talks.Stage.TheVariants as at_stage
-use Rattle.layer_traits.specs.declared.talks.Talk.{Talk}
+use Rattle.layer_traits.specs.declared.call_states.Stage.TheVariants as at_stage
+use Rattle.layer_traits.specs.declared.call_states.CallState.{CallState}
 use Rattle.layer_traits.specs.Along.{IsStep}
 use Rattle.layer_traits.specs.Passes.{IsLocalPass, as_list, pass_after, switched}
 use Rattle.layer_traits.specs.Places.{Threads}
 use Rattle.layer_traits.specs.Plans.{Left, Follows, is_in_section}
-use Rattle.layer_traits.specs.BufferLaw.{Buffering, Doing, Passing, begun_of, fifo_pass_plan, still_passing, talk_of}
+use Rattle.layer_traits.specs.BufferLaw.{Buffering, UnderWay, Passing, begun_of, fifo_pass_plan, still_passing, call_state_of}
 use Rattle.cpu.specs.declared.cpus.Choice.TheVariants.{Passes, Computes}
 use Rattle.cpu.specs.declared.guests.Guest.{Guest}
 use Rattle.cpu.specs.declared.guests.Todo.{Todo}
 use Rattle.cpu.specs.declared.guests.Todo.TheVariants.{Finish, PassOn, Compute, Calls}
 use Rattle.cpu.specs.Guests.{after_pass, computed, ended, is_calling, passed, todo_at, todo_of}
-use Rattle.cpu.specs.Cpus.{chosen, chosen_at, chosen_by, chosen_for, chosen_todo, doing_of, guest_at}
+use Rattle.cpu.specs.Cpus.{chosen, chosen_at, chosen_by, chosen_for, chosen_todo, under_way_of, guest_at}
 use Rattle.cpu.specs.Cpus.{halted_at as cpu_halted, of_cpu, of_thread, passed_by, reason_in, with_guest}
 use Rattle.cpu.specs.Table.Setups.{Setup, Call as TableCall, Private, thread_at}
 use Rattle.cpu.specs.Table.Choice.{Alone, Goes, at_instruction, at_ready, choice, ends, with_guest as with_state}
@@ -39,7 +39,7 @@ use Rattle.cpu.specs.Table.Steps.{cpu_step, halted_at as table_halted}
 use Rattle.cpu.specs.Tower.Views.{TowerName, name_of, tower}
 use Rattle.cpu.specs.Tower.Privates.{guests_passed, private_of, private_passed, threads_in}
 use Rattle.cpu.specs.Tower.Composed.{HandIsKnown, IsLine, OpensAs, named}
-use Rattle.cpu.specs.Tower.Standing.{IsPart}
+use Rattle.cpu.specs.Tower.Positions.{IsPart}
 use Rattle.cpu.specs.Tables.{IsSetupOf, IsTabled, private, state_of, states}
 use Rattle.cpu.proofs.CpuStates.{TabledCpu, Outset, valid}
 use Rattle.cpu.proofs.GuestLists.{guest_within}
@@ -48,7 +48,7 @@ use Rattle.cpu.proofs.TableRows.{call_is, call_of, guest_there, halted_same, sta
 use Rattle.cpu.proofs.TablePolls.{not_halted_so, opens_as, tabled_same, tabled_with}
 use Rattle.cpu.proofs.Tower.Chains.{put_same}
 use Rattle.cpu.proofs.Tower.Numbered.{own_at}
-use Rattle.cpu.proofs.Tower.Passed.{ComesTo, at_rest, kept_none, pass_rest, passed_part, with_threads}
+use Rattle.cpu.proofs.Tower.Passed.{ComesTo, at_rest, deferred_none, pass_rest, passed_part, with_threads}
 use Rattle.cpu.proofs.Tower.Passing.{computed_now, drain_line, ended_now, make_ready_line, switched_now, yield_line}
 use Rattle.cpu.proofs.Tower.Polls.{alone_is_step, choice_current, choice_hand, choice_idle, halted_is_step, line_is_step, step_goes}
 
@@ -81,9 +81,9 @@ never_sends t s Finish is = absurd (cc is)
 never_sends t s PassOn is = absurd (cc is)
 never_sends t s Compute is = absurd (cc is)
 
--- a talk between calls has begun none
-unbegun : (f : Call → TableCall) (talk : Talk) → talk.stage ≡ at_stage.Between → option_map f (begun_of talk) ≡ None
-unbegun f talk between = ap (λ s. option_map f (begun_of (record talk { stage = s }))) between
+-- a call state between calls has begun none
+unbegun : (f : Call → TableCall) (call_state : CallState) → call_state.stage ≡ at_stage.Idle → option_map f (begun_of call_state) ≡ None
+unbegun f call_state at_idle = ap (λ s. option_map f (begun_of (record call_state { stage = s }))) at_idle
 
 -- the states of the guests, where one guest changed
 states_changed : (guests : List (Option Guest)) (t : ℕ) (f : Guest → Guest) (g : Guest) → guest_at guests t ≡ Some g
@@ -111,7 +111,7 @@ threads_if threads pass queue (Some x) = pass_after pass queue threads
 -- what one poll of a pass leaves of a CPU
 pub record TabledPass (ActsFor : CpuId → Type 0) (cpu : TabledCpu) (pass : Pass) (old : List (Action TowerName)) : Type 0 where
   pub own : Buffering
-  pub doing : Option Doing
+  pub under_way : Option UnderWay
   pub guests : List (Option Guest)
   pub new : List (Action TowerName)
   pub result : Option (Unit {0})
@@ -120,28 +120,29 @@ pub record TabledPass (ActsFor : CpuId → Type 0) (cpu : TabledCpu) (pass : Pas
   pub follows : Follows ActsFor tower cpu.opening cpu.number (fifo_pass_plan cpu.homes cpu.number pass cpu.own) old new
       (record { own = own; answer = result })
   pub threads_are : threads_in own ≡ threads_if (threads_in cpu.own) pass queue result
-  pub doing_is : doing ≡ still_passing pass result
+  pub under_way_is : under_way ≡ still_passing pass result
   pub at_once : IsLocalPass pass → IsSome result
   pub guests_are : guests ≡ passed_if (threads_in cpu.own).current cpu.guests pass result
 
 module _ (cpu : TabledCpu) where
-  open cpu use {homes, caps, seen, own, doing, number, guests, trace, limit, opening, is, tabled, home}
+  open cpu use {homes, caps, seen, own, under_way, number, guests, trace, limit, opening, is, tabled, home}
 
   abbrev p : Private
   p = private own guests trace
 
   -- a thread that runs and is in no call
-  free_between : (t : Tid) (g : Guest) → guest_at guests t.0 ≡ Some g → is_calling g.stage ≡ false → (talk_of own.talks t).stage ≡ at_stage.Between
-  free_between t g at free =
+  free_at_idle : (t : Tid) (g : Guest) → guest_at guests t.0 ≡ Some g → is_calling g.stage ≡ false → (call_state_of own.call_states t).stage ≡ at_stage.Idle
+  free_at_idle t g at free =
       let follows = is.follow t g at in
-      let none = call_is g.stage g.program g.thread (of_thread t.0 (of_cpu number seen)) (begun_of (talk_of own.talks t))
-      (talk_of own.talks t).effect follows.1 ∙ free in
-      follows.0 (none_of (begun_of (talk_of own.talks t)) none)
+      let none = call_is g.stage g.program g.thread (of_thread t.0 (of_cpu number seen)) (begun_of (call_state_of own.call_states t))
+      (call_state_of own.call_states t).effect follows.1 ∙ free in
+      follows.0 (none_of (begun_of (call_state_of own.call_states t)) none)
 
   not_calling : (t : Tid) (g : Guest) (todo : Todo) → guest_at guests t.0 ≡ Some g → todo_of g ≡ todo → ((c : Call) → todo ≡ Calls c → ⊥)
       → is_calling g.stage ≡ false
   not_calling t g todo at asks none =
-      (in_no_call g (of_thread t.0 (of_cpu number seen)) (begun_of (talk_of own.talks t)) (talk_of own.talks t).effect todo (is.follow t g at).1 asks none).0
+      (in_no_call g (of_thread t.0 (of_cpu number seen)) (begun_of (call_state_of own.call_states t)) (call_state_of own.call_states t).effect todo
+      (is.follow t g at).1 asks none).0
 
   -- a thread in the hand is sent where nobody runs
   sends_alone : (s t : Tid) (g : Guest) → (threads_in own).current ≡ Some t → (threads_in own).hand ≡ Some s → guest_at guests t.0 ≡ Some g
@@ -154,7 +155,7 @@ module _ (cpu : TabledCpu) where
       by_calling : (b : Bool) → is_calling g.stage ≡ b → chosen_by t (is_calling g.stage) (threads_in own).hand (todo_of g) ≡ Passes (MakeReady s) → ⊥
       by_calling true calling sends = never_sends t s (todo_of g) (sym (ap (λ x. chosen_by t x (threads_in own).hand (todo_of g)) calling) ∙ sends)
       by_calling false calling sends =
-          let rest = at_rest _ _ _ _ _ _ (tabled.part.mine t runs) (free_between t g at calling) in
+          let rest = at_rest _ _ _ _ _ _ (tabled.part.mine t runs) (free_at_idle t g at calling) in
           let no : Some s ≡ None = sym has ∙ rest.hand in
           absurd (cc no)
 
@@ -171,8 +172,8 @@ module _ (cpu : TabledCpu) where
 
   module _ (pass : Pass) (chose : chosen (threads_in own) guests ≡ Passes pass) (ActsFor : CpuId → Type 0) (old : List (Action TowerName))
       (after : TabledPass ActsFor cpu pass old) where
-    open after use {own as own2, doing as doing2, guests as guests2, new, result, queue}
-    open after use {known as known2, follows, threads_are, doing_is, at_once, guests_are}
+    open after use {own as own2, under_way as under_way2, guests as guests2, new, result, queue}
+    open after use {known as known2, follows, threads_are, under_way_is, at_once, guests_are}
 
     abbrev case_is : Case pass
     case_is = pass_case (valid cpu) pass home chose
@@ -188,8 +189,8 @@ module _ (cpu : TabledCpu) where
         go None = tabled.part
         go (Some x) = passed_part own tabled.part pass queue (comes pass case_is chose)
 
-    quick2 : (q : Pass) → doing2 ≡ Some (Passing q) → IsLocalPass q → ⊥
-    quick2 q does local = passing_none pass q result at_once (sym doing_is ∙ does) local
+    quick2 : (q : Pass) → under_way2 ≡ Some (Passing q) → IsLocalPass q → ⊥
+    quick2 q does local = passing_none pass q result at_once (sym under_way_is ∙ does) local
 
     over_so : (u : Tid) → is_in u (threads_in own).ended ≡ true → is_in u (threads_if (threads_in own) pass queue result).ended ≡ true
         → is_in u (threads_in own2).ended ≡ true
@@ -198,49 +199,49 @@ module _ (cpu : TabledCpu) where
     ended_more : (u t : Tid) → is_in u (threads_in own).ended ≡ true → is_in u ((threads_in own).ended ++ t ∷ []) ≡ true
     ended_more u t before = pushed_in u t (threads_in own).ended ∙ ap (λ b. b || (same_tid u t || false)) before
 
-    pub pass_tabled : IsTabled homes caps number own2 doing2 guests2 opening
-    pass_tabled = subst (λ (l : List (Option Guest)). IsTabled homes caps number own2 doing2 l opening) (sym guests_are) (go result threads_are)
+    pub pass_tabled : IsTabled homes caps number own2 under_way2 guests2 opening
+    pass_tabled = subst (λ (l : List (Option Guest)). IsTabled homes caps number own2 under_way2 l opening) (sym guests_are) (go result threads_are)
       where
         abbrev_same : (u : Tid) (x : Threads) → threads_in own2 ≡ x → x.ended ≡ (threads_in own).ended → is_in u (threads_in own).ended ≡ true
             → is_in u (threads_in own2).ended ≡ true
         abbrev_same u x same ended_same before = subst (λ l. is_in u l ≡ true) (sym (ap (λ (y : Threads). y.ended) same ∙ ended_same)) before
 
         idle : (x : Threads) → threads_in own2 ≡ x → x.ended ≡ (threads_in own).ended → (threads_in own).current ≡ None
-            → IsTabled homes caps number own2 doing2 (passed_by (threads_in own).current guests pass) opening
+            → IsTabled homes caps number own2 under_way2 (passed_by (threads_in own).current guests pass) opening
         idle x same ended_same runs =
-            subst (λ o. IsTabled homes caps number own2 doing2 (passed_by o guests pass) opening) (sym runs)
-            (tabled_same cpu own2 doing2 part2
+            subst (λ o. IsTabled homes caps number own2 under_way2 (passed_by o guests pass) opening) (sym runs)
+            (tabled_same cpu own2 under_way2 part2
             (λ u before. abbrev_same u x same ended_same before) quick2)
 
         by_case : (q : Pass) → pass ≡ q → Case q → threads_in own2 ≡ pass_after q queue (threads_in own)
-            → IsTabled homes caps number own2 doing2 (passed_by (threads_in own).current guests pass) opening
+            → IsTabled homes caps number own2 under_way2 (passed_by (threads_in own).current guests pass) opening
         by_case Switch same (switches runs has some) now = idle _ now refl runs
         by_case Drain same (drains runs has none) now = idle _ now refl runs
         by_case (MakeReady s) same (sends_idle _ runs has) now = idle _ now refl runs
         by_case (MakeReady s) same (sends_on _ t g runs has at) now = absurd (sends_alone s t g runs has at (chose ∙ ap Passes same))
         by_case YieldNow same (passes_on t g runs has at asks) now =
-            subst (λ x. x) (λ i. IsTabled homes caps number own2 doing2 (passed_by (sym runs i) guests (sym same i)) opening)
-            (tabled_with cpu t g passed own2 doing2 at part2
+            subst (λ x. x) (λ i. IsTabled homes caps number own2 under_way2 (passed_by (sym runs i) guests (sym same i)) opening)
+            (tabled_with cpu t g passed own2 under_way2 at part2
             (λ over. abbrev_same t _ now refl (tabled.ends t g at over)) (λ u other before. abbrev_same u _ now refl before) quick2)
         by_case End same (finishes t g runs has at asks) now =
             let ended_is : (threads_in own2).ended ≡ (threads_in own).ended ++ t ∷ []
             = ap (λ (y : Threads). y.ended) now ∙ ap (λ o. (threads_in own).ended ++ as_list o) runs in
-            subst (λ x. x) (λ i. IsTabled homes caps number own2 doing2 (passed_by (sym runs i) guests (sym same i)) opening)
-            (tabled_with cpu t g ended own2 doing2 at part2
+            subst (λ x. x) (λ i. IsTabled homes caps number own2 under_way2 (passed_by (sym runs i) guests (sym same i)) opening)
+            (tabled_with cpu t g ended own2 under_way2 at part2
             (λ over. subst (λ l. is_in t l ≡ true) (sym ended_is) (pushed_in t t (threads_in own).ended
             ∙ (ap (λ b. is_in t (threads_in own).ended || (b || false)) (same_tid_self t) ∙ or-true (is_in t (threads_in own).ended))))
             (λ u other before. subst (λ l. is_in u l ≡ true) (sym ended_is) (ended_more u t before)) quick2)
 
         go : (r : Option (Unit {0})) → threads_in own2 ≡ threads_if (threads_in own) pass queue r
-            → IsTabled homes caps number own2 doing2 (passed_if (threads_in own).current guests pass r) opening
+            → IsTabled homes caps number own2 under_way2 (passed_if (threads_in own).current guests pass r) opening
         go None same =
-            tabled_same cpu own2 doing2 part2
+            tabled_same cpu own2 under_way2 part2
             (λ u before. abbrev_same u _ same refl before) quick2
         go (Some x) same = by_case pass refl case_is same
 
     module _ (setup : Setup) (of : IsSetupOf setup homes caps guests limit) (outset : Outset ActsFor cpu old)
         (live : reason_in outset.inside (cpu_halted (threads_in own) guests trace limit) ≡ None) where
-      open outset use {inside, acts, rests, busy, known}
+      open outset use {inside, acts, idle, busy, known}
 
       opens : OpensAs setup number opening
       opens = opens_as setup homes caps number opening of.homes_are of.caps_are tabled.opens
@@ -252,12 +253,12 @@ module _ (cpu : TabledCpu) where
 
       -- a pass that touches nothing shared is not under way
       outside_so : IsLocalPass pass → is_in_section (phase number old) ≡ false
-      outside_so local = sym busy ∙ rests (go doing refl)
+      outside_so local = sym busy ∙ idle (go under_way refl)
         where
-          go : (d : Option Doing) → doing ≡ d → doing ≡ None
+          go : (d : Option UnderWay) → under_way ≡ d → under_way ≡ None
           go None none = none
           go (Some d) does =
-              let agreed : Some (Passing pass) ≡ Some d = sym (ap doing_of chose) ∙ is.agrees d does in
+              let agreed : Some (Passing pass) ≡ Some d = sym (ap under_way_of chose) ∙ is.agrees d does in
               let passing : d ≡ Passing pass = cc agreed in
               absurd (tabled.quick pass (does ∙ ap Some passing) local)
 
@@ -310,18 +311,18 @@ module _ (cpu : TabledCpu) where
 
       drain_step : pass ≡ Drain → (threads_in own).current ≡ None → (threads_in own).hand ≡ None → (threads_in own).ready ≡ [] → Goal
       drain_step pass_is runs has none =
-          by_line (line_by (own_at None None [] (threads_in own).ended None own.cv.lock.slept own.cv.waits own.talks)
-          (λ i. own_at (runs i) (has i) (none i) (threads_in own).ended (tabled.part.idle runs i) own.cv.lock.slept own.cv.waits own.talks) Drain pass_is
-          (drain_line setup number (states guests) trace (threads_in own).ended own.cv.lock.slept own.cv.waits own.talks))
+          by_line (line_by (own_at None None [] (threads_in own).ended None own.cv.lock.slept own.cv.waits own.call_states)
+          (λ i. own_at (runs i) (has i) (none i) (threads_in own).ended (tabled.part.idle runs i) own.cv.lock.slept own.cv.waits own.call_states) Drain pass_is
+          (drain_line setup number (states guests) trace (threads_in own).ended own.cv.lock.slept own.cv.waits own.call_states))
           (λ outside. choice_idle setup number p has runs (not_halted outside) ∙ ap (at_ready p) none)
           (ap (λ q. private_passed setup own (states guests) trace q (record { own = own2; answer = result })) pass_is ∙ idle_guests runs)
 
       send_step : (s : Tid) → pass ≡ MakeReady s → (threads_in own).current ≡ None → (threads_in own).hand ≡ Some s → Goal
       send_step s pass_is runs has =
-          by_line (line_by (own_at None (Some s) (threads_in own).ready (threads_in own).ended None own.cv.lock.slept own.cv.waits own.talks)
-          (λ i. own_at (runs i) (has i) (threads_in own).ready (threads_in own).ended (tabled.part.idle runs i) own.cv.lock.slept own.cv.waits own.talks)
+          by_line (line_by (own_at None (Some s) (threads_in own).ready (threads_in own).ended None own.cv.lock.slept own.cv.waits own.call_states)
+          (λ i. own_at (runs i) (has i) (threads_in own).ready (threads_in own).ended (tabled.part.idle runs i) own.cv.lock.slept own.cv.waits own.call_states)
           (MakeReady s) pass_is
-          (make_ready_line setup number (states guests) trace (threads_in own).ended own.cv.lock.slept own.cv.waits own.talks s (threads_in own).ready
+          (make_ready_line setup number (states guests) trace (threads_in own).ended own.cv.lock.slept own.cv.waits own.call_states s (threads_in own).ready
           (subst (λ h. IsSome (slice_get h s.0)) (sym of.homes_are) (known s has))))
           (λ outside. choice_hand setup number p s has)
           (ap (λ q. private_passed setup own (states guests) trace q (record { own = own2; answer = result })) pass_is ∙ idle_guests runs)
@@ -336,12 +337,12 @@ module _ (cpu : TabledCpu) where
           go : (ready : List Tid) → (threads_in own).ready ≡ ready → Goal
           go [] queue_is = absurd (some queue_is)
           go (t ∷ ready) queue_is =
-              let o : Buffering = own_at None None (t ∷ ready) (threads_in own).ended None own.cv.lock.slept own.cv.waits own.talks in
+              let o : Buffering = own_at None None (t ∷ ready) (threads_in own).ended None own.cv.lock.slept own.cv.waits own.call_states in
               let own_so : own ≡ o = λ i. own_at (runs i) (has i) (queue_is i) (threads_in own).ended
-              (tabled.part.idle runs i) own.cv.lock.slept own.cv.waits own.talks in
+              (tabled.part.idle runs i) own.cv.lock.slept own.cv.waits own.call_states in
               let next : private own2 guests trace ≡ record p { current = Some t; ready = ready }
               = ap (λ x. private x guests trace) (now ∙ ap (λ x. with_threads x (switched (threads_in x))) own_so)
-              ∙ (switched_now setup number (states guests) trace (threads_in own).ended own.cv.lock.slept own.cv.waits own.talks t ready
+              ∙ (switched_now setup number (states guests) trace (threads_in own).ended own.cv.lock.slept own.cv.waits own.call_states t ready
               ∙ sym (ap (λ x. record (private x guests trace) { current = Some t; ready = ready }) own_so)) in
               by_alone outside same (choice_idle setup number p has runs (not_halted outside)
               ∙ (ap (at_ready p) queue_is ∙ ap Alone (sym next ∙ idle_guests runs)))
@@ -350,24 +351,24 @@ module _ (cpu : TabledCpu) where
 
       module _ (t : Tid) (g : Guest) (runs : (threads_in own).current ≡ Some t) (has : (threads_in own).hand ≡ None) (at : guest_at guests t.0 ≡ Some g)
           (free : is_calling g.stage ≡ false) where
-        between : (talk_of own.talks t).stage ≡ at_stage.Between
-        between = free_between t g at free
+        at_idle : (call_state_of own.call_states t).stage ≡ at_stage.Idle
+        at_idle = free_at_idle t g at free
 
         abbrev running : Buffering
-        running = own_at (Some t) None (threads_in own).ready (threads_in own).ended None own.cv.lock.slept own.cv.waits own.talks
+        running = own_at (Some t) None (threads_in own).ready (threads_in own).ended None own.cv.lock.slept own.cv.waits own.call_states
 
         own_so : own ≡ running
-        own_so = λ i. own_at (runs i) (has i) (threads_in own).ready (threads_in own).ended (kept_none _ _ _ _ _ _ (tabled.part.mine t runs) has i)
-            own.cv.lock.slept own.cv.waits own.talks
+        own_so = λ i. own_at (runs i) (has i) (threads_in own).ready (threads_in own).ended (deferred_none _ _ _ _ _ _ (tabled.part.mine t runs) has i)
+            own.cv.lock.slept own.cv.waits own.call_states
 
         long_guests : t.0 < length (states guests)
         long_guests = subst (λ n. t.0 < n) (sym (states_long guests)) (guest_within guests t.0 g at)
 
-        long_talks : t.0 < length own.talks
-        long_talks =
+        long_call_states : t.0 < length own.call_states
+        long_call_states =
             let within = guest_within guests t.0 g at in
             let few = is.few in
-            let long = tabled.part.talks in
+            let long = tabled.part.call_states in
             omega (arith, within, few, long)
 
         chosen_line : is_in_section (phase number old) ≡ false → choice setup number p ≡ at_instruction setup number p t (next_of g.program g.thread)
@@ -378,13 +379,13 @@ module _ (cpu : TabledCpu) where
             quiet : (thread_at p t).call ≡ None
             quiet =
                 call_of cpu setup of t g at
-                ∙ unbegun _ (talk_of own.talks t) between
+                ∙ unbegun _ (call_state_of own.call_states t) at_idle
 
         yield_step : pass ≡ YieldNow → todo_of g ≡ PassOn → Goal
         yield_step pass_is asks =
             by_line (line_by running own_so YieldNow pass_is
-            (yield_line setup number (states guests) trace (threads_in own).ended own.cv.lock.slept own.cv.waits own.talks t
-            (threads_in own).ready between long_guests long_talks))
+            (yield_line setup number (states guests) trace (threads_in own).ended own.cv.lock.slept own.cv.waits own.call_states t
+            (threads_in own).ready at_idle long_guests long_call_states))
             (λ outside. chosen_line outside ∙ ap (at_instruction setup number p t) (yield_line_is g.thread (next_of g.program g.thread) asks))
             (λ i. private_of own2 (states_so i) trace)
           where
@@ -418,8 +419,8 @@ module _ (cpu : TabledCpu) where
             next : private own2 guests2 trace ≡ ends p t
             next =
                 (λ i. private_of ((now ∙ ap (λ y. with_threads y (pass_after End queue (threads_in y))) own_so) i) (states_so i) trace)
-                ∙ (ended_now setup number (states guests) trace (threads_in own).ended own.cv.lock.slept own.cv.waits own.talks t
-                (threads_in own).ready between long_guests long_talks
+                ∙ (ended_now setup number (states guests) trace (threads_in own).ended own.cv.lock.slept own.cv.waits own.call_states t
+                (threads_in own).ready at_idle long_guests long_call_states
                 ∙ sym (ap (λ y. ends (private y guests trace) t) own_so))
 
       pub pass_steps : Goal
@@ -455,9 +456,9 @@ module _ (cpu : TabledCpu) where
     abbrev at : guest_at guests t.0 ≡ Some g
     at = does.1.1
 
-    pub compute_tabled : IsTabled homes caps number own doing (with_guest guests t.0 computed) opening
+    pub compute_tabled : IsTabled homes caps number own under_way (with_guest guests t.0 computed) opening
     compute_tabled =
-        tabled_with cpu t g computed own doing at tabled.part
+        tabled_with cpu t g computed own under_way at tabled.part
         (λ over. tabled.ends t g at over) (λ u other before. before) tabled.quick
 
     pub compute_steps : (ActsFor : CpuId → Type 0) (old : List (Action TowerName)) (outset : Outset ActsFor cpu old)
@@ -466,13 +467,13 @@ module _ (cpu : TabledCpu) where
         → IsStep ActsFor (cpu_step setup number) p (private own (with_guest guests t.0 computed) trace) (named old) (named old) Stepped
     compute_steps ActsFor old outset live setup of =
         let free : is_calling g.stage ≡ false = not_calling t g Compute at does.1.2 (λ c e. absurd (cc e)) in
-        let between = free_between t g at free in
-        let rest = at_rest _ _ _ _ _ _ (tabled.part.mine t does.0) between in
-        let outside : is_in_section (phase number old) ≡ false = sym outset.busy ∙ outset.rests (idle doing refl) in
+        let at_idle = free_at_idle t g at free in
+        let rest = at_rest _ _ _ _ _ _ (tabled.part.mine t does.0) at_idle in
+        let outside : is_in_section (phase number old) ≡ false = sym outset.busy ∙ outset.idle (idle under_way refl) in
         let live_now = halted_same cpu setup of
         ∙ not_halted_so outset.inside (is_in_section (phase number old)) (cpu_halted (threads_in own) guests trace limit) outset.busy live outside in
         let quiet = call_of cpu setup of t g at
-        ∙ unbegun _ (talk_of own.talks t) between in
+        ∙ unbegun _ (call_state_of own.call_states t) at_idle in
         let there = guest_there own guests trace t g at in
         let i : Instruction = next_of g.program g.thread in
         let within : t.0 < length (states guests) = subst (λ n. t.0 < n) (sym (states_long guests)) (guest_within guests t.0 g at) in
@@ -485,9 +486,9 @@ module _ (cpu : TabledCpu) where
         ∙ (ap (at_instruction setup number p t) (stands_there cpu setup of t g at)
         ∙ (local_at setup number p t g.thread i does.1.2 ∙ (ap (λ x. Alone (with_state p t (after_local i x.guest))) there ∙ ap Alone (sym next)))))
       where
-        idle : (d : Option Doing) → doing ≡ d → doing ≡ None
+        idle : (d : Option UnderWay) → under_way ≡ d → under_way ≡ None
         idle None none = none
-        idle (Some d) now = let no : None ≡ Some d = sym (ap doing_of chose) ∙ is.agrees d now in absurd (cc no)
+        idle (Some d) now = let no : None ≡ Some d = sym (ap under_way_of chose) ∙ is.agrees d now in absurd (cc no)
 
   -- A CPU that is halted, and a look.
 

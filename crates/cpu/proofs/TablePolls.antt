@@ -21,36 +21,36 @@ use Rattle.layer_traits.specs.declared.calls.Reply.{Reply}
 use Rattle.layer_traits.specs.declared.passes.Pass.{Pass}
 use Rattle.layer_traits.specs.declared.steps.Reason.{Reason}
 use Rattle.layer_traits.specs.declared.steps.Step.TheVariants.{Stepped}
-use Rattle.layer_traits.specs.declared.talks.Stage.{Stage}
-use Rattle.layer_traits.specs.declared.talks.Stage.TheVariants as at_stage
-use Rattle.layer_traits.specs.declared.talks.Talk.{Talk}
+use Rattle.layer_traits.specs.declared.call_states.Stage.{Stage}
+use Rattle.layer_traits.specs.declared.call_states.Stage.TheVariants as at_stage
+use Rattle.layer_traits.specs.declared.call_states.CallState.{CallState}
 use Rattle.layer_traits.specs.Along.{IsStep}
 use Rattle.layer_traits.specs.Passes.{IsLocalPass}
 use Rattle.layer_traits.specs.Places.{home_of}
 use Rattle.layer_traits.specs.Plans.{Follows, is_in_section}
-use Rattle.layer_traits.specs.BufferLaw.{Buffering, Calling, Doing, Passing, begun_of, buffer_of, fifo_plan, going, going_at, still_calling, talk_of}
+use Rattle.layer_traits.specs.BufferLaw.{Buffering, Calling, UnderWay, Passing, begun_of, buffer_of, fifo_plan, going, going_at, still_calling, call_state_of}
 use Rattle.cpu.specs.declared.cpus.Choice.TheVariants.{Polls}
 use Rattle.cpu.specs.declared.guests.Guest.{Guest}
 use Rattle.cpu.specs.declared.guests.GuestStage.{GuestStage}
-use Rattle.cpu.specs.declared.guests.GuestStage.TheVariants.{Between, Begun, Done, Ended}
+use Rattle.cpu.specs.declared.guests.GuestStage.TheVariants.{Idle, Begun, Done, Ended}
 use Rattle.cpu.specs.declared.guests.Todo.TheVariants.{Calls}
 use Rattle.cpu.specs.Guests.{HasComeIn, after_answer, entries_of, fresh_effect, had, is_calling, is_ended, polled, stage_after, todo_at}
-use Rattle.cpu.specs.Cpus.{chosen, doing_of, fresh_at, guest_at, halted_at as cpu_halted, of_cpu, of_thread, reason_in, with_guest}
+use Rattle.cpu.specs.Cpus.{chosen, under_way_of, fresh_at, guest_at, halted_at as cpu_halted, of_cpu, of_thread, reason_in, with_guest}
 use Rattle.cpu.specs.Table.Setups.{Setup, opening as table_opening, opening_buffer}
 use Rattle.cpu.specs.Table.Steps.{cpu_step, halted_at as table_halted}
 use Rattle.cpu.specs.Tower.Views.{TowerBlock, TowerName, tower}
 use Rattle.cpu.specs.Tower.Privates.{guests_after, private_after, private_of, threads_in, trace_after}
 use Rattle.cpu.specs.Tower.Composed.{AsksFor, HandIsKnown, IsBeginning, IsGoing, IsUsed, OpensAs, named}
-use Rattle.cpu.specs.Tower.Standing.{IsPart}
+use Rattle.cpu.specs.Tower.Positions.{IsPart}
 use Rattle.cpu.specs.Tables.{IsSetupOf, IsTabled, bare, private, state_of, states}
 use Rattle.cpu.proofs.CpuStates.{TabledCpu, Outset, valid}
 use Rattle.cpu.proofs.Follow.{had_going}
 use Rattle.cpu.proofs.GuestLists.{at_other, at_same, guest_within}
-use Rattle.cpu.proofs.Steps.{PollsAt, polls_at, poll_number, poll_talks}
+use Rattle.cpu.proofs.Steps.{PollsAt, polls_at, poll_number, poll_call_states}
 use Rattle.cpu.proofs.TableRows.{call_is, halted_same, states_at, states_long}
 use Rattle.cpu.proofs.Tower.Begins.{first_polls_are_steps, polls_are_steps}
 use Rattle.cpu.proofs.Tower.Chains.{put_same}
-use Rattle.cpu.proofs.Tower.Kept.{IsFree, begins_keep, kept_by, plans_keep}
+use Rattle.cpu.proofs.Tower.Preserved.{IsFree, begins_keep, preserved_by, plans_keep}
 use Rattle.cpu.proofs.Tower.Polled.{Polled}
 use Rattle.cpu.proofs.Tower.Passed.{at_rest, in_call}
 
@@ -81,28 +81,28 @@ asks_for (ins.Add r q) s c is = absurd (cc is)
 asks_for (ins.Sub r q) s c is = absurd (cc is)
 asks_for (ins.Jnz r k) s c is = absurd (cc is)
 
-is_between : (s : Stage) → (s ≡ at_stage.Between) ⊎ (s ≡ at_stage.Between → ⊥)
-is_between at_stage.Between = inl refl
-is_between at_stage.Acquires = inr (λ e. absurd (cc e))
-is_between at_stage.Enters = inr (λ e. absurd (cc e))
-is_between at_stage.Tries = inr (λ e. absurd (cc e))
-is_between at_stage.Waits = inr (λ e. absurd (cc e))
-is_between at_stage.AcquiresAgain = inr (λ e. absurd (cc e))
-is_between at_stage.Signals = inr (λ e. absurd (cc e))
-is_between at_stage.SignalsOwn = inr (λ e. absurd (cc e))
-is_between at_stage.Releases = inr (λ e. absurd (cc e))
+is_at_idle : (s : Stage) → (s ≡ at_stage.Idle) ⊎ (s ≡ at_stage.Idle → ⊥)
+is_at_idle at_stage.Idle = inl refl
+is_at_idle at_stage.Acquires = inr (λ e. absurd (cc e))
+is_at_idle at_stage.Enters = inr (λ e. absurd (cc e))
+is_at_idle at_stage.Tries = inr (λ e. absurd (cc e))
+is_at_idle at_stage.Waits = inr (λ e. absurd (cc e))
+is_at_idle at_stage.AcquiresAgain = inr (λ e. absurd (cc e))
+is_at_idle at_stage.Signals = inr (λ e. absurd (cc e))
+is_at_idle at_stage.SignalsOwn = inr (λ e. absurd (cc e))
+is_at_idle at_stage.Releases = inr (λ e. absurd (cc e))
 
--- a talk inside a call goes on as it is
-goes_same : (s : Stage) (talk : Talk) (c : Call) → (s ≡ at_stage.Between → ⊥) → going_at s talk c ≡ talk
-goes_same at_stage.Between talk c calls = absurd (calls refl)
-goes_same at_stage.Acquires talk c calls = refl
-goes_same at_stage.Enters talk c calls = refl
-goes_same at_stage.Tries talk c calls = refl
-goes_same at_stage.Waits talk c calls = refl
-goes_same at_stage.AcquiresAgain talk c calls = refl
-goes_same at_stage.Signals talk c calls = refl
-goes_same at_stage.SignalsOwn talk c calls = refl
-goes_same at_stage.Releases talk c calls = refl
+-- a call state inside a call goes on as it is
+goes_same : (s : Stage) (call_state : CallState) (c : Call) → (s ≡ at_stage.Idle → ⊥) → going_at s call_state c ≡ call_state
+goes_same at_stage.Idle call_state c calls = absurd (calls refl)
+goes_same at_stage.Acquires call_state c calls = refl
+goes_same at_stage.Enters call_state c calls = refl
+goes_same at_stage.Tries call_state c calls = refl
+goes_same at_stage.Waits call_state c calls = refl
+goes_same at_stage.AcquiresAgain call_state c calls = refl
+goes_same at_stage.Signals call_state c calls = refl
+goes_same at_stage.SignalsOwn call_state c calls = refl
+goes_same at_stage.Releases call_state c calls = refl
 
 -- the trace after a poll
 first_trace : (c : CpuId) (t : Tid) (b : BufId) (before after : Option Effect) (trace : List Entry) → before ≡ None
@@ -113,7 +113,7 @@ first_trace c t b before (Some f) trace none = sym (ap (λ o. trace_after c t b 
 trace_by : (c : CpuId) (t : Tid) (b : BufId) (trace : List Entry) (stage : GuestStage) (program : List Instruction) (s : State) (es : List Entry)
     (begun : Option Call) (effect before after : Option Effect) → HasComeIn stage program s es begun effect → before ≡ had begun effect
     → trace ++ entries_of c t b (fresh_effect stage after) ≡ trace_after c t b before after trace
-trace_by c t b trace Between program s es begun effect before after follows is =
+trace_by c t b trace Idle program s es begun effect before after follows is =
     first_trace c t b before after trace (is ∙ ap (λ o. had o effect) follows.0)
 trace_by c t b trace Begun program s es begun effect before after follows is =
     first_trace c t b before after trace (is ∙ (ap (λ o. had o effect) follows.2 ∙ follows.3))
@@ -153,7 +153,7 @@ not_halted_so inside b h same live outside = ap (λ x. reason_in x h) (sym outsi
 -- what one poll of a call leaves of a CPU
 pub record TabledPoll (ActsFor : CpuId → Type 0) (cpu : TabledCpu) (t : Tid) (c : Call) (old : List (Action TowerName)) : Type 0 where
   pub own : Buffering
-  pub doing : Option Doing
+  pub under_way : Option UnderWay
   pub guests : List (Option Guest)
   pub trace : List Entry
   pub new : List (Action TowerName)
@@ -161,19 +161,19 @@ pub record TabledPoll (ActsFor : CpuId → Type 0) (cpu : TabledCpu) (t : Tid) (
   pub known : (u : Tid) → (threads_in own).hand ≡ Some u → IsSome (slice_get cpu.homes u.0)
   pub follows : Follows ActsFor tower cpu.opening cpu.number (fifo_plan cpu.homes cpu.number t c cpu.own) old new (record { own = own; answer = result })
   pub ended_is : (threads_in own).ended ≡ (threads_in cpu.own).ended
-  pub doing_is : doing ≡ still_calling t (threads_in own).current result
-  pub guests_is : guests ≡ with_guest cpu.guests t.0 (λ x. polled x ((talk_of own.talks t).effect) result)
-  pub trace_is : trace ≡ cpu.trace ++ entries_of cpu.number t (buffer_of c) (fresh_at (guest_at cpu.guests t.0) ((talk_of own.talks t).effect))
+  pub under_way_is : under_way ≡ still_calling t (threads_in own).current result
+  pub guests_is : guests ≡ with_guest cpu.guests t.0 (λ x. polled x ((call_state_of own.call_states t).effect) result)
+  pub trace_is : trace ≡ cpu.trace ++ entries_of cpu.number t (buffer_of c) (fresh_at (guest_at cpu.guests t.0) ((call_state_of own.call_states t).effect))
 
 module _ (cpu : TabledCpu) where
-  open cpu use {homes, caps, seen, own, doing, number, guests, trace, limit, opening, is, tabled, home}
+  open cpu use {homes, caps, seen, own, under_way, number, guests, trace, limit, opening, is, tabled, home}
 
   -- one thread's guest goes on
-  pub tabled_with : (t : Tid) (g : Guest) (f : Guest → Guest) (own2 : Buffering) (doing2 : Option Doing) → guest_at guests t.0 ≡ Some g → IsPart own2
+  pub tabled_with : (t : Tid) (g : Guest) (f : Guest → Guest) (own2 : Buffering) (under_way2 : Option UnderWay) → guest_at guests t.0 ≡ Some g → IsPart own2
       → (is_ended (f g).stage ≡ true → is_in t (threads_in own2).ended ≡ true)
       → ((u : Tid) → u.0 ≢ t.0 → is_in u (threads_in own).ended ≡ true → is_in u (threads_in own2).ended ≡ true)
-      → ((p : Pass) → doing2 ≡ Some (Passing p) → IsLocalPass p → ⊥) → IsTabled homes caps number own2 doing2 (with_guest guests t.0 f) opening
-  tabled_with t g f own2 doing2 at part over_t over quick = record {
+      → ((p : Pass) → under_way2 ≡ Some (Passing p) → IsLocalPass p → ⊥) → IsTabled homes caps number own2 under_way2 (with_guest guests t.0 f) opening
+  tabled_with t g f own2 under_way2 at part over_t over quick = record {
     part = part;
     opens = tabled.opens;
     only = λ (u : Tid) (x : Guest) found. with_each guests t.0 f g at (λ (k : ℕ) (y : Guest). home_of homes (record { 0 = k }) ≡ Some number)
@@ -186,10 +186,10 @@ module _ (cpu : TabledCpu) where
   }
 
   -- the guests stay
-  pub tabled_same : (own2 : Buffering) (doing2 : Option Doing) → IsPart own2
+  pub tabled_same : (own2 : Buffering) (under_way2 : Option UnderWay) → IsPart own2
       → ((u : Tid) → is_in u (threads_in own).ended ≡ true → is_in u (threads_in own2).ended ≡ true)
-      → ((p : Pass) → doing2 ≡ Some (Passing p) → IsLocalPass p → ⊥) → IsTabled homes caps number own2 doing2 guests opening
-  tabled_same own2 doing2 part over quick = record {
+      → ((p : Pass) → under_way2 ≡ Some (Passing p) → IsLocalPass p → ⊥) → IsTabled homes caps number own2 under_way2 guests opening
+  tabled_same own2 under_way2 part over quick = record {
     part = part;
     opens = tabled.opens;
     only = tabled.only;
@@ -205,8 +205,8 @@ module _ (cpu : TabledCpu) where
     abbrev g : Guest
     g = polls.guest
 
-    abbrev talk : Talk
-    talk = talk_of own.talks t
+    abbrev call_state : CallState
+    call_state = call_state_of own.call_states t
 
     abbrev small : t.0 < THREADS
     small = poll_number (valid cpu) t c chose
@@ -214,97 +214,99 @@ module _ (cpu : TabledCpu) where
     in_guests : t.0 < length (states guests)
     in_guests = subst (λ n. t.0 < n) (sym (states_long guests)) (guest_within guests t.0 g polls.at)
 
-    follows_g : HasComeIn g.stage g.program g.thread (of_thread t.0 (of_cpu number seen)) (begun_of talk) talk.effect
+    follows_g : HasComeIn g.stage g.program g.thread (of_thread t.0 (of_cpu number seen)) (begun_of call_state) call_state.effect
     follows_g = (is.follow t g polls.at).1
 
-    going_so : (talk.stage ≡ at_stage.Between → ⊥) → IsGoing own (states guests) t c
+    going_so : (call_state.stage ≡ at_stage.Idle → ⊥) → IsGoing own (states guests) t c
     going_so calls = record {
       current = polls.runs;
-      begun = sym (ap (λ x. x.call) (goes_same talk.stage talk c calls))
-          ∙ poll_talks (valid cpu) t c chose;
+      begun = sym (ap (λ x. x.call) (goes_same call_state.stage call_state c calls))
+          ∙ poll_call_states (valid cpu) t c chose;
       stands = in_call _ _ _ _ _ _ (tabled.part.mine t polls.runs) calls;
       fits = tabled.part.fits t;
       in_guests = in_guests;
-      in_talks = subst (λ n. t.0 < n) (sym tabled.part.talks) small;
+      in_call_states = subst (λ n. t.0 < n) (sym tabled.part.call_states) small;
       in_slept = subst (λ n. t.0 < n) (sym tabled.part.slept) small;
       in_waits = subst (λ n. t.0 < n) (sym tabled.part.waits) small;
     }
 
-    free_so : talk.stage ≡ at_stage.Between → IsFree own (states guests) t
-    free_so between =
-        let rest = at_rest _ _ _ _ _ _ (tabled.part.mine t polls.runs) between in
+    free_so : call_state.stage ≡ at_stage.Idle → IsFree own (states guests) t
+    free_so at_idle =
+        let rest = at_rest _ _ _ _ _ _ (tabled.part.mine t polls.runs) at_idle in
         record {
           current = polls.runs;
           hand = rest.hand;
-          kept = rest.kept;
+          deferred = rest.deferred;
           slept = rest.slept;
           waits = rest.waits;
-          between = between;
+          at_idle = at_idle;
           in_guests = in_guests;
-          in_talks = subst (λ n. t.0 < n) (sym tabled.part.talks) small;
+          in_call_states = subst (λ n. t.0 < n) (sym tabled.part.call_states) small;
           in_slept = subst (λ n. t.0 < n) (sym tabled.part.slept) small;
           in_waits = subst (λ n. t.0 < n) (sym tabled.part.waits) small;
         }
 
-    begins_so : (setup : Setup) → IsSetupOf setup homes caps guests limit → talk.stage ≡ at_stage.Between → IsBeginning setup own (states guests) t c
-    begins_so setup of between =
-        let free = free_so between in
+    begins_so : (setup : Setup) → IsSetupOf setup homes caps guests limit → call_state.stage ≡ at_stage.Idle → IsBeginning setup own (states guests) t c
+    begins_so setup of at_idle =
+        let free = free_so at_idle in
         record {
           current = free.current;
           hand = free.hand;
-          kept = free.kept;
+          deferred = free.deferred;
           slept = free.slept;
           waits = free.waits;
-          between = between;
+          at_idle = at_idle;
           at = subst (λ x. x) (λ i. AsksFor (next_of (sym (of.programs_are t g polls.at) i) (sym (states_at guests t.0 g polls.at at_start) i))
               (sym (states_at guests t.0 g polls.at at_start) i) c) (asks_for (next_of g.program g.thread) g.thread c polls.asks);
           in_guests = free.in_guests;
-          in_talks = free.in_talks;
+          in_call_states = free.in_call_states;
           in_slept = free.in_slept;
           in_waits = free.in_waits;
         }
 
     -- a call that has not begun has no section under way
-    outside_so : (inside : Bool) → (doing ≡ None → inside ≡ false) → talk.stage ≡ at_stage.Between → inside ≡ false
-    outside_so inside rests between = go doing refl
+    outside_so : (inside : Bool) → (under_way ≡ None → inside ≡ false) → call_state.stage ≡ at_stage.Idle → inside ≡ false
+    outside_so inside idle at_idle = go under_way refl
       where
-        go : (d : Option Doing) → doing ≡ d → inside ≡ false
-        go None none = rests none
+        go : (d : Option UnderWay) → under_way ≡ d → inside ≡ false
+        go None none = idle none
         go (Some d) does =
-            let agreed : Some (Calling t) ≡ Some d = sym (ap doing_of chose) ∙ is.agrees d does in
+            let agreed : Some (Calling t) ≡ Some d = sym (ap under_way_of chose) ∙ is.agrees d does in
             let calling : d ≡ Calling t = cc agreed in
             let yes : is_calling g.stage ≡ true = is.calls t g (does ∙ ap Some calling) polls.at in
-            let begun = call_is g.stage g.program g.thread (of_thread t.0 (of_cpu number seen)) (begun_of talk) talk.effect follows_g in
-            let none : is_some (begun_of talk) ≡ false = ap (λ s. is_some (begun_of (record talk { stage = s }))) between in
+            let begun = call_is g.stage g.program g.thread (of_thread t.0 (of_cpu number seen)) (begun_of call_state) call_state.effect follows_g in
+            let none : is_some (begun_of call_state) ≡ false = ap (λ s. is_some (begun_of (record call_state { stage = s }))) at_idle in
             absurd (cc (yes, begun, none))
 
     module _ (ActsFor : CpuId → Type 0) (old : List (Action TowerName)) (outset : Outset ActsFor cpu old)
         (live : reason_in outset.inside (cpu_halted (threads_in own) guests trace limit) ≡ None) (after : TabledPoll ActsFor cpu t c old) where
-      open outset use {inside, acts, rests, busy, known}
-      open after use {own as own2, doing as doing2, guests as guests2, trace as trace2, new, result, known as known2}
-      open after use {follows, ended_is, doing_is, guests_is, trace_is}
+      open outset use {inside, acts, idle, busy, known}
+      open after use {own as own2, under_way as under_way2, guests as guests2, trace as trace2, new, result, known as known2}
+      open after use {follows, ended_is, under_way_is, guests_is, trace_is}
 
       part2 : IsPart own2
-      part2 = go (is_between talk.stage)
+      part2 = go (is_at_idle call_state.stage)
         where
-          go : (talk.stage ≡ at_stage.Between) ⊎ (talk.stage ≡ at_stage.Between → ⊥) → IsPart own2
-          go (inl between) =
-              kept_by ActsFor (bare homes caps) opening number (fifo_plan homes number t c own) old new (record { own = own2; answer = result }) tabled.opens
-              (begins_keep (bare homes caps) number own (states guests) t c (free_so between) tabled.part) follows
+          go : (call_state.stage ≡ at_stage.Idle) ⊎ (call_state.stage ≡ at_stage.Idle → ⊥) → IsPart own2
+          go (inl at_idle) =
+              preserved_by ActsFor (bare homes caps) opening number (fifo_plan homes number t c own) old new
+              (record { own = own2; answer = result }) tabled.opens
+              (begins_keep (bare homes caps) number own (states guests) t c (free_so at_idle) tabled.part) follows
           go (inr calls) =
-              kept_by ActsFor (bare homes caps) opening number (fifo_plan homes number t c own) old new (record { own = own2; answer = result }) tabled.opens
+              preserved_by ActsFor (bare homes caps) opening number (fifo_plan homes number t c own) old new
+              (record { own = own2; answer = result }) tabled.opens
               (plans_keep (bare homes caps) number own (states guests) t c (going_so calls) known tabled.part) follows
 
-      pub poll_tabled : IsTabled homes caps number own2 doing2 guests2 opening
+      pub poll_tabled : IsTabled homes caps number own2 under_way2 guests2 opening
       poll_tabled =
-          subst (λ (l : List (Option Guest)). IsTabled homes caps number own2 doing2 l opening) (sym guests_is)
-          (tabled_with t g (λ x. polled x ((talk_of own2.talks t).effect) result) own2 doing2 polls.at part2
-          (λ over. absurd (polled_lives ((talk_of own2.talks t).effect) result over))
+          subst (λ (l : List (Option Guest)). IsTabled homes caps number own2 under_way2 l opening) (sym guests_is)
+          (tabled_with t g (λ x. polled x ((call_state_of own2.call_states t).effect) result) own2 under_way2 polls.at part2
+          (λ over. absurd (polled_lives ((call_state_of own2.call_states t).effect) result over))
           (λ u other over. subst (λ l. is_in u l ≡ true) (sym ended_is) over)
-          (λ p does local. calls_on t (threads_in own2).current result p (sym doing_is ∙ does)))
+          (λ p does local. calls_on t (threads_in own2).current result p (sym under_way_is ∙ does)))
 
       abbrev effect2 : Option Effect
-      effect2 = (talk_of own2.talks t).effect
+      effect2 = (call_state_of own2.call_states t).effect
 
       module _ (setup : Setup) (of : IsSetupOf setup homes caps guests limit) where
         states_after : (r : Option Reply) → states (with_guest guests t.0 (λ x. polled x effect2 r)) ≡ guests_after setup t r (states guests)
@@ -319,13 +321,13 @@ module _ (cpu : TabledCpu) where
             (next_of (sym (of.programs_are t g polls.at) i) (sym (states_at guests t.0 g polls.at at_start) i))
             (sym (states_at guests t.0 g polls.at at_start) i))))
 
-        trace_so : trace2 ≡ trace_after number t (buffer_of c) (going talk c).effect effect2 trace
+        trace_so : trace2 ≡ trace_after number t (buffer_of c) (going call_state c).effect effect2 trace
         trace_so =
             trace_is
             ∙ (ap (λ o. trace ++ entries_of number t (buffer_of c) (fresh_at o effect2)) polls.at
-            ∙ trace_by number t (buffer_of c) trace g.stage g.program g.thread (of_thread t.0 (of_cpu number seen)) (begun_of talk) talk.effect
-            (going talk c).effect effect2
-            follows_g (had_going talk c (poll_talks (valid cpu) t c chose)))
+            ∙ trace_by number t (buffer_of c) trace g.stage g.program g.thread (of_thread t.0 (of_cpu number seen)) (begun_of call_state) call_state.effect
+            (going call_state c).effect effect2
+            follows_g (had_going call_state c (poll_call_states (valid cpu) t c chose)))
 
         private_so : private_after setup number t c own (states guests) trace (record { own = own2; answer = result }) ≡ private own2 guests2 trace2
         private_so = λ i. private_of own2 (sym (ap states guests_is ∙ states_after result) i) (sym trace_so i)
@@ -356,14 +358,14 @@ module _ (cpu : TabledCpu) where
 
         pub poll_steps : IsStep ActsFor (cpu_step setup number) (private own guests trace) (private own2 guests2 trace2) (named old) (named new) Stepped
         poll_steps = subst (λ q. IsStep ActsFor (cpu_step setup number) (private own guests trace) q (named old) (named new) Stepped) private_so
-            (go (is_between talk.stage))
+            (go (is_at_idle call_state.stage))
           where
-            go : (talk.stage ≡ at_stage.Between) ⊎ (talk.stage ≡ at_stage.Between → ⊥)
+            go : (call_state.stage ≡ at_stage.Idle) ⊎ (call_state.stage ≡ at_stage.Idle → ⊥)
                 → IsStep ActsFor (cpu_step setup number) (private own guests trace)
                 (private_after setup number t c own (states guests) trace (record { own = own2; answer = result })) (named old) (named new) Stepped
-            go (inl between) =
-                let outside : is_in_section (phase number old) ≡ false = sym busy ∙ outside_so inside rests between in
-                first_polls_are_steps polled_so own (states guests) trace t c (record { own = own2; answer = result }) (begins_so setup of between)
+            go (inl at_idle) =
+                let outside : is_in_section (phase number old) ≡ false = sym busy ∙ outside_so inside idle at_idle in
+                first_polls_are_steps polled_so own (states guests) trace t c (record { own = own2; answer = result }) (begins_so setup of at_idle)
                 (known_in own2 known2) outside (not_halted outside) follows_so
             go (inr calls) =
                 polls_are_steps polled_so own (states guests) trace t c (record { own = own2; answer = result }) (going_so calls)

@@ -25,7 +25,7 @@ use Rattle.cpu.specs.Table.Blocks.{OfPending}
 use Rattle.cpu.specs.Table.Choice.{Goes, Halts, at_call, at_current, at_hand, at_instruction, at_ready}
 use Rattle.cpu.specs.Table.Setups.{Call, Private, Setup, have_ended, home_of, home_threads, home_threads_from, stands_at, thread_at}
 use Rattle.cpu.specs.Table.Steps.{cpu_numbered, halted_at, halted_by}
-use Rattle.cpu.specs.Told.{IsStill, ToldByTable}
+use Rattle.cpu.specs.Observed.{IsStill, ObservedByTable}
 use Rattle.cpu.specs.Wakeups.Quiet.{IsQuiet as IsQuietTable, IsQuietBy, IsStuck}
 use Rattle.cpu.proofs.ListReads.{shown_at, shows_at, there_is}
 use Rattle.cpu.proofs.Wakeups.Stuck.{quiet_is_stuck}
@@ -186,7 +186,7 @@ quiet_is_calm setup c p own (Some StepsUsed) current ready hand is quiet =
     let same : StepsUsed ≡ AllEnded = ended_halts setup c p StepsUsed (quiet_all setup c p quiet) is in absurd (cc same)
 
 -- The whole system.
-module _ (s : Shown) (told : ToldByTable s) (setup : Setup) (is : IsSetupFor setup s) where
+module _ (s : Shown) (told : ObservedByTable s) (setup : Setup) (is : IsSetupFor setup s) where
   below : (c : CpuId) → c.0 < setup.cpus → c.0 < length s.cpus
   below c within = let count = is.count in omega (arith, count, within)
 
@@ -240,7 +240,7 @@ module _ (s : Shown) (told : ToldByTable s) (setup : Setup) (is : IsSetupFor set
       same_queue l same = cc same
 
 -- a quiet system is still
-pub quiet_still : (s : Shown) → ToldByTable s → MovesAgree s → IsReachedByTable s → IsQuiet s → IsStill s
+pub quiet_still : (s : Shown) → ObservedByTable s → MovesAgree s → IsReachedByTable s → IsQuiet s → IsStill s
 quiet_still s told agree reached quiet = record {
   stuck = stuck;
   refused = λ setup is p u live e asks b m within of next allowed.

@@ -18,10 +18,10 @@ use Rattle.layer_traits.specs.declared.steps.Reason.{Reason}
 use Rattle.layer_traits.specs.declared.steps.Reason.TheVariants.{AllEnded, TraceFull}
 use Rattle.layer_traits.specs.LockLaw.{slept_for}
 use Rattle.layer_traits.specs.Places.{home_of}
-use Rattle.layer_traits.specs.BufferLaw.{Buffering, begun_of, talk_of}
+use Rattle.layer_traits.specs.BufferLaw.{Buffering, begun_of, call_state_of}
 use Rattle.cpu.specs.declared.guests.Guest.{Guest}
 use Rattle.cpu.specs.declared.guests.GuestStage.{GuestStage}
-use Rattle.cpu.specs.declared.guests.GuestStage.TheVariants.{Between, Begun, Done, Ended}
+use Rattle.cpu.specs.declared.guests.GuestStage.TheVariants.{Idle, Begun, Done, Ended}
 use Rattle.cpu.specs.declared.guests.Todo.{Todo}
 use Rattle.cpu.specs.declared.guests.Todo.TheVariants.{Finish, PassOn, Compute, Calls}
 use Rattle.cpu.specs.Guests.{HasComeIn, is_begun, is_calling, is_ended, todo_at, todo_of}
@@ -31,7 +31,7 @@ use Rattle.cpu.specs.Table.Setups.{Setup, Call as TableCall, Private, Thread, ha
 use Rattle.cpu.specs.Table.Setups.{home_threads_from, is_open_call, open_calls, stands_at, thread_at}
 use Rattle.cpu.specs.Table.Choice.{Choice, Halts, Goes, at_call, at_current, at_hand, at_instruction, at_ready}
 use Rattle.cpu.specs.Table.Steps.{halted_at as table_halted, halted_by}
-use Rattle.cpu.specs.Tower.Privates.{call_from, is_kept, stage_from, thread_of, threads_in, tid}
+use Rattle.cpu.specs.Tower.Privates.{call_from, is_deferred, stage_from, thread_of, threads_in, tid}
 use Rattle.cpu.specs.Tables.{IsSetupOf, private, state_of, states}
 use Rattle.cpu.proofs.CpuStates.{TabledCpu}
 use Rattle.cpu.proofs.Tower.Begins.{thread_here}
@@ -120,11 +120,11 @@ rows_open c p (h ∷ homes) (o ∷ guests) n long rows =
         let plus : begun_count guests ≡ 0 + begun_count guests = omega arith in
         more ∙ (plus ∙ sym (ap (λ x. cond (is_begun_guest x) 1 0 + begun_count guests) (first_row.other is)))
 
--- whether a call is open, by what its talk says
+-- whether a call is open, by what its call state says
 open_is : (stage : GuestStage) (program : List Instruction) (s : State) (es : List Entry) (begun : Option Call) (effect : Option Effect) (f : Call → TableCall)
     → ((c : Call) → (f c).effect ≡ option_map (λ (x : Effect). x.op) effect) → HasComeIn stage program s es begun effect
     → is_open_call (option_map f begun) ≡ is_begun stage
-open_is Between program s es begun effect f had follows = ap (λ o. is_open_call (option_map f o)) follows.0
+open_is Idle program s es begun effect f had follows = ap (λ o. is_open_call (option_map f o)) follows.0
 open_is Begun program s es begun effect f had follows =
     ap (λ o. is_open_call (option_map f o)) follows.2 ∙ (ap has_none (had follows.0) ∙ ap (λ o. has_none (option_map (λ (x : Effect). x.op) o)) follows.3)
 open_is Done program s es begun effect f had follows =
@@ -134,7 +134,7 @@ open_is Ended program s es begun effect f had follows = ap (λ o. is_open_call (
 -- whether there is a call at all
 pub call_is : (stage : GuestStage) (program : List Instruction) (s : State) (es : List Entry) (begun : Option Call) (effect : Option Effect)
     → HasComeIn stage program s es begun effect → is_some begun ≡ is_calling stage
-call_is Between program s es begun effect follows = ap is_some follows.0
+call_is Idle program s es begun effect follows = ap is_some follows.0
 call_is Begun program s es begun effect follows = ap is_some follows.2
 call_is Done program s es begun effect follows = ap is_some follows.3
 call_is Ended program s es begun effect follows = ap is_some follows.0
@@ -161,15 +161,18 @@ module _ (cpu : TabledCpu) where
   p = private own guests trace
 
   abbrev follows_at : (t : Tid) (g : Guest) → guest_at guests t.0 ≡ Some g
-      → HasComeIn g.stage g.program g.thread (of_thread t.0 (of_cpu number seen)) (begun_of (talk_of own.talks t)) (talk_of own.talks t).effect
+      → HasComeIn g.stage g.program g.thread (of_thread t.0 (of_cpu number seen)) (begun_of (call_state_of own.call_states t))
+      (call_state_of own.call_states t).effect
   follows_at t g at = (is.follow t g at).1
 
   open_at : (t : Tid) (g : Guest) → guest_at guests t.0 ≡ Some g → is_open_call (thread_at p t).call ≡ is_begun g.stage
   open_at t g at =
       ap (λ (x : Thread). is_open_call x.call) (guest_there own guests trace t g at)
-      ∙ open_is g.stage g.program g.thread (of_thread t.0 (of_cpu number seen)) (begun_of (talk_of own.talks t)) (talk_of own.talks t).effect
-      (λ call. call_from call (talk_of own.talks t).position (talk_of own.talks t).effect
-      (stage_from (talk_of own.talks t).stage (slept_for own.cv.lock.slept t) (slept_for own.cv.waits t) (is_kept own t))) (λ c. refl) (follows_at t g at)
+      ∙ open_is g.stage g.program g.thread (of_thread t.0 (of_cpu number seen)) (begun_of (call_state_of own.call_states t))
+      (call_state_of own.call_states t).effect
+      (λ call. call_from call (call_state_of own.call_states t).position (call_state_of own.call_states t).effect
+      (stage_from (call_state_of own.call_states t).stage (slept_for own.cv.lock.slept t) (slept_for own.cv.waits t) (is_deferred own t))) (λ c. refl)
+      (follows_at t g at)
 
   ended_at : (t : Tid) (g : Guest) → guest_at guests t.0 ≡ Some g → (thread_at p t).ended ≡ is_ended g.stage
   ended_at t g at =
@@ -260,20 +263,22 @@ module _ (cpu : TabledCpu) where
     by_line t g at free (ins.Jnz r k) = refl
 
     pub call_of : (t : Tid) (g : Guest) → guest_at guests t.0 ≡ Some g
-        → (thread_at p t).call ≡ option_map (λ call. call_from call (talk_of own.talks t).position (talk_of own.talks t).effect
-        (stage_from (talk_of own.talks t).stage (slept_for own.cv.lock.slept t) (slept_for own.cv.waits t) (is_kept own t))) (begun_of (talk_of own.talks t))
+        → (thread_at p t).call ≡ option_map (λ call. call_from call (call_state_of own.call_states t).position (call_state_of own.call_states t).effect
+        (stage_from (call_state_of own.call_states t).stage (slept_for own.cv.lock.slept t) (slept_for own.cv.waits t) (is_deferred own t))) (begun_of
+        (call_state_of own.call_states t))
     call_of t g at = ap (λ (x : Thread). x.call) (guest_there own guests trace t g at)
 
     current_rest : (t : Tid) (g : Guest) → guest_at guests t.0 ≡ Some g
         → halted_by (at_call setup number p t (thread_at p t).call) ≡ rest_by (Some t) None (threads_in own).ready
     current_rest t g at =
         ap (λ o. halted_by (at_call setup number p t o)) (call_of t g at)
-        ∙ go (begun_of (talk_of own.talks t)) (is_calling g.stage) refl (call_is g.stage g.program g.thread (of_thread t.0 (of_cpu number seen))
-        (begun_of (talk_of own.talks t)) (talk_of own.talks t).effect (follows_at t g at))
+        ∙ go (begun_of (call_state_of own.call_states t)) (is_calling g.stage) refl (call_is g.stage g.program g.thread (of_thread t.0 (of_cpu number seen))
+        (begun_of (call_state_of own.call_states t)) (call_state_of own.call_states t).effect (follows_at t g at))
       where
         go : (o : Option Call) (b : Bool) → is_calling g.stage ≡ b → is_some o ≡ is_calling g.stage
-            → halted_by (at_call setup number p t (option_map (λ call. call_from call (talk_of own.talks t).position (talk_of own.talks t).effect
-            (stage_from (talk_of own.talks t).stage (slept_for own.cv.lock.slept t) (slept_for own.cv.waits t) (is_kept own t))) o))
+            → halted_by (at_call setup number p t (option_map (λ call. call_from call (call_state_of own.call_states t).position
+            (call_state_of own.call_states t).effect
+            (stage_from (call_state_of own.call_states t).stage (slept_for own.cv.lock.slept t) (slept_for own.cv.waits t) (is_deferred own t))) o))
             ≡ rest_by (Some t) None (threads_in own).ready
         go (Some c) b is_b same = sym (calling_rest t g None at (sym same))
         go None b is_b same =

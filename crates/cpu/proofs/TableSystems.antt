@@ -7,9 +7,9 @@ use Rattle.std.proofs.lemmas.Bool.{ne_eqb}
 use Rattle.std.proofs.lemmas.List.{map-set, take_more}
 use Rattle.event_log.specs.declared.ids.CpuId.{CpuId}
 use Rattle.event_log.specs.declared.ids.TheConstants.{CPUS}
-use Rattle.event_log.specs.Actions.{Action, Take, Try, Give, AreLegal, doer}
+use Rattle.event_log.specs.Actions.{Action, Take, Try, Give, AreLegal, cpu_of_action}
 use Rattle.event_log.specs.History.{AreForeign, IsLawful, same_cpu}
-use Rattle.event_log.proofs.Foreign.{doers_known}
+use Rattle.event_log.proofs.Foreign.{cpus_of_actions_known}
 use Rattle.event_log.proofs.Same.{same_cpu_self}
 use Rattle.layer_traits.specs.declared.steps.Reason.{Reason}
 use Rattle.layer_traits.specs.declared.steps.Step.{Step}
@@ -27,22 +27,23 @@ use Rattle.cpu.proofs.ListReads.{all_left, all_right, shows_at}
 
 -- where the holder acts for each CPU that there may be, no action is foreign
 none_else : {N : Type 0} (ActsFor : CpuId → Type 0) (others : List (Action N)) → ((c : CpuId) → c.0 < CPUS → ActsFor c)
-    → AllByRecursion (λ a. (doer a).0 < CPUS) others → AreForeign ActsFor doer others → others ≡ []
+    → AllByRecursion (λ a. (cpu_of_action a).0 < CPUS) others → AreForeign ActsFor cpu_of_action others → others ≡ []
 none_else ActsFor [] all known foreign = refl
 none_else ActsFor (a ∷ others) all known foreign =
-    let theirs = (foreign (doer a) (all (doer a) known.0)).0 in
-    let same : same_cpu (doer a) (doer a) ≡ true = same_cpu_self (doer a) in
+    let theirs = (foreign (cpu_of_action a) (all (cpu_of_action a) known.0)).0 in
+    let same : same_cpu (cpu_of_action a) (cpu_of_action a) ≡ true = same_cpu_self (cpu_of_action a) in
     absurd (cc (theirs, same))
 
 -- who acts is a CPU that there may be, by whatever name
-renamed_known : (acts : List (Action TowerName)) → IsLawful (λ before a. (doer a).0 < CPUS) acts → AllByRecursion (λ a. (doer a).0 < CPUS) (named acts)
+renamed_known : (acts : List (Action TowerName)) → IsLawful (λ before a. (cpu_of_action a).0 < CPUS) acts
+    → AllByRecursion (λ a. (cpu_of_action a).0 < CPUS) (named acts)
 renamed_known [] lawful = tt
 renamed_known (Take cpu lock ∷ past) lawful = (lawful.0, renamed_known past lawful.1)
 renamed_known (Try cpu lock hit ∷ past) lawful = (lawful.0, renamed_known past lawful.1)
 renamed_known (Give cpu lock name ∷ past) lawful = (lawful.0, renamed_known past lawful.1)
 
-pub acts_known : (acts : List (Action TowerName)) → AreLegal acts → AllByRecursion (λ a. (doer a).0 < CPUS) (named acts)
-acts_known acts legal = renamed_known acts (doers_known acts legal)
+pub acts_known : (acts : List (Action TowerName)) → AreLegal acts → AllByRecursion (λ a. (cpu_of_action a).0 < CPUS) (named acts)
+acts_known acts legal = renamed_known acts (cpus_of_actions_known acts legal)
 
 abbrev whole : List Private → List (Action Name) → ℕ → ℕ → Whole
 whole cpus log room taken = record { cpus = cpus; log = log; room = room; taken = taken }
@@ -54,7 +55,7 @@ left cpus log room taken = record { next = record { cpus = cpus; log = log; room
 -- a CPU's step by the table is the system's
 table_step : (ActsFor : CpuId → Type 0) (setup : Setup) (c : CpuId) (cpus : List Private) (log log2 : List (Action Name)) (room taken : ℕ) (p q : Private)
     → slice_get cpus c.0 ≡ Some p → IsStep ActsFor (cpu_step setup c) p q log log2 Stepped → ((d : CpuId) → d.0 < CPUS → ActsFor d)
-    → AllByRecursion (λ a. (doer a).0 < CPUS) log2 → taken ≢ room
+    → AllByRecursion (λ a. (cpu_of_action a).0 < CPUS) log2 → taken ≢ room
     → left (slice_set cpus c.0 q) log2 room (taken + 1) ≡ system_step setup c (record { cpus = cpus; log = log; room = room; taken = taken })
 table_step ActsFor setup c cpus log log2 room taken p q at step all known live =
     ap (λ (x : Private). left (slice_set cpus c.0 x) log2 room (taken + 1)) next
@@ -62,9 +63,9 @@ table_step ActsFor setup c cpus log log2 room taken p q at step all known live =
   where
     none : step.others ≡ []
     none = none_else ActsFor step.others all
-        (all_left (λ (a : Action Name). (doer a).0 < CPUS) step.others log
-        (all_right (λ (a : Action Name). (doer a).0 < CPUS) (cpu_step setup c p (step.others ++ log)).acts (step.others ++ log)
-        (subst (λ (l : List (Action Name)). AllByRecursion (λ a. (doer a).0 < CPUS) l) step.grows known)))
+        (all_left (λ (a : Action Name). (cpu_of_action a).0 < CPUS) step.others log
+        (all_right (λ (a : Action Name). (cpu_of_action a).0 < CPUS) (cpu_step setup c p (step.others ++ log)).acts (step.others ++ log)
+        (subst (λ (l : List (Action Name)). AllByRecursion (λ a. (cpu_of_action a).0 < CPUS) l) step.grows known)))
         step.foreign
 
     next : q ≡ (cpu_step setup c p log).next

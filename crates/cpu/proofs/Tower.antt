@@ -12,5 +12,5 @@ pub mod Polls
 pub mod Begins
 pub mod Passing
 pub mod Keeping
-pub mod Kept
+pub mod Preserved
 pub mod Passed

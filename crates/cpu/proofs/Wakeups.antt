@@ -13,7 +13,7 @@ pub mod Reaching
 pub mod Working
 pub mod Placed
 pub mod Says
-pub mod Kept
+pub mod SystemInv
 pub mod Stuck
 pub mod Alone
 pub mod Filled

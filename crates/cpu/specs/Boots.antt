@@ -4,9 +4,9 @@ use Rattle.event_log.specs.declared.entries.Entry.{Entry}
 use Rattle.event_log.specs.declared.ids.CpuId.{CpuId}
 use Rattle.event_log.specs.declared.ids.Tid.{Tid}
 use Rattle.event_log.specs.declared.ids.TheConstants.{THREADS}
-use Rattle.layer_traits.specs.declared.talks.Talk.{Talk}
+use Rattle.layer_traits.specs.declared.call_states.CallState.{CallState}
 use Rattle.layer_traits.specs.Places.{Threads, at_boot, home_of}
-use Rattle.layer_traits.specs.BufferLaw.{Buffering, Doing, buffering_at_start, quiet}
+use Rattle.layer_traits.specs.BufferLaw.{Buffering, UnderWay, buffering_at_start, no_call}
 use Rattle.cpu.specs.declared.guests.Guest.{Guest}
 use Rattle.cpu.specs.Guests.{new_guest}
 use Rattle.boot.specs.Plan.{BootPlan, Task}
@@ -38,13 +38,14 @@ pub record IsBooted (number : CpuId) (guests : List (Option Guest)) (most : ℕ)
 -- and its part of the layer is as at boot, and fits each machine that is fresh
 pub record IsBootedAs {P M : Type 0} (Fits : P → M → Type 0) (IsFresh : M → CpuId → Type 0)
     (count : M → ℕ) (IsStepwise : Type 0) (buffers : ℕ) (homes : List CpuId)
-    (k : ℕ) (guests : List (Option Guest)) (most : ℕ) (part : P) (cpu : CpuId) (own : Buffering) (threads : Threads) (talks : List Talk) (doing : Option Doing)
+    (k : ℕ) (guests : List (Option Guest)) (most : ℕ) (part : P) (cpu : CpuId) (own : Buffering) (threads : Threads) (call_states : List CallState)
+    (under_way : Option UnderWay)
     (its : CpuId) (table : List (Option Guest)) (trace : List Entry) (limit capacity : ℕ) : Type 0 where
   pub booted : IsBooted (record { 0 = k }) guests most its table trace limit capacity
   pub cpu_is : cpu ≡ record { 0 = k }
   pub threads_are : threads ≡ at_boot homes (record { 0 = k })
-  pub nobody_talks : talks ≡ replicate THREADS quiet
-  pub nothing_done : doing ≡ None
+  pub nobody_calls : call_states ≡ replicate THREADS no_call
+  pub nothing_done : under_way ≡ None
   pub own_is : IsStepwise → own ≡ buffering_at_start homes (record { 0 = k })
   pub fits : (m : M) → IsFresh m (record { 0 = k }) → count m ≡ buffers → Fits part m
 

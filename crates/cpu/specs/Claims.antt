@@ -1,5 +1,6 @@
 -- What a system shows, and what holds of it after every list of steps.
-use Rattle.std.specs.Prelude.{◌≡◌, ◌⊎◌, ℕ, zero, suc, ◌+◌, ◌<◌, Bool, true, false, List, [], ◌∷◌, map, length, reverse, Option, Some, None, slice_get, slice_index_or}
+use Rattle.std.specs.Prelude.{◌≡◌, ◌⊎◌, ℕ, zero, suc, ◌+◌, ◌<◌, Bool, true, false}
+use Rattle.std.specs.Prelude.{List, [], ◌∷◌, map, length, reverse, Option, Some, None, slice_get, slice_index_or}
 use Rattle.std.specs.List.{AllByRecursion}
 use Rattle.event_log.specs.declared.entries.Entry.{Entry}
 use Rattle.event_log.specs.declared.ids.BufId.{BufId}
@@ -8,20 +9,21 @@ use Rattle.event_log.specs.declared.ids.Tid.{Tid}
 use Rattle.event_log.specs.Actions.{Action}
 use Rattle.event_log.specs.Messages.{Message}
 use Rattle.event_log.specs.Runs.{IsRun, is_closed}
+use Rattle.event_log.specs.Streams.{IsFirstInFirstOut}
 use Rattle.event_log.specs.Traces.{IsInterleaving}
 use Rattle.guest.specs.declared.instructions.Instruction.{Instruction}
 use Rattle.guest.specs.Calls.{AreProgramsCalls, HasEnded}
 use Rattle.layer_traits.specs.declared.calls.Call.{Call}
 use Rattle.layer_traits.specs.declared.calls.Effect.{Effect}
 use Rattle.layer_traits.specs.declared.calls.Place.{Place}
-use Rattle.layer_traits.specs.declared.moves.Line.{Line}
-use Rattle.layer_traits.specs.declared.moves.Line.TheVariants.{Sleepers, Receivers, Senders}
+use Rattle.layer_traits.specs.declared.moves.WaitList.{WaitList}
+use Rattle.layer_traits.specs.declared.moves.WaitList.TheVariants.{Sleepers, Receivers, Senders}
 use Rattle.thread_blocks.specs.Queues.{is_in}
 use Rattle.layer_traits.specs.BufferEffects.{contents_of}
 use Rattle.layer_traits.specs.BufferLaw.{Buffering}
 use Rattle.layer_traits.specs.OnePlace.{StandsOnce as InOnePlace, total}
 use Rattle.layer_traits.specs.Places.{AreMoves, Stands, Step, Threads, count_in, home_of, where_is}
-use Rattle.layer_traits.specs.Told.{IsOwnPlace, queue_place}
+use Rattle.layer_traits.specs.Observed.{IsOwnPlace, queue_place}
 use Rattle.cpu.specs.declared.guests.Guest.{Guest}
 use Rattle.cpu.specs.Guests.{HasComeIn, is_ended}
 use Rattle.cpu.specs.Table.Blocks.{Name}
@@ -32,7 +34,7 @@ use Rattle.cpu.specs.Tower.Views.{TowerName}
 use Rattle.cpu.specs.Cpus.{IsOfHome, guest_at, of_thread, programs_of}
 
 -- who sleeps at a buffer: for its lock, for a message, for room
-pub record Beds : Type 0 where
+pub record WaitersAgree : Type 0 where
   pub sleepers : List Tid
   pub receivers : List Tid
   pub senders : List Tid
@@ -56,7 +58,7 @@ pub record Shown : Type 0 where
   pub homes : List CpuId
   pub contents : List (List Message)
   pub closed : List Bool
-  pub beds : List Beds
+  pub waiters_law : List WaitersAgree
   pub owners : List (Option Tid)
   pub moves : List Step
   -- the actions of all CPUs, newest first, by the names of the step table, where the machine does one action a step
@@ -74,8 +76,8 @@ abbrev pub buffer_at : ℕ → BufId
 buffer_at b = record { 0 = b }
 
 -- who sleeps at a buffer, by the lists of each line
-abbrev pub beds_by : (BufId → Line → List Tid) → ℕ → Beds
-beds_by lines b = record { sleepers = lines (buffer_at b) Sleepers; receivers = lines (buffer_at b) Receivers; senders = lines (buffer_at b) Senders }
+abbrev pub waiters_by : (BufId → WaitList → List Tid) → ℕ → WaitersAgree
+waiters_by lines b = record { sleepers = lines (buffer_at b) Sleepers; receivers = lines (buffer_at b) Receivers; senders = lines (buffer_at b) Senders }
 
 abbrev pub cpu_shown : Threads → List (Option Guest) → List Entry → ℕ → Bool → Buffering → CpuShown
 cpu_shown own guests trace limit busy part = record {
@@ -88,14 +90,14 @@ cpu_shown own guests trace limit busy part = record {
 }
 
 -- what a machine shows with its CPUs
-abbrev pub shown_of : List ℕ → List CpuId → List Entry → (BufId → Line → List Tid) → (BufId → Option Tid) → List Step → List (Action TowerName)
+abbrev pub shown_of : List ℕ → List CpuId → List Entry → (BufId → WaitList → List Tid) → (BufId → Option Tid) → List Step → List (Action TowerName)
     → List CpuShown → ℕ → ℕ → Shown
 shown_of caps homes seen lines owner moves acts cpus room taken = record {
   caps = caps;
   homes = homes;
   contents = contents_of caps seen;
   closed = listed (is_closed seen) 0 (length caps);
-  beds = listed (beds_by lines) 0 (length caps);
+  waiters_law = listed (waiters_by lines) 0 (length caps);
   owners = listed (λ b. owner (buffer_at b)) 0 (length caps);
   moves = moves;
   log = named acts;
@@ -111,12 +113,13 @@ traces_of s = map (λ p. p.trace) s.cpus
 abbrev pub programs_in : Shown → List (List (Option (List Instruction)))
 programs_in s = map (λ p. programs_of p.guests) s.cpus
 
--- the calls that took effect have one order that keeps every trace, is a run, and ends in the buffers' contents; a buffer is closed where
--- the order closes it
+-- the calls that took effect have one order that keeps every trace, is a run, and ends in the buffers' contents: for each buffer, what was put
+-- is what was taken, in that order, and then what it holds; a buffer is closed where the order closes it
 pub record HasOneOrder (s : Shown) : Type 0 where
   pub order : List Entry
   pub keeps : IsInterleaving (traces_of s) order
   pub run : IsRun s.caps order s.contents
+  pub fifo : IsFirstInFirstOut order s.contents
   pub closed : (b : ℕ) → b < length s.caps → slice_index_or s.closed b false ≡ is_closed order b
 
 -- A thread's entries, oldest first, are its program's calls, and it has ended only where its program ends. They lead to just its state:
@@ -139,14 +142,14 @@ abbrev pub StayHome : Shown → Type 0
 StayHome s = (c : ℕ) (p : CpuShown) → slice_get s.cpus c ≡ Some p → AllByRecursion (IsOfHome s.homes (record { 0 = c })) p.trace
 
 -- how often a thread stands among those that sleep at a buffer
-abbrev pub in_beds : Tid → Beds → ℕ
-in_beds t b = count_in t b.sleepers + count_in t b.receivers + count_in t b.senders
+abbrev pub in_waiters : Tid → WaitersAgree → ℕ
+in_waiters t b = count_in t b.sleepers + count_in t b.receivers + count_in t b.senders
 
 abbrev pub no_threads : Threads
 no_threads = record { current = None; hand = None; ready = []; ended = [] }
 
-abbrev pub no_beds : Beds
-no_beds = record { sleepers = []; receivers = []; senders = [] }
+abbrev pub no_waiters : WaitersAgree
+no_waiters = record { sleepers = []; receivers = []; senders = [] }
 
 abbrev pub own_in : Option CpuShown → Threads
 own_in None = no_threads
@@ -157,13 +160,13 @@ abbrev pub own_at : Shown → ℕ → Threads
 own_at s k = own_in (slice_get s.cpus k)
 
 -- who sleeps at buffer b
-abbrev pub beds_at : Shown → ℕ → Beds
-beds_at s b = slice_index_or s.beds b no_beds
+abbrev pub waiters_at : Shown → ℕ → WaitersAgree
+waiters_at s b = slice_index_or s.waiters_law b no_waiters
 
 -- each thread stands in exactly one place of the whole system: it runs or is ready with a CPU, is in one CPU's hand, in one pending queue,
 -- asleep in one line, or has ended; a number that is no thread's stands nowhere
 abbrev pub StandsOnce : Shown → Type 0
-StandsOnce s = (t : Tid) → InOnePlace s.homes (length s.cpus) s.moves (own_at s) (λ u. total (λ b. in_beds u (beds_at s b)) (length s.beds)) t
+StandsOnce s = (t : Tid) → InOnePlace s.homes (length s.cpus) s.moves (own_at s) (λ u. total (λ b. in_waiters u (waiters_at s b)) (length s.waiters_law)) t
 
 -- a thread's place: one CPU has it so of its own, or it stands in this queue
 abbrev pub IsPlaceOf : Shown → Tid → Place → Type 0

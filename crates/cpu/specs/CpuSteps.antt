@@ -11,12 +11,13 @@ use Rattle.cpu.specs.Tables.{IsTabled, WentByTable}
 
 -- what always holds of the CPU
 abbrev pub IsCpuAt : {P M : Type 0} → Ghosts P M → M → Cpu P M → Type 0
-IsCpuAt I m p = IsCpu (I.homes_of m) (length (I.caps m)) (I.seen m) (I.threads p.part) (I.talks p.part) (I.doing p.part) p.number p.guests.items p.trace.items
+IsCpuAt I m p = IsCpu (I.homes_of m) (length (I.caps m)) (I.seen m) (I.threads p.part) (I.call_states p.part)
+    (I.under_way p.part) p.number p.guests.items p.trace.items
     p.limit (vec_capacity p.trace)
 
 -- and what the step table asks of it besides
 abbrev pub IsTabledAt : {P M : Type 0} → Ghosts P M → M → Cpu P M → Type 0
-IsTabledAt I m p = IsTabled (I.homes_of m) (I.caps m) p.number (I.own p.part) (I.doing p.part) p.guests.items (I.opening m)
+IsTabledAt I m p = IsTabled (I.homes_of m) (I.caps m) p.number (I.own p.part) (I.under_way p.part) p.guests.items (I.opening m)
 
 -- why the CPU takes no step
 abbrev pub stops_at : {P M : Type 0} → Ghosts P M → Cpu P M → Option Reason

@@ -8,7 +8,7 @@ use Rattle.event_log.specs.declared.ids.CpuId.{CpuId}
 use Rattle.event_log.specs.declared.ids.Tid.{Tid}
 use Rattle.event_log.specs.declared.ids.TheConstants.{THREADS}
 use Rattle.event_log.specs.History.{AreForeign}
-use Rattle.event_log.specs.Actions.{Action, doer}
+use Rattle.event_log.specs.Actions.{Action, cpu_of_action}
 use Rattle.thread_blocks.specs.Queues.{is_in}
 use Rattle.guest.specs.declared.instructions.Instruction.{Instruction}
 use Rattle.guest.specs.Instructions.{instruction_at, names_below}
@@ -20,9 +20,9 @@ use Rattle.layer_traits.specs.declared.steps.Reason.{Reason}
 use Rattle.layer_traits.specs.declared.steps.Reason.TheVariants.{AllEnded, TraceFull}
 use Rattle.layer_traits.specs.declared.steps.Step.{Step}
 use Rattle.layer_traits.specs.declared.steps.Step.TheVariants.{Stepped, Halted}
-use Rattle.layer_traits.specs.declared.talks.Talk.{Talk}
+use Rattle.layer_traits.specs.declared.call_states.CallState.{CallState}
 use Rattle.layer_traits.specs.Places.{Threads, home_of}
-use Rattle.layer_traits.specs.BufferLaw.{Doing, Calling, Passing, entry_cpu, talk_of}
+use Rattle.layer_traits.specs.BufferLaw.{UnderWay, Calling, Passing, cpu_of_entry, call_state_of}
 use Rattle.cpu.specs.declared.guests.Guest.{Guest}
 use Rattle.cpu.specs.declared.guests.Todo.{Todo}
 use Rattle.cpu.specs.declared.guests.Todo.TheVariants.{Finish, PassOn, Compute, Calls}
@@ -85,10 +85,10 @@ stands_at None call = ⊥
 stands_at (Some g) call = todo_of g ≡ Calls call
 
 -- what is under way while a choice is being done
-abbrev pub doing_of : Choice → Option Doing
-doing_of (Polls t c) = Some (Calling t)
-doing_of (Passes pass) = Some (Passing pass)
-doing_of (Computes t) = None
+abbrev pub under_way_of : Choice → Option UnderWay
+under_way_of (Polls t c) = Some (Calling t)
+under_way_of (Passes pass) = Some (Passing pass)
+under_way_of (Computes t) = None
 
 -- whether this is a guest in a call without an effect
 abbrev pub is_begun_guest : Option Guest → Bool
@@ -143,9 +143,9 @@ of_thread t es = filter (λ e. e.thread.0 == t) es
 abbrev pub programs_of : List (Option Guest) → List (Option (List Instruction))
 programs_of guests = map (λ g. option_map (λ x. x.program) g) guests
 
--- each guest agrees with its entries and its talk
-abbrev pub AllFollow : List (Option Guest) → List Entry → List Talk → Type 0
-AllFollow guests es talks = (t : Tid) (g : Guest) → guest_at guests t.0 ≡ Some g → HasCome g (of_thread t.0 es) (talk_of talks t)
+-- each guest agrees with its entries and its call state
+abbrev pub AllFollow : List (Option Guest) → List Entry → List CallState → Type 0
+AllFollow guests es call_states = (t : Tid) (g : Guest) → guest_at guests t.0 ≡ Some g → HasCome g (of_thread t.0 es) (call_state_of call_states t)
 
 -- the guests of the threads that have ended are at their end
 abbrev pub AreOver : List (Option Guest) → List Tid → Type 0
@@ -161,21 +161,22 @@ pub record IsOfHome (homes : List CpuId) (number : CpuId) (e : Entry) : Type 0 w
   pub home : home_of homes e.thread ≡ Some number
 
 -- what always holds of a CPU
-pub record IsCpu (homes : List CpuId) (buffers : ℕ) (seen : List Entry) (own : Threads) (talks : List Talk) (doing : Option Doing) (number : CpuId)
+pub record IsCpu (homes : List CpuId) (buffers : ℕ) (seen : List Entry) (own : Threads) (call_states : List CallState) (under_way : Option UnderWay)
+    (number : CpuId)
     (guests : List (Option Guest)) (trace : List Entry) (limit capacity : ℕ) : Type 0 where
   -- its trace has each of its effects once, in their order, and each is of a thread at home with it
   pub kept : trace ≡ reverse (of_cpu number seen)
   pub stays : AllByRecursion (IsOfHome homes number) (of_cpu number seen)
   -- each guest agrees with its entries; each thread at home has a guest, whose program names the machine's buffers alone
-  pub follow : AllFollow guests (of_cpu number seen) talks
+  pub follow : AllFollow guests (of_cpu number seen) call_states
   pub over : AreOver guests own.ended
   pub homed : (t : Tid) → home_of homes t ≡ Some number → (g : Guest) × (guest_at guests t.0 ≡ Some g)
   pub named : (t : Tid) (g : Guest) → guest_at guests t.0 ≡ Some g → NamesBelow buffers g.program
   pub few : length guests ≤ THREADS
   -- what is under way is what would be chosen; a call that is under way has begun; a thread in no call has no woken thread in hand
-  pub agrees : (d : Doing) → doing ≡ Some d → doing_of (chosen own guests) ≡ Some d
-  pub calls : (t : Tid) (g : Guest) → doing ≡ Some (Calling t) → guest_at guests t.0 ≡ Some g → is_calling g.stage ≡ true
-  pub handed : (t : Tid) → own.current ≡ Some t → doing ≡ None → own.hand ≡ None
+  pub agrees : (d : UnderWay) → under_way ≡ Some d → under_way_of (chosen own guests) ≡ Some d
+  pub calls : (t : Tid) (g : Guest) → under_way ≡ Some (Calling t) → guest_at guests t.0 ≡ Some g → is_calling g.stage ≡ true
+  pub handed : (t : Tid) → own.current ≡ Some t → under_way ≡ None → own.hand ≡ None
   -- the trace has room for the entries of all calls that have begun
   pub room : length trace + begun_count guests ≤ limit
   pub reserved : limit ≤ capacity
@@ -184,7 +185,7 @@ pub record IsCpu (homes : List CpuId) (buffers : ℕ) (seen : List Entry) (own :
 pub record SeenGrows (ActsFor : CpuId → Type 0) (cpu : CpuId) (old new : List Entry) : Type 0 where
   pub others : List Entry
   pub mine : List Entry
-  pub foreign : AreForeign ActsFor entry_cpu others
+  pub foreign : AreForeign ActsFor cpu_of_entry others
   pub own : AllByRecursion (λ e. e.cpu ≡ cpu) mine
   pub few : length mine ≤ 1
   pub is : new ≡ mine ++ (others ++ old)
@@ -193,6 +194,6 @@ pub record SeenGrows (ActsFor : CpuId → Type 0) (cpu : CpuId) (old new : List 
 pub record ActsGrow {N : Type 0} (ActsFor : CpuId → Type 0) (cpu : CpuId) (old new : List (Action N)) : Type 0 where
   pub others : List (Action N)
   pub mine : List (Action N)
-  pub foreign : AreForeign ActsFor doer others
-  pub own : AllByRecursion (λ a. doer a ≡ cpu) mine
+  pub foreign : AreForeign ActsFor cpu_of_action others
+  pub own : AllByRecursion (λ a. cpu_of_action a ≡ cpu) mine
   pub is : new ≡ mine ++ (others ++ old)

@@ -21,12 +21,12 @@ use Rattle.layer_traits.specs.declared.calls.Reply.{Reply}
 use Rattle.layer_traits.specs.declared.calls.Reply.TheVariants.{Sent, Got, Shut, Closed, NoBuffer}
 use Rattle.layer_traits.specs.declared.passes.Pass.{Pass}
 use Rattle.layer_traits.specs.declared.passes.Pass.TheVariants.{Switch, YieldNow, Drain, MakeReady, End}
-use Rattle.layer_traits.specs.declared.talks.Talk.{Talk}
-use Rattle.layer_traits.specs.declared.talks.Stage.TheVariants as talk_stage
+use Rattle.layer_traits.specs.declared.call_states.CallState.{CallState}
+use Rattle.layer_traits.specs.declared.call_states.Stage.TheVariants as call_state_stage
 use Rattle.layer_traits.specs.BufferLaw.{IsEffectOf, begun_of, entry_of}
 use Rattle.cpu.specs.declared.guests.Guest.{Guest}
 use Rattle.cpu.specs.declared.guests.GuestStage.{GuestStage}
-use Rattle.cpu.specs.declared.guests.GuestStage.TheVariants.{Between, Begun, Done, Ended}
+use Rattle.cpu.specs.declared.guests.GuestStage.TheVariants.{Idle, Begun, Done, Ended}
 use Rattle.cpu.specs.declared.guests.Todo.{Todo}
 use Rattle.cpu.specs.declared.guests.Todo.TheVariants.{Finish, PassOn, Compute, Calls}
 
@@ -48,7 +48,7 @@ todo_of g = todo_at g.thread (next_of g.program g.thread)
 
 -- a guest before its first instruction
 abbrev pub new_guest : List Instruction → Guest
-new_guest program = record { program = program; thread = at_start; stage = Between }
+new_guest program = record { program = program; thread = at_start; stage = Idle }
 
 -- a guest after an instruction of its own
 abbrev pub computed : Guest → Guest
@@ -70,16 +70,16 @@ after_pass Drain g = g
 after_pass (MakeReady t) g = g
 after_pass End g = ended g
 
--- the effect that came in a poll, after which the thread's talk has this one: a call whose effect has come has no other
+-- the effect that came in a poll, after which the thread's call state has this one: a call whose effect has come has no other
 abbrev pub fresh_effect : GuestStage → Option Effect → Option Effect
-fresh_effect Between effect = effect
+fresh_effect Idle effect = effect
 fresh_effect Begun effect = effect
 fresh_effect Done effect = None
 fresh_effect Ended effect = effect
 
 -- the stage after a poll of the call
 abbrev pub stage_after : Option Effect → Option Reply → GuestStage
-stage_after effect (Some reply) = Between
+stage_after effect (Some reply) = Idle
 stage_after (Some f) None = Done
 stage_after None None = Begun
 
@@ -92,7 +92,7 @@ after_answer (Some (Got message)) i s = after_recv i message s
 after_answer (Some Shut) i s = after_close i s
 after_answer (Some Closed) i s = after_closed i s
 
--- a guest after a poll of its call, which left its talk with this effect
+-- a guest after a poll of its call, which left its call state with this effect
 abbrev pub polled : Guest → Option Effect → Option Reply → Guest
 polled g effect answer = record {
   program = g.program;
@@ -131,20 +131,20 @@ after_effect (ins.Jnz r k) f s = s
 -- a guest has come by its entries to where it stands, by its stage: before its effect they lead to its state; after it, to the state
 -- after the effect
 abbrev pub HasComeIn : GuestStage → List Instruction → State → List Entry → Option Call → Option Effect → Type 0
-HasComeIn Between program s es begun effect = (begun ≡ None) × IsProgramsCalls program es s
+HasComeIn Idle program s es begun effect = (begun ≡ None) × IsProgramsCalls program es s
 HasComeIn Begun program s es begun effect = (c : Call) × (todo_at s (next_of program s) ≡ Calls c) × (begun ≡ Some c)
     × (effect ≡ None) × IsProgramsCalls program es s
 HasComeIn Done program s es begun effect = (c : Call) × (f : Effect) × (todo_at s (next_of program s) ≡ Calls c) × (begun ≡ Some c)
     × (effect ≡ Some f) × IsEffectOf c f × IsProgramsCalls program es (after_effect (next_of program s) f s)
 HasComeIn Ended program s es begun effect = (begun ≡ None) × IsProgramsCalls program es s × HasEnded program s
 
--- a talk in no call is between calls
-abbrev pub IsSettled : Talk → Type 0
-IsSettled talk = begun_of talk ≡ None → talk.stage ≡ talk_stage.Between
+-- a call state in no call is between calls
+abbrev pub IsSettled : CallState → Type 0
+IsSettled call_state = begun_of call_state ≡ None → call_state.stage ≡ call_state_stage.Idle
 
--- a guest, its entries and its talk agree
-abbrev pub HasCome : Guest → List Entry → Talk → Type 0
-HasCome g es talk = IsSettled talk × HasComeIn g.stage g.program g.thread es (begun_of talk) talk.effect
+-- a guest, its entries and its call state agree
+abbrev pub HasCome : Guest → List Entry → CallState → Type 0
+HasCome g es call_state = IsSettled call_state × HasComeIn g.stage g.program g.thread es (begun_of call_state) call_state.effect
 
 -- the effect that a call has had: one that begins now has had none
 abbrev pub had : Option Call → Option Effect → Option Effect
@@ -157,21 +157,21 @@ entries_of cpu t b effect = option_to_list (option_map (entry_of cpu t b) effect
 
 -- whether a stage is that of a call without an effect
 abbrev pub is_begun : GuestStage → Bool
-is_begun Between = false
+is_begun Idle = false
 is_begun Begun = true
 is_begun Done = false
 is_begun Ended = false
 
 -- whether a stage is the last one
 abbrev pub is_ended : GuestStage → Bool
-is_ended Between = false
+is_ended Idle = false
 is_ended Begun = false
 is_ended Done = false
 is_ended Ended = true
 
 -- whether a stage is inside a call
 abbrev pub is_calling : GuestStage → Bool
-is_calling Between = false
+is_calling Idle = false
 is_calling Begun = true
 is_calling Done = true
 is_calling Ended = false

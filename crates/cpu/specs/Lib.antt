@@ -6,7 +6,7 @@ pub mod Tower
 pub mod Claims
 pub mod Systems
 pub mod Sound
-pub mod Told
+pub mod Observed
 pub mod Calm
 pub mod Boots
 pub mod Tables

@@ -12,7 +12,7 @@ use Rattle.layer_traits.specs.declared.steps.Step.{Step}
 use Rattle.layer_traits.specs.Along.{IsStep}
 use Rattle.layer_traits.specs.Passes.{IsLocalPass}
 use Rattle.layer_traits.specs.Places.{home_of}
-use Rattle.layer_traits.specs.BufferLaw.{Buffering, Doing, Passing}
+use Rattle.layer_traits.specs.BufferLaw.{Buffering, UnderWay, Passing}
 use Rattle.cpu.specs.declared.guests.Guest.{Guest}
 use Rattle.cpu.specs.Guests.{is_ended}
 use Rattle.cpu.specs.Cpus.{guest_at}
@@ -21,7 +21,7 @@ use Rattle.cpu.specs.Table.Steps.{cpu_step}
 use Rattle.cpu.specs.Tower.Views.{TowerBlock, TowerName}
 use Rattle.cpu.specs.Tower.Privates.{private_of, threads_in}
 use Rattle.cpu.specs.Tower.Composed.{OpensAs, named}
-use Rattle.cpu.specs.Tower.Standing.{IsPart}
+use Rattle.cpu.specs.Tower.Positions.{IsPart}
 
 -- the guests' states; a thread of another home stays at its start
 abbrev pub state_of : Option Guest → State
@@ -48,7 +48,7 @@ abbrev pub bare : List CpuId → List ℕ → Setup
 bare homes caps = record { cpus = 0; homes = homes; programs = []; caps = caps; trace_room = 0 }
 
 -- what the table asks of a CPU besides
-pub record IsTabled (homes : List CpuId) (caps : List ℕ) (number : CpuId) (own : Buffering) (doing : Option Doing) (guests : List (Option Guest))
+pub record IsTabled (homes : List CpuId) (caps : List ℕ) (number : CpuId) (own : Buffering) (under_way : Option UnderWay) (guests : List (Option Guest))
     (opening : LockId → Option TowerBlock) : Type 0 where
   -- all threads stand to its part as they may, and the opening blocks are the table's
   pub part : IsPart own
@@ -58,7 +58,7 @@ pub record IsTabled (homes : List CpuId) (caps : List ℕ) (number : CpuId) (own
   pub ends : (t : Tid) (g : Guest) → guest_at guests t.0 ≡ Some g → is_ended g.stage ≡ true → is_in t (threads_in own).ended ≡ true
   pub size : length guests ≡ length homes
   -- a pass that touches nothing shared is never under way
-  pub quick : (p : Pass) → doing ≡ Some (Passing p) → IsLocalPass p → ⊥
+  pub quick : (p : Pass) → under_way ≡ Some (Passing p) → IsLocalPass p → ⊥
 
 -- a CPU went from the old part, guests, trace and actions to the new ones by one step of the table, whatever setup of its machine it is
 abbrev pub WentByTable : (CpuId → Type 0) → List CpuId → List ℕ → CpuId → ℕ → (own own2 : Buffering) → (guests guests2 : List (Option Guest))

@@ -1,4 +1,4 @@
 pub mod Views
 pub mod Privates
 pub mod Composed
-pub mod Standing
+pub mod Positions

@@ -9,13 +9,13 @@ ghost use Rattle.cpu.specs.Cpus.{begins_at, begun_count, chosen_for, guest_at, s
 use crate::guest_tables::Guests;
 use crate::guests::{Guest, Todo};
 use event_log::{BufId, CpuId, Entry, Tid};
-use layer_traits::{Call, Effect, IpcLayer, Meant, Pass, Reason, Reply, Step};
+use layer_traits::{Call, Effect, Ghost, IpcLayer, Pass, Reason, Reply, Step};
 
 /// What a CPU does next that is not halted.
 #[derive(Drop)]
 pub enum Choice {
     /// It polls this message call of the thread that runs.
-    Polls(Tid, Meant<Call>),
+    Polls(Tid, Ghost<Call>),
     /// It polls this pass from thread to thread.
     Passes(Pass),
     /// The thread that runs does an instruction of its own.
@@ -75,7 +75,7 @@ impl<I: IpcLayer> Cpu<I> {
             return None;
         }
         if let Choice::Polls(thread, _) = self.choice() {
-            let begins = is_between(self.guests.at(thread));
+            let begins = is_in_no_call(self.guests.at(thread));
             if begins && self.trace.len() + self.guests.begun() == self.limit {
                 return Some(Reason::TraceFull);
             }
@@ -130,7 +130,7 @@ impl<I: IpcLayer> Cpu<I> {
 
     /// Polls the message call at which the thread that runs stands, which is the one asked for.
     #[inline(always)]
-    fn call(&mut self, m: &mut I::Machine, thread: Tid, asked: Meant<Call>)
+    fn call(&mut self, m: &mut I::Machine, thread: Tid, asked: Ghost<Call>)
         requires fits { I.Fits self.old.part m.old }
         requires room { 0 < I.room m.old }
         requires number { I.cpu_of self.old.part ≡ self.old.number }
@@ -311,7 +311,7 @@ fn choice_for(thread: Tid, hand: Option<Tid>, guest: &Option<Guest>) -> Choice
 
 /// Whether there is a guest and it is in no call.
 #[inline(always)]
-fn is_between(guest: &Option<Guest>) -> bool
+fn is_in_no_call(guest: &Option<Guest>) -> bool
     ensures { result ≡ begins_at guest.now }
 {
     match guest {

@@ -102,13 +102,13 @@ impl Guests {
         ensures { self.new.items ≡ passed_by runs self.old.items pass }
     {
         if let Some(thread) = runs {
-            self.hear_pass(thread, pass);
+            self.record_pass(thread, pass);
         }
     }
 
     /// Tells the guest of this thread, which ran, of this pass.
     #[inline(always)]
-    fn hear_pass(&mut self, thread: Tid, pass: Pass)
+    fn record_pass(&mut self, thread: Tid, pass: Pass)
         requires { thread.0 < length self.old.items }
         ensures { self.new.items ≡ passed_by (Some thread) self.old.items pass }
     {

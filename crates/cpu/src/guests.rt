@@ -7,13 +7,13 @@ ghost use Rattle.cpu.specs.declared.guests.Todo.TheVariants.{Calls};
 
 use event_log::BufId;
 use guest::{Instruction, Program, Thread};
-use layer_traits::{Call, Effect, Meant, Pass, Reply};
+use layer_traits::{Call, Effect, Ghost, Pass, Reply};
 
 /// How a guest stands to its program.
 #[derive(Clone, Copy, Debug, PartialEq, Eq)]
 pub enum GuestStage {
     /// It stands before an instruction that it has not begun.
-    Between,
+    Idle,
     /// It has begun the message call at which it stands, and the call has had no effect yet.
     Begun,
     /// The message call at which it stands has had its effect, and has not returned yet.
@@ -33,7 +33,7 @@ impl GuestStage {
     {
         match self {
             GuestStage::Begun => true,
-            GuestStage::Between | GuestStage::Done | GuestStage::Ended => false,
+            GuestStage::Idle | GuestStage::Done | GuestStage::Ended => false,
         }
     }
 
@@ -44,7 +44,7 @@ impl GuestStage {
     {
         match self {
             GuestStage::Ended => false,
-            GuestStage::Between | GuestStage::Begun | GuestStage::Done => true,
+            GuestStage::Idle | GuestStage::Begun | GuestStage::Done => true,
         }
     }
 }
@@ -59,7 +59,7 @@ pub enum Todo {
     /// It does an instruction that touches its own line and registers alone.
     Compute,
     /// It polls this message call.
-    Calls(Meant<Call>),
+    Calls(Ghost<Call>),
 }
 
 /// A thread's guest: its program, its line and registers, and its stage.
@@ -83,7 +83,7 @@ impl Guest {
         Guest {
             program,
             thread: Thread::new(),
-            stage: GuestStage::Between,
+            stage: GuestStage::Idle,
         }
     }
 
@@ -96,7 +96,7 @@ impl Guest {
             Instruction::Exit => Todo::Finish,
             Instruction::Yield => Todo::PassOn,
             Instruction::Send(..) | Instruction::Recv(..) | Instruction::Close(_) => {
-                Todo::Calls(Meant::of(&self.call()))
+                Todo::Calls(Ghost::of(&self.call()))
             }
             Instruction::Set(..)
             | Instruction::Add(..)
@@ -130,7 +130,7 @@ impl Guest {
         ensures { result ≡ is_calling self.now.stage }
     {
         match self.stage {
-            GuestStage::Between | GuestStage::Ended => false,
+            GuestStage::Idle | GuestStage::Ended => false,
             GuestStage::Begun | GuestStage::Done => true,
         }
     }
@@ -178,7 +178,7 @@ impl Guest {
     {
         match self.stage {
             GuestStage::Done => false,
-            GuestStage::Between | GuestStage::Begun | GuestStage::Ended => true,
+            GuestStage::Idle | GuestStage::Begun | GuestStage::Ended => true,
         }
     }
 
@@ -189,7 +189,7 @@ impl Guest {
         ensures { self.new ≡ polled self.old effect.now answer.now }
     {
         self.stage = match (answer, effect) {
-            (Some(_), _) => GuestStage::Between,
+            (Some(_), _) => GuestStage::Idle,
             (None, Some(_)) => GuestStage::Done,
             (None, None) => GuestStage::Begun,
         };

@@ -46,18 +46,18 @@ where
 
     ghost Value = { Shown };
 
-    ghost view = { λ s. shown_of (I.caps s.machine) (I.homes_of s.machine) (I.seen s.machine) (I.lines s.machine) (I.owner s.machine) (I.moves s.machine)
+    ghost view = { λ s. shown_of (I.caps s.machine) (I.homes_of s.machine) (I.seen s.machine) (I.wait_lists s.machine) (I.owner s.machine) (I.moves s.machine)
         (I.acts s.machine)
         (map (λ c. cpu_shown (I.threads c.part) c.guests.items c.trace.items c.limit (I.is_inside c.part) (I.own c.part)) s.cpus.items) s.room s.taken };
 
     ghost invariant = { λ s. IsSystem (λ c. I.Fits c.part s.machine × (I.cpu_of c.part ≡ c.number)
-        × IsCpu (I.homes_of s.machine) (length (I.caps s.machine)) (I.seen s.machine) (I.threads c.part) (I.talks c.part)
-        (I.doing c.part) c.number c.guests.items c.trace.items c.limit (vec_capacity c.trace)
-        × (I.IsStepwise → IsTabled (I.homes_of s.machine) (I.caps s.machine) c.number (I.own c.part) (I.doing c.part) c.guests.items (I.opening s.machine)))
+        × IsCpu (I.homes_of s.machine) (length (I.caps s.machine)) (I.seen s.machine) (I.threads c.part) (I.call_states c.part)
+        (I.under_way c.part) c.number c.guests.items c.trace.items c.limit (vec_capacity c.trace)
+        × (I.IsStepwise → IsTabled (I.homes_of s.machine) (I.caps s.machine) c.number (I.own c.part) (I.under_way c.part) c.guests.items (I.opening s.machine)))
         (λ c. c.number) (λ c. I.ActsFor s.machine c) I.IsStepwise (I.acts s.machine) s.cpus.items (I.homes_of s.machine) (I.seen s.machine) s.room s.taken
         (I.room s.machine)
         ((s.threads ≡ length (I.homes_of s.machine)) × (I.IsStepwise
-        → IsReachedByTable (shown_of (I.caps s.machine) (I.homes_of s.machine) (I.seen s.machine) (I.lines s.machine) (I.owner s.machine)
+        → IsReachedByTable (shown_of (I.caps s.machine) (I.homes_of s.machine) (I.seen s.machine) (I.wait_lists s.machine) (I.owner s.machine)
         (I.moves s.machine) (I.acts s.machine)
         (map (λ c. cpu_shown (I.threads c.part) c.guests.items c.trace.items c.limit (I.is_inside c.part) (I.own c.part)) s.cpus.items) s.room s.taken))) };
 }
@@ -73,7 +73,7 @@ where
     ghost use Rattle.cpu.specs.Cpus.{step_answer};
     ghost use Rattle.cpu.specs.Claims.{FollowPrograms, HasOneOrder, IsPlaceOf, MovesAgree, StandsOnce, StayHome, shown_of, traces_of};
     ghost use Rattle.cpu.specs.Sound.{RanByTable, ReturnsAlone, SoundByTable};
-    ghost use Rattle.cpu.specs.Told.{ToldByTable};
+    ghost use Rattle.cpu.specs.Observed.{ObservedByTable};
     ghost use Rattle.cpu.specs.Systems.{HaltsByTable, Ran, SamePlan, SteppedByTable, halted_in, reason_of};
 
     /// Takes one step of `cpu`, which must exist: one local action or one atomic action.
@@ -96,7 +96,7 @@ where
         // The step table reaches the system, no wake-up is lost, and the system tells what the
         // table has.
         ensures sound { I.IsStepwise → SoundByTable self.new }
-        ensures told { I.IsStepwise → ToldByTable self.new }
+        ensures observed { I.IsStepwise → ObservedByTable self.new }
 
         // What holds after every list of steps.
         ensures one_order { HasOneOrder self.new }
@@ -191,7 +191,7 @@ where
         // the system tells what the table has.
         ensures table { OnOk result (I.IsStepwise → RanByTable self.old steps.now self.new) }
         ensures sound { I.IsStepwise → SoundByTable self.new }
-        ensures told { I.IsStepwise → ToldByTable self.new }
+        ensures observed { I.IsStepwise → ObservedByTable self.new }
         ensures plan { SamePlan self.old self.new }
 
         // What holds after every list of steps.
@@ -307,7 +307,7 @@ where
     /// moves and actions the system shows, and nobody else acts in it.
     pub fn machine(&self) -> &I::Machine
         ensures acts { (c : CpuId) → c.0 < CPUS → I.ActsFor result.now c }
-        ensures shows { self.now ≡ shown_of (I.caps result.now) (I.homes_of result.now) (I.seen result.now) (I.lines result.now) (I.owner result.now)
+        ensures shows { self.now ≡ shown_of (I.caps result.now) (I.homes_of result.now) (I.seen result.now) (I.wait_lists result.now) (I.owner result.now)
             (I.moves result.now) (I.acts result.now) self.now.cpus self.now.room self.now.taken }
     {
         &self.machine
@@ -317,7 +317,7 @@ where
     pub fn holds(&self)
         ensures sound { I.IsStepwise → SoundByTable self.now }
         ensures agree { MovesAgree self.now }
-        ensures told { I.IsStepwise → ToldByTable self.now }
+        ensures observed { I.IsStepwise → ObservedByTable self.now }
         ensures one_order { HasOneOrder self.now }
         ensures follow { FollowPrograms self.now }
         ensures stay { StayHome self.now }

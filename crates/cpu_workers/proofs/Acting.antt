@@ -4,10 +4,10 @@ use Rattle.event_log.specs.declared.ids.CpuId.{CpuId}
 use Rattle.event_log.specs.History.{IsLawful}
 use Rattle.layer_traits.specs.OneLock.{opened}
 use Rattle.layer_traits.specs.WordsProtocol.{MayCome}
-use Rattle.table_machine.specs.Desks.{Desk}
+use Rattle.table_machine.specs.SeatViews.{SeatView}
 use Rattle.cpu_workers.specs.Closing.{tower_rules}
 use Rattle.cpu_workers.specs.Seating.{Block, Edit}
 
 -- it acts for its own, and what it has seen is lawful
-abbrev pub Acts : Desk Edit Block → CpuId → Type 0
+abbrev pub Acts : SeatView Edit Block → CpuId → Type 0
 Acts s d = (d ≡ s.cpu) × IsLawful (MayCome (tower_rules.allowed (opened s.start))) s.seen

@@ -25,7 +25,7 @@ use Rattle.layer_traits.specs.declared.queue_edits.QueueEdit.TheVariants as edit
 use Rattle.layer_traits.specs.declared.queues.QueueEvent.{QueueEvent}
 use Rattle.layer_traits.specs.Acted.{ItemsAre, guarded}
 use Rattle.layer_traits.specs.BufferEffects.{MayTakeEffect, contents_of, effects_in}
-use Rattle.layer_traits.specs.BufferProtocol.{BufferLock, buffer_deeds}
+use Rattle.layer_traits.specs.BufferProtocol.{BufferLock, buffer_monitor_rules}
 use Rattle.layer_traits.specs.Conditions.{CvCall, cv_rules}
 use Rattle.layer_traits.specs.IpcLaw.{OpensSo}
 use Rattle.layer_traits.specs.LockLaw.{lock_kernel}
@@ -46,21 +46,21 @@ use Rattle.sleep_wakeup.specs.Nested as sleep
 use Rattle.sleep_wakeup.specs.NestedLaws.{nested_lawful}
 use Rattle.queuing_lock.specs.declared.edits.QLockEdit.{QLockEdit}
 use Rattle.queuing_lock.specs.Edits as locked
-use Rattle.queuing_lock.specs.Nested.{busy_rules, lock_of}
+use Rattle.queuing_lock.specs.Nested.{busy_rules, nested_lock_of}
 use Rattle.queuing_lock.specs.Nested as lock
 use Rattle.queuing_lock.specs.NestedLaws.{locks_lawful}
 use Rattle.fifo_buffer.specs.OwnedLaws.{items_acted}
 use Rattle.fifo_buffer.specs.Tallies.{effects_lawful}
 use Rattle.fifo_buffer.proofs.Opening.{boots_well, caps_are}
 use Rattle.ipc_calls.specs.OpeningLaws.{opens_so}
-use Rattle.table_machine.specs.Desks.{Board}
+use Rattle.table_machine.specs.SeatViews.{TableView}
 use Rattle.cpu.specs.Table.Setups.{Setup, opening as table_opening}
 use Rattle.cpu.specs.Table.Steps.{block_at}
 use Rattle.cpu.specs.Tower.Composed.{named}
 use Rattle.cpu.specs.Tower.Views.{TowerBlock, TowerName, view}
 use Rattle.cpu.proofs.TableCalls.{opens_so as opens_as}
-use Rattle.cpu.proofs.Telling.{block_told}
-use Rattle.cpu_workers.specs.Closing.{LockBlock, LockEdit, StartsSo, WordsOfTower, acts_in, blocks_told, seen_above, tower_rules}
+use Rattle.cpu.proofs.Observing.{block_read}
+use Rattle.cpu_workers.specs.Closing.{LockBlock, LockEdit, StartsSo, WordsOfTower, acts_in, blocks_read, seen_above, tower_rules}
 use Rattle.cpu_workers.specs.Lawful.{messages_in}
 use Rattle.cpu_workers.specs.Orders.{effects_of}
 
@@ -117,10 +117,10 @@ given_back {B} left at (o ∷ start) (x ∷ blocks) count each none =
     go true same y leaves later = sym leaves ∙ ap left (same_lock_true o.0 at same)
     go false other y leaves later = later other
 
-module _ (setup : Setup) (board : Board (QueueBlock LockBlock)) (so : StartsSo setup board) (log : WordsOfTower)
-    (legal : IsLawful (MayCome (tower_rules.allowed (opened board.start))) log) where
+module _ (setup : Setup) (table_view : TableView (QueueBlock LockBlock)) (so : StartsSo setup table_view) (log : WordsOfTower)
+    (legal : IsLawful (MayCome (tower_rules.allowed (opened table_view.start))) log) where
   abbrev opening : LockId → Option (QueueBlock LockBlock)
-  opening = opened board.start
+  opening = opened table_view.start
 
   abbrev above : LockId → Option TowerBlock
   above = seen_above opening
@@ -149,11 +149,11 @@ module _ (setup : Setup) (board : Board (QueueBlock LockBlock)) (so : StartsSo s
   abbrev events : List (QueueEvent (CvCall BufferEdit))
   events = renamed_events lock.edit_in (renamed_events sleep.edit_in (map event_of (sections_in acts_words)))
 
-  lawful_calls : IsLawful (QueueAllowed (lock_kernel (cv_rules buffer_deeds) above)) events
+  lawful_calls : IsLawful (QueueAllowed (lock_kernel (cv_rules buffer_monitor_rules) above)) events
   lawful_calls =
-      locks_lawful (cv_rules buffer_deeds) (viewed state_of opening) (renamed_events sleep.edit_in (map event_of (sections_in acts_words)))
-      (nested_lawful (busy_rules (cv_rules buffer_deeds)) opening (map event_of (sections_in acts_words))
-      (lawful_events (nested_rules (busy_rules (cv_rules buffer_deeds))) (nested_moves (busy_rules (cv_rules buffer_deeds))) opening
+      locks_lawful (cv_rules buffer_monitor_rules) (viewed state_of opening) (renamed_events sleep.edit_in (map event_of (sections_in acts_words)))
+      (nested_lawful (busy_rules (cv_rules buffer_monitor_rules)) opening (map event_of (sections_in acts_words))
+      (lawful_events (nested_rules (busy_rules (cv_rules buffer_monitor_rules))) (nested_moves (busy_rules (cv_rules buffer_monitor_rules))) opening
       (sections_in acts_words) lawful_words))
 
   events_are : events ≡ map event_of (sections_in acts)
@@ -161,11 +161,11 @@ module _ (setup : Setup) (board : Board (QueueBlock LockBlock)) (so : StartsSo s
 
   proper : AreProper (sections_in acts)
   proper = proper_renamed lock.edit_in acts_slept (proper_renamed sleep.edit_in acts_words
-      (lawful_proper (nested_rules (busy_rules (cv_rules buffer_deeds))) (nested_moves (busy_rules (cv_rules buffer_deeds))) opening
+      (lawful_proper (nested_rules (busy_rules (cv_rules buffer_monitor_rules))) (nested_moves (busy_rules (cv_rules buffer_monitor_rules))) opening
       (sections_in acts_words) lawful_words))
 
   starts : StartsWell above
-  starts = starts_viewed lock_of (viewed state_of opening) (starts_viewed state_of opening so.starts)
+  starts = starts_viewed nested_lock_of (viewed state_of opening) (starts_viewed state_of opening so.starts)
 
   -- Each effect may come after those before it.
   pub effects_may : IsLawful (MayTakeEffect setup.caps) (effects_of setup.caps acts)
@@ -177,22 +177,23 @@ module _ (setup : Setup) (board : Board (QueueBlock LockBlock)) (so : StartsSo s
 
   left_above : (at : LockId) → guarded above acts at ≡ seen_above (λ l. block_after tower_rules.edited opening l (sections log)) at
   left_above at =
-      ap (λ l. block_after (queue_edited (lock_edited (cv_rules buffer_deeds))) above at l)
+      ap (λ l. block_after (queue_edited (lock_edited (cv_rules buffer_monitor_rules))) above at l)
       (sections_in_renamed (renamed_edit lock.edit_in) acts_slept
       ∙ ap (map (renamed_section (renamed_edit lock.edit_in)))
       (sections_in_renamed (renamed_edit sleep.edit_in) acts_words
       ∙ ap (map (renamed_section (renamed_edit sleep.edit_in))) (sections_acts edit_of log)))
-      ∙ block_seen (sleep_edited (busy_rules (cv_rules buffer_deeds))) (lock_edited (cv_rules buffer_deeds)) lock.edit_in lock_of
-      (locked.edits (cv_rules buffer_deeds)) (viewed state_of opening) at (map (renamed_section (renamed_edit sleep.edit_in)) (sections log))
-      ∙ ap (option_map (viewed_block lock_of))
-      (block_seen (nested_edited (busy_rules (cv_rules buffer_deeds))) (sleep_edited (busy_rules (cv_rules buffer_deeds))) sleep.edit_in state_of
+      ∙ block_seen (sleep_edited (busy_rules (cv_rules buffer_monitor_rules))) (lock_edited (cv_rules buffer_monitor_rules)) lock.edit_in nested_lock_of
+      (locked.edits (cv_rules buffer_monitor_rules)) (viewed state_of opening) at (map (renamed_section (renamed_edit sleep.edit_in)) (sections log))
+      ∙ ap (option_map (viewed_block nested_lock_of))
+      (block_seen (nested_edited (busy_rules (cv_rules buffer_monitor_rules))) (sleep_edited (busy_rules
+      (cv_rules buffer_monitor_rules))) sleep.edit_in state_of
       (λ d a. refl) opening at (sections log))
 
   opens : (c : CpuId) → c.0 < setup.cpus → OpensSo setup.caps setup.homes c above
   opens c within =
       opens_so setup.caps setup.homes c above starts
-      (homes_viewed lock_of (viewed state_of opening) ∙ homes_viewed state_of opening ∙ so.homes)
-      (viewed_there lock_of (viewed state_of opening) (Pending c) (viewed_there state_of opening (Pending c) (so.queues c within))) so.locks
+      (homes_viewed nested_lock_of (viewed state_of opening) ∙ homes_viewed state_of opening ∙ so.homes)
+      (viewed_there nested_lock_of (viewed state_of opening) (Pending c) (viewed_there state_of opening (Pending c) (so.queues c within))) so.locks
 
   buffer_opens : (b : BufId) → option_map view (above (AtBuffer b)) ≡ table_opening setup (AtBuffer b)
   buffer_opens b = opens_as setup.homes setup.caps (record { 0 = 0 }) above (opens (record { 0 = 0 }) so.some) (AtBuffer b) tt
@@ -200,25 +201,25 @@ module _ (setup : Setup) (board : Board (QueueBlock LockBlock)) (so : StartsSo s
   queue_opens : (c : CpuId) → c.0 < setup.cpus → option_map view (above (Pending c)) ≡ table_opening setup (Pending c)
   queue_opens c within = opens_as setup.homes setup.caps c above (opens c within) (Pending c) (inl refl)
 
-  module _ (blocks : List (LockId × QueueBlock LockBlock)) (count : length blocks ≡ length board.start)
-      (given : (i : ℕ) (o : LockId × QueueBlock LockBlock) → slice_get board.start i ≡ Some o
+  module _ (blocks : List (LockId × QueueBlock LockBlock)) (count : length blocks ≡ length table_view.start)
+      (given : (i : ℕ) (o : LockId × QueueBlock LockBlock) → slice_get table_view.start i ≡ Some o
       → (b : QueueBlock LockBlock) × (slice_get blocks i ≡ Some (o.0, b))
       × (block_after tower_rules.edited opening o.0 (sections log) ≡ Some b)) where
     -- the blocks that were given back, as the layers above see them
     blocks_above : (at : LockId) → seen_above (opened blocks) at ≡ guarded above acts at
     blocks_above at =
-        ap (λ o. option_map (viewed_block lock_of) (option_map (viewed_block state_of) o))
-        (given_back (λ l. block_after tower_rules.edited opening l (sections log)) at board.start blocks count given
+        ap (λ o. option_map (viewed_block nested_lock_of) (option_map (viewed_block state_of) o))
+        (given_back (λ l. block_after tower_rules.edited opening l (sections log)) at table_view.start blocks count given
         (λ none. after_none tower_rules.edited opening at (sections log) none))
         ∙ sym (left_above at)
 
-    blocks_at : (at : LockId) → option_map view (above at) ≡ table_opening setup at → blocks_told blocks at ≡ block_at setup at (named acts)
-    blocks_at at same = ap (option_map view) (blocks_above at) ∙ sym (block_told setup above acts at same)
+    blocks_at : (at : LockId) → option_map view (above at) ≡ table_opening setup at → blocks_read blocks at ≡ block_at setup at (named acts)
+    blocks_at at same = ap (option_map view) (blocks_above at) ∙ sym (block_read setup above acts at same)
 
-    pub buffers_left : (b : BufId) → blocks_told blocks (AtBuffer b) ≡ block_at setup (AtBuffer b) (named acts)
+    pub buffers_left : (b : BufId) → blocks_read blocks (AtBuffer b) ≡ block_at setup (AtBuffer b) (named acts)
     buffers_left b = blocks_at (AtBuffer b) (buffer_opens b)
 
-    pub queues_left : (c : CpuId) → c.0 < setup.cpus → blocks_told blocks (Pending c) ≡ block_at setup (Pending c) (named acts)
+    pub queues_left : (c : CpuId) → c.0 < setup.cpus → blocks_read blocks (Pending c) ≡ block_at setup (Pending c) (named acts)
     queues_left c within = blocks_at (Pending c) (queue_opens c within)
 
     -- a buffer holds what the effects leave in it
@@ -236,14 +237,14 @@ module _ (setup : Setup) (board : Board (QueueBlock LockBlock)) (so : StartsSo s
         (items_acted above (boots_well above setup.caps so.locks few) b (subst (λ (l : List ℕ). b.0 < length l) (sym caps_same) within)
         events acts starts proper events_are lawful_calls)
 
-    messages_told : (o : Option TowerBlock) (held : BufferLock) → above_of o ≡ Some held → messages_in (option_map view o) ≡ held.above.items
-    messages_told None held is = absurd (cc is)
-    messages_told (Some (block.Queue queue homes)) held is = absurd (cc is)
-    messages_told (Some (block.Above state)) held is = let same : state ≡ held = cc is in ap (λ (x : BufferLock). x.above.items) same
+    messages_read : (o : Option TowerBlock) (held : BufferLock) → above_of o ≡ Some held → messages_in (option_map view o) ≡ held.above.items
+    messages_read None held is = absurd (cc is)
+    messages_read (Some (block.Queue queue homes)) held is = absurd (cc is)
+    messages_read (Some (block.Above state)) held is = let same : state ≡ held = cc is in ap (λ (x : BufferLock). x.above.items) same
 
     pub messages_left : (b : BufId) → b.0 < length setup.caps
-        → items_of (contents_of setup.caps (effects_of setup.caps acts)) b.0 ≡ messages_in (blocks_told blocks (AtBuffer b))
+        → items_of (contents_of setup.caps (effects_of setup.caps acts)) b.0 ≡ messages_in (blocks_read blocks (AtBuffer b))
     messages_left b within =
         let are = items b within in
         are.holds
-        ∙ sym (ap (λ o. messages_in (option_map view o)) (blocks_above (AtBuffer b)) ∙ messages_told (guarded above acts (AtBuffer b)) are.lock are.there)
+        ∙ sym (ap (λ o. messages_in (option_map view o)) (blocks_above (AtBuffer b)) ∙ messages_read (guarded above acts (AtBuffer b)) are.lock are.there)

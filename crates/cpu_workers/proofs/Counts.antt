@@ -17,15 +17,15 @@ use Rattle.event_log.specs.declared.ids.LockId.{LockId}
 use Rattle.event_log.specs.History.{own_events, same_cpu, same_lock, AreOthers}
 use Rattle.event_log.specs.declared.events.Event.{Event}
 use Rattle.event_log.specs.declared.events.Event.TheVariants.{Draw, Look, Free}
-use Rattle.event_log.specs.WordsLog.{Outside, actor, frees, standing}
-use Rattle.event_log.specs.Sections.{Section, block_after, section_actor, sections_of}
+use Rattle.event_log.specs.WordsLog.{Idle, cpu_of_event, frees, lock_phase}
+use Rattle.event_log.specs.Sections.{Section, block_after, cpu_of_section, sections_of}
 use Rattle.event_log.proofs.Same.{same_cpu_self, same_lock_self}
 use Rattle.layer_traits.specs.declared.edits.Mark.{Mark}
 use Rattle.layer_traits.specs.OneLock.{opened}
 use Rattle.layer_traits.specs.Protocol.{section}
 use Rattle.layer_traits.specs.WordsProtocol.{edit_of, sections}
 use Rattle.layer_traits.specs.BufferLaw.{MayGoOn}
-use Rattle.table_machine.specs.Desks.{Board, Desk, site_of, new_desk, new_desks, Covers, IsOver, Closes}
+use Rattle.table_machine.specs.SeatViews.{TableView, SeatView, site_of, new_seat_view, new_seat_views, Covers, IsOver, Closes}
 use Rattle.cpu_workers.specs.declared.counting.AddOne.{AddOne}
 use Rattle.cpu_workers.specs.declared.counting.TheConstants.{NUMBER}
 use Rattle.cpu_workers.specs.Counts.{counting, sections_at, made, HasMade, AllHaveMade, IsFresh, IsNumberOfFrees, nowhere}
@@ -55,22 +55,22 @@ one_more false k = omega arith
 
 -- a poll of this section, behind others' sections, adds it where it answers and only then
 module _ {E : Type 0} (s : Section E) (others old new : List (Section E)) (answered : Bool)
-    (is : new ≡ (if answered then s ∷ (others ++ old) else others ++ old)) (theirs : AreOthers section_actor s.cpu others) where
+    (is : new ≡ (if answered then s ∷ (others ++ old) else others ++ old)) (theirs : AreOthers cpu_of_section s.cpu others) where
   -- a poll that does not answer adds no section of its CPU
   pub poll_waits : answered ≡ false → made s.cpu s.lock new ≡ made s.cpu s.lock old
   poll_waits waits =
       let new_is : new ≡ others ++ old = is ∙ ap (λ b. if b then s ∷ (others ++ old) else others ++ old) waits in
-      ap (made s.cpu s.lock) new_is ∙ ap (sections_at s.lock) (own_others section_actor s.cpu others old theirs)
+      ap (made s.cpu s.lock) new_is ∙ ap (sections_at s.lock) (own_others cpu_of_section s.cpu others old theirs)
 
   -- a poll that answers adds its section
   pub poll_answers : answered ≡ true → made s.cpu s.lock new ≡ made s.cpu s.lock old + 1
   poll_answers answers =
       let new_is : new ≡ s ∷ (others ++ old) = is ∙ ap (λ b. if b then s ∷ (others ++ old) else others ++ old) answers in
-      let own : List (Section E) = own_events section_actor s.cpu (others ++ old) in
-      let mine : own_events section_actor s.cpu (s ∷ (others ++ old)) ≡ s ∷ own = ap (λ b. if b then s ∷ own else own) (same_cpu_self s.cpu) in
+      let own : List (Section E) = own_events cpu_of_section s.cpu (others ++ old) in
+      let mine : own_events cpu_of_section s.cpu (s ∷ (others ++ old)) ≡ s ∷ own = ap (λ b. if b then s ∷ own else own) (same_cpu_self s.cpu) in
       ap (made s.cpu s.lock) new_is ∙ (ap (sections_at s.lock) mine
       ∙ (ap (λ b. if b then sections_at s.lock own + 1 else sections_at s.lock own) (same_lock_self s.lock)
-      ∙ ap (λ l. sections_at s.lock l + 1) (own_others section_actor s.cpu others old theirs)))
+      ∙ ap (λ l. sections_at s.lock l + 1) (own_others cpu_of_section s.cpu others old theirs)))
 
 -- after a poll that does not answer, the section that was polled is under way
 pub goes_on : {S : Type 0} (under_way : Option S) (answered : Bool) (s t : S) → under_way ≡ (if answered then None else Some s)
@@ -79,29 +79,29 @@ goes_on under_way answered s t is waits same =
     let now : under_way ≡ Some s = is ∙ ap (λ b. if b then None else Some s) waits in
     subst (λ (u : Option _). MayGoOn u t) (sym now) same
 
--- a board at the table of these numbers
-abbrev board_of : List ℕ → Board ℕ
-board_of (words ∷ slots ∷ views_name ∷ atom ∷ block ∷ offset ∷ names) = record {
+-- a table view of the table of these numbers
+abbrev table_view_of : List ℕ → TableView ℕ
+table_view_of (words ∷ slots ∷ views_name ∷ atom ∷ block ∷ offset ∷ names) = record {
   table = record { words = words; slots = slots; views_name = views_name; atom = atom; block = block; offset = offset; slot_names = names };
   start = [];
   cpus = 0;
 }
-board_of numbers = nowhere
+table_view_of numbers = nowhere
 
 -- a key that has come back from a seat at its table
-pub has_made : {E B : Type 0} (lock : LockId) (old new : Desk E B) (cpu : CpuId) (times : ℕ) → cpu ≡ old.cpu → cpu ≡ new.cpu
-    → site_of new.table ≡ site_of old.table → standing cpu new.seen ≡ Outside
+pub has_made : {E B : Type 0} (lock : LockId) (old new : SeatView E B) (cpu : CpuId) (times : ℕ) → cpu ≡ old.cpu → cpu ≡ new.cpu
+    → site_of new.table ≡ site_of old.table → lock_phase cpu new.seen ≡ Idle
     → made cpu lock (sections new.seen) ≡ made cpu lock (sections old.seen) + times → HasMade lock old new times
 has_made lock old new cpu times of is table outside more = record {
   cpu = sym is ∙ of;
-  table = ap (λ (numbers : List ℕ). (board_of numbers).table) table;
-  outside = subst (λ c. standing c new.seen ≡ Outside) is outside;
+  table = ap (λ (numbers : List ℕ). (table_view_of numbers).table) table;
+  outside = subst (λ c. lock_phase c new.seen ≡ Idle) is outside;
   more = subst (λ c. made c lock (sections new.seen) ≡ made c lock (sections old.seen) + times) of more;
 }
 
 -- what the promise of a worker says of its key
-pub kept_for : {E B : Type 0} (lock : LockId) (d e r : Desk E B) (times turns : ℕ) → e ≡ d → turns ≡ times → HasMade lock e r turns → HasMade lock d r times
-kept_for lock d e r times turns d_is times_is made = subst (λ (x : Desk _ _). HasMade lock x r times) d_is (subst (λ (n : ℕ). HasMade lock e r n) times_is made)
+pub kept_for : {E B : Type 0} (lock : LockId) (d e r : SeatView E B) (times turns : ℕ) → e ≡ d → turns ≡ times → HasMade lock e r turns → HasMade lock d r times
+kept_for lock d e r times turns d_is times_is made = subst (λ (x : SeatView _ _). HasMade lock x r times) d_is (subst (λ (n : ℕ). HasMade lock e r n) times_is made)
 
 -- the numbers of the CPUs below n, added up
 unfoldable pub total : (CpuId → ℕ) → ℕ → ℕ
@@ -145,19 +145,19 @@ total_more f g (suc n) d b within here other = dite (ℕ_discrete n d.0)
 
 module _ {E : Type 0} (lock : LockId) (n : ℕ) where
   -- where all sections are of CPUs below n, their number is the sum of the CPUs' numbers
-  pub sections_add_up : (past : List (Section E)) → ((c : CpuId) → n ≤ c.0 → own_events section_actor c past ≡ [])
+  pub sections_add_up : (past : List (Section E)) → ((c : CpuId) → n ≤ c.0 → own_events cpu_of_section c past ≡ [])
       → sections_at lock past ≡ total (λ c. made c lock past) n
   sections_add_up [] known = sym (total_none n)
   sections_add_up (s ∷ past) known =
       let d : CpuId = s.cpu in
-      let before : List (Section E) = own_events section_actor d past in
-      let self : own_events section_actor d (s ∷ past) ≡ s ∷ before = ap (λ b. if b then s ∷ before else before) (same_cpu_self d) in
+      let before : List (Section E) = own_events cpu_of_section d past in
+      let self : own_events cpu_of_section d (s ∷ past) ≡ s ∷ before = ap (λ b. if b then s ∷ before else before) (same_cpu_self d) in
       let within : d.0 < n = elim (dec_le n d.0) [
         | yes large ↦ absurd (let gone : s ∷ before ≡ [] = sym self ∙ known d large in cc)
         | no small ↦ lt_of_not-le small
       ] in
-      let others : (c : CpuId) → c.0 ≢ d.0 → own_events section_actor c (s ∷ past) ≡ own_events section_actor c past = λ c away.
-      ap (λ b. if b then s ∷ own_events section_actor c past else own_events section_actor c past) (ne_eqb d.0 c.0 (λ e. away (sym e))) in
+      let others : (c : CpuId) → c.0 ≢ d.0 → own_events cpu_of_section c (s ∷ past) ≡ own_events cpu_of_section c past = λ c away.
+      ap (λ b. if b then s ∷ own_events cpu_of_section c past else own_events cpu_of_section c past) (ne_eqb d.0 c.0 (λ e. away (sym e))) in
       let b : ℕ = if same_lock lock s.lock then 1 else 0 in
       let so_far : sections_at lock past ≡ total (λ c. made c lock past) n
       = sections_add_up past (λ c large. sym (others c (λ same. omega arith)) ∙ known c large) in
@@ -167,23 +167,25 @@ module _ {E : Type 0} (lock : LockId) (n : ℕ) where
       one_more (same_lock lock s.lock) (sections_at lock past) ∙ (ap (λ k. k + b) so_far ∙ sym sum)
 
 -- a CPU's sections are those of its own events
-own_sections : {E : Type 0} (c : CpuId) (log : List (Event (Mark E))) → own_events section_actor c (sections log) ≡ sections (own_events actor c log)
+own_sections : {E : Type 0} (c : CpuId) (log : List (Event (Mark E))) → own_events cpu_of_section c (sections log) ≡ sections (own_events cpu_of_event c log)
 own_sections c [] = refl
 own_sections c (Draw d lock ticket ∷ log) = own_sections c log ∙ go (same_cpu d c)
   where
-    go : (b : Bool) → sections (own_events actor c log) ≡ sections (if b then Draw d lock ticket ∷ own_events actor c log else own_events actor c log)
+    go : (b : Bool) → sections (own_events cpu_of_event c log) ≡ sections
+        (if b then Draw d lock ticket ∷ own_events cpu_of_event c log else own_events cpu_of_event c log)
     go true = refl
     go false = refl
 own_sections c (Look d lock ticket read ∷ log) = own_sections c log ∙ go (same_cpu d c)
   where
-    go : (b : Bool) → sections (own_events actor c log) ≡ sections (if b then Look d lock ticket read ∷ own_events actor c log else own_events actor c log)
+    go : (b : Bool) → sections (own_events cpu_of_event c log) ≡ sections
+        (if b then Look d lock ticket read ∷ own_events cpu_of_event c log else own_events cpu_of_event c log)
     go true = refl
     go false = refl
 own_sections c (Free d lock mark ∷ log) = go (same_cpu d c) (own_sections c log)
   where
-    go : (b : Bool) → own_events section_actor c (sections log) ≡ sections (own_events actor c log)
-        → (if b then section d lock mark.edit ∷ own_events section_actor c (sections log) else own_events section_actor c (sections log))
-        ≡ sections (if b then Free d lock mark ∷ own_events actor c log else own_events actor c log)
+    go : (b : Bool) → own_events cpu_of_section c (sections log) ≡ sections (own_events cpu_of_event c log)
+        → (if b then section d lock mark.edit ∷ own_events cpu_of_section c (sections log) else own_events cpu_of_section c (sections log))
+        ≡ sections (if b then Free d lock mark ∷ own_events cpu_of_event c log else own_events cpu_of_event c log)
     go true same = ap (λ l. section d lock mark.edit ∷ l) same
     go false same = same
 
@@ -197,68 +199,68 @@ both_last Fits (w ∷ xs) x [] all = absurd all
 both_last Fits (w ∷ xs) x (y ∷ ys) all = let more = both_last Fits xs x ys all.1 in (y ∷ more.0, more.1, ap (λ l. y ∷ l) more.2, (all.0, more.3), more.4)
 
 -- what came back for each key of a new table
-came_at : {E B : Type 0} (board : Board B) (Fits : Desk E B → Desk E B → Type 0) (n : ℕ) (came : List (Desk E B)) → Both Fits (new_desks board n) came
-    → (k : ℕ) → k < n → (e : Desk E B) × (slice_get came k ≡ Some e) × Fits (new_desk board k) e
-came_at board Fits zero came all k below = absurd (omega arith)
-came_at {E = E} board Fits (suc n) came all k below =
-    let split = both_last Fits (new_desks board n) (new_desk board n) came all in
-    let long : length split.0 ≡ n = both_length Fits (new_desks board n) split.0 split.3 ∙ length_new E board n in
+came_at : {E B : Type 0} (table_view : TableView B) (Fits : SeatView E B → SeatView E B → Type 0) (n : ℕ) (came : List (SeatView E B)) → Both Fits (new_seat_views table_view n) came
+    → (k : ℕ) → k < n → (e : SeatView E B) × (slice_get came k ≡ Some e) × Fits (new_seat_view table_view k) e
+came_at table_view Fits zero came all k below = absurd (omega arith)
+came_at {E = E} table_view Fits (suc n) came all k below =
+    let split = both_last Fits (new_seat_views table_view n) (new_seat_view table_view n) came all in
+    let long : length split.0 ≡ n = both_length Fits (new_seat_views table_view n) split.0 split.3 ∙ length_new E table_view n in
     dite (ℕ_discrete k n)
-    (λ (e : k ≡ n). subst (λ (m : ℕ). (e : Desk _ _) × (slice_get came m ≡ Some e) × Fits (new_desk board m) e) (sym e)
+    (λ (e : k ≡ n). subst (λ (m : ℕ). (e : SeatView _ _) × (slice_get came m ≡ Some e) × Fits (new_seat_view table_view m) e) (sym e)
     (split.1, ap (λ l. slice_get l n) split.2 ∙ last_got split.0 split.1 n long, split.4))
     (λ (ne : k ≢ n). (
-    let old = came_at board Fits n split.0 split.3 k (omega arith) in
+    let old = came_at table_view Fits n split.0 split.3 k (omega arith) in
     (old.0, ap (λ l. slice_get l k) split.2 ∙ longer_got split.0 (split.1 ∷ []) k old.0 old.1, old.2)))
 
-module _ {B : Type 0} {E : Type 0} (lock : LockId) (times : ℕ) (board : Board B) (came : List (Desk E B))
-    (all : AllHaveMade lock (new_desks board board.cpus) came times) where
+module _ {B : Type 0} {E : Type 0} (lock : LockId) (times : ℕ) (table_view : TableView B) (came : List (SeatView E B))
+    (all : AllHaveMade lock (new_seat_views table_view table_view.cpus) came times) where
   -- each CPU has its key among those that came back
-  pub came_cover : Covers board.cpus came
+  pub came_cover : Covers table_view.cpus came
   came_cover c below =
-      let here = came_at board (λ d e. HasMade lock d e times) board.cpus came all c.0 below in (c.0, here.0, here.1, here.2.cpu)
+      let here = came_at table_view (λ d e. HasMade lock d e times) table_view.cpus came all c.0 below in (c.0, here.0, here.1, here.2.cpu)
 
   -- each key that came back is over
-  pub came_over : All (IsOver board) came
+  pub came_over : All (IsOver table_view) came
   came_over k d below =
-      let long : length came ≡ board.cpus = both_length (λ d e. HasMade lock d e times) (new_desks board board.cpus) came all ∙ length_new E board board.cpus in
-      let here = came_at board (λ d e. HasMade lock d e times) board.cpus came all k (subst (λ m. k < m) long below) in
-      subst (λ (x : Desk E B). IsOver board x) (sym (get_or_from_slice_get came k here.0 d here.1))
+      let long : length came ≡ table_view.cpus = both_length (λ d e. HasMade lock d e times) (new_seat_views table_view table_view.cpus) came all ∙ length_new E table_view table_view.cpus in
+      let here = came_at table_view (λ d e. HasMade lock d e times) table_view.cpus came all k (subst (λ m. k < m) long below) in
+      subst (λ (x : SeatView E B). IsOver table_view x) (sym (get_or_from_slice_get came k here.0 d here.1))
       (record { table = here.2.table; outside = here.2.outside })
 
-module _ (times : ℕ) (board : Board ℕ) (came : List (Desk AddOne ℕ)) (blocks : List (LockId × ℕ))
-    (all : AllHaveMade NUMBER (new_desks board board.cpus) came times) (closes : Closes counting board came blocks) where
+module _ (times : ℕ) (table_view : TableView ℕ) (came : List (SeatView AddOne ℕ)) (blocks : List (LockId × ℕ))
+    (all : AllHaveMade NUMBER (new_seat_views table_view table_view.cpus) came times) (closes : Closes counting table_view came blocks) where
   -- the Frees of the log of the closed table: each CPU of the table has so many
-  frees_are : frees NUMBER closes.log ≡ times * board.cpus
+  frees_are : frees NUMBER closes.log ≡ times * table_view.cpus
   frees_are =
       let secs = sections closes.log in
-      let own_made : (c : CpuId) → c.0 < board.cpus → made c NUMBER secs ≡ times = λ c below. (
-      let here = came_at board (λ d e. HasMade NUMBER d e times) board.cpus came all c.0 below in
+      let own_made : (c : CpuId) → c.0 < table_view.cpus → made c NUMBER secs ≡ times = λ c below. (
+      let here = came_at table_view (λ d e. HasMade NUMBER d e times) table_view.cpus came all c.0 below in
       let cpu_is : here.0.cpu ≡ c = here.2.cpu in
-      let whole : own_events actor c closes.log ≡ own_events actor c here.0.seen
-      = subst (λ x. own_events actor x closes.log ≡ own_events actor x here.0.seen) cpu_is (closes.keys c.0 here.0 here.1).whole in
+      let whole : own_events cpu_of_event c closes.log ≡ own_events cpu_of_event c here.0.seen
+      = subst (λ x. own_events cpu_of_event x closes.log ≡ own_events cpu_of_event x here.0.seen) cpu_is (closes.keys c.0 here.0 here.1).whole in
       ap (sections_at NUMBER) (own_sections c closes.log ∙ (ap sections whole ∙ sym (own_sections c here.0.seen))) ∙ (here.2.more ∙ zero-add times)) in
-      let known : (c : CpuId) → board.cpus ≤ c.0 → own_events section_actor c secs ≡ []
+      let known : (c : CpuId) → table_view.cpus ≤ c.0 → own_events cpu_of_section c secs ≡ []
       = λ c large. own_sections c closes.log ∙ ap sections (closes.rest c large) in
       sym (frees_are_sections edit_of NUMBER closes.log)
-      ∙ (sections_add_up NUMBER board.cpus secs known ∙ total_each (λ c. made c NUMBER secs) board.cpus times own_made)
+      ∙ (sections_add_up NUMBER table_view.cpus secs known ∙ total_each (λ c. made c NUMBER secs) table_view.cpus times own_made)
 
   -- a number that is so many is that of the Frees
-  pub left_by_frees : (number : ℕ) → number ≡ times * board.cpus → IsNumberOfFrees counting NUMBER board came number
+  pub left_by_frees : (number : ℕ) → number ≡ times * table_view.cpus → IsNumberOfFrees counting NUMBER table_view came number
   left_by_frees number is = record { log = closes.log; legal = closes.legal; keys = closes.keys; rest = closes.rest; is = is ∙ sym frees_are }
 
   -- the number that the workers left
-  pub number_is_left : board.start ≡ (NUMBER, 0) ∷ [] → board.cpus ≤ CPUS → times * CPUS < 2 ^ 64
-      → (slice_get blocks 0 ≡ Some (NUMBER, times * board.cpus)) × (0 < length blocks)
+  pub number_is_left : table_view.start ≡ (NUMBER, 0) ∷ [] → table_view.cpus ≤ CPUS → times * CPUS < 2 ^ 64
+      → (slice_get blocks 0 ≡ Some (NUMBER, times * table_view.cpus)) × (0 < length blocks)
   number_is_left start few most =
       let secs = sections closes.log in
-      let first : slice_get board.start 0 ≡ Some (NUMBER, 0) = ap (λ l. slice_get l 0) start in
+      let first : slice_get table_view.start 0 ≡ Some (NUMBER, 0) = ap (λ l. slice_get l 0) start in
       let there = closes.blocks_are 0 (NUMBER, 0) first in
-      let zeroth : opened board.start NUMBER ≡ Some 0 = ap (λ l. opened l NUMBER) start in
-      let folded : Some (sections_at NUMBER secs % 2 ^ 64) ≡ Some there.0 = sym (number_is (opened board.start) NUMBER secs zeroth) ∙ there.2 in
+      let zeroth : opened table_view.start NUMBER ≡ Some 0 = ap (λ l. opened l NUMBER) start in
+      let folded : Some (sections_at NUMBER secs % 2 ^ 64) ≡ Some there.0 = sym (number_is (opened table_view.start) NUMBER secs zeroth) ∙ there.2 in
       let number : sections_at NUMBER secs % 2 ^ 64 ≡ there.0 = cc in
-      let sum : sections_at NUMBER secs ≡ times * board.cpus = frees_are_sections edit_of NUMBER closes.log ∙ frees_are in
-      let small : times * board.cpus < 2 ^ 64 = small_product times board.cpus most few in
-      let number_is_that : there.0 ≡ times * board.cpus = sym number ∙ (ap (λ n. n % 2 ^ 64) sum ∙ mod-eq_of_lt small) in
+      let sum : sections_at NUMBER secs ≡ times * table_view.cpus = frees_are_sections edit_of NUMBER closes.log ∙ frees_are in
+      let small : times * table_view.cpus < 2 ^ 64 = small_product times table_view.cpus most few in
+      let number_is_that : there.0 ≡ times * table_view.cpus = sym number ∙ (ap (λ n. n % 2 ^ 64) sum ∙ mod-eq_of_lt small) in
       let count : length blocks ≡ 1 = closes.count ∙ ap length start in
       (there.1 ∙ ap (λ (b : ℕ). Some (NUMBER, b)) number_is_that, omega arith)
     where
@@ -289,21 +291,21 @@ both_taken Fits keys at d x hs all h below so_far is fits grown =
     (subst (λ (ys : List _). Both Fits ys (hs ++ h ∷ [])) (sym (take_more keys at d below)) more)
 
 -- the keys of a new table are fresh
-pub new_fresh : {E B : Type 0} (board : Board B) (n : ℕ) → All (IsFresh {E = E} board) (new_desks board n)
-new_fresh board zero k d below = absurd (omega arith)
-new_fresh {E = E} board (suc n) k d below = dite (ℕ_discrete k n)
+pub new_fresh : {E B : Type 0} (table_view : TableView B) (n : ℕ) → All (IsFresh {E = E} table_view) (new_seat_views table_view n)
+new_fresh table_view zero k d below = absurd (omega arith)
+new_fresh {E = E} table_view (suc n) k d below = dite (ℕ_discrete k n)
     (λ (e : k ≡ n).
-    let last : slice_get (new_desks {E = E} board n ++ new_desk board n ∷ []) k ≡ Some (new_desk board n)
-    = ap (λ m. slice_get (new_desks {E = E} board n ++ new_desk board n ∷ []) m) e
-    ∙ last_got (new_desks board n) (new_desk board n) n (length_new E board n) in
-    subst (λ (x : Desk _ _). IsFresh board x)
-    (sym (get_or_from_slice_get (new_desks board n ++ new_desk board n ∷ []) k (new_desk board n) d last)) refl)
+    let last : slice_get (new_seat_views {E = E} table_view n ++ new_seat_view table_view n ∷ []) k ≡ Some (new_seat_view table_view n)
+    = ap (λ m. slice_get (new_seat_views {E = E} table_view n ++ new_seat_view table_view n ∷ []) m) e
+    ∙ last_got (new_seat_views table_view n) (new_seat_view table_view n) n (length_new E table_view n) in
+    subst (λ (x : SeatView _ _). IsFresh table_view x)
+    (sym (get_or_from_slice_get (new_seat_views table_view n ++ new_seat_view table_view n ∷ []) k (new_seat_view table_view n) d last)) refl)
     (λ (ne : k ≢ n).
-    let long : length (new_desks {E = E} board n ++ new_desk board n ∷ []) ≡ n + 1
-    = length-append (new_desks {E = E} board n) (new_desk board n ∷ []) ∙ ap (λ m. m + 1) (length_new E board n) in
+    let long : length (new_seat_views {E = E} table_view n ++ new_seat_view table_view n ∷ []) ≡ n + 1
+    = length-append (new_seat_views {E = E} table_view n) (new_seat_view table_view n ∷ []) ∙ ap (λ m. m + 1) (length_new E table_view n) in
     let under : k < n = omega arith in
-    let there : k < length (new_desks {E = E} board n) = subst (λ m. k < m) (sym (length_new E board n)) under in
-    subst (λ (x : Desk _ _). IsFresh board x) (sym (get_or-append (new_desks board n) (new_desk board n ∷ []) d k there)) (new_fresh board n k d there))
+    let there : k < length (new_seat_views {E = E} table_view n) = subst (λ m. k < m) (sym (length_new E table_view n)) under in
+    subst (λ (x : SeatView _ _). IsFresh table_view x) (sym (get_or-append (new_seat_views table_view n) (new_seat_view table_view n ∷ []) d k there)) (new_fresh table_view n k d there))
 
 -- so many children, one for each key that was taken, leave room for one more
 pub room_at : {A B : Type 0} (keys : List A) (children : List B) (at n cap : ℕ) → at < length keys → length children ≡ length (take at keys)
@@ -319,9 +321,9 @@ pub taken_all : {A C : Type 0} (keys : List A) (at : ℕ) (ys all : List C) → 
 taken_all keys at ys all turn is many = let long = ap length is in take_all at keys (omega arith)
 
 -- the keys of a new table have made no section
-pub new_have_made_none : (E : Type 0) {B : Type 0} (lock : LockId) (board : Board B) (n : ℕ)
-    → AllHaveMade {E = E} lock (new_desks board n) (new_desks board n) 0
-new_have_made_none E lock board zero = tt
-new_have_made_none E lock board (suc n) =
-    both_more (λ d e. HasMade {E = E} lock d e 0) (new_desks board n) (new_desks board n) (new_desk board n) (new_desk board n)
-    (new_have_made_none E lock board n) (record { cpu = refl; table = refl; outside = refl; more = omega arith })
+pub new_have_made_none : (E : Type 0) {B : Type 0} (lock : LockId) (table_view : TableView B) (n : ℕ)
+    → AllHaveMade {E = E} lock (new_seat_views table_view n) (new_seat_views table_view n) 0
+new_have_made_none E lock table_view zero = tt
+new_have_made_none E lock table_view (suc n) =
+    both_more (λ d e. HasMade {E = E} lock d e 0) (new_seat_views table_view n) (new_seat_views table_view n) (new_seat_view table_view n) (new_seat_view table_view n)
+    (new_have_made_none E lock table_view n) (record { cpu = refl; table = refl; outside = refl; more = omega arith })

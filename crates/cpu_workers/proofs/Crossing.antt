@@ -9,7 +9,7 @@ use denote.Param.Send.{IsSend, IsSync, sendable, enum_send, enum_sync, recorded_
 use Rattle.std.proofs.Crossing.{crosses}
 use Rattle.thread_blocks.specs.contracts.queues.ThreadQueue as queue
 use Rattle.thread_blocks.proofs.queues.ThreadQueue.TheSendSync as queue_crosses
-use Rattle.layer_traits.proofs.room.Room.TheSendSync as room_crosses
+use Rattle.layer_traits.proofs.block_box.BlockBox.TheSendSync as box_crosses
 use Rattle.layer_traits.specs.contracts.queue_edits.QueueBlock as block
 use Rattle.layer_traits.proofs.queue_edits.QueueEdit.TheSendSync as queue_edit
 use Rattle.sleep_wakeup.proofs.edits.SleepEdit.TheSendSync as sleep_edit
@@ -22,13 +22,13 @@ use Rattle.event_log.proofs.messages.Msg.TheSendSync as message_crosses
 use Rattle.layer_traits.proofs.conditions.CvOut.TheSendSync as cv_out_crosses
 use Rattle.layer_traits.proofs.locked.QOut.TheSendSync as lock_out_crosses
 use Rattle.layer_traits.proofs.sleeps.Outcome.TheSendSync as outcome_crosses
-use Rattle.layer_traits.specs.contracts.trays.Meant as meant
-use Rattle.layer_traits.specs.contracts.trays.Meant.TheInside as meant_inside
+use Rattle.layer_traits.specs.contracts.payloads.Ghost as ghost_of
+use Rattle.layer_traits.specs.contracts.payloads.Ghost.TheInside as ghost_inside
 use Rattle.sleep_wakeup.proofs.edits.SleepBlock.TheSendSync as sleep_block
 use Rattle.queuing_lock.proofs.edits.QBlock.TheSendSync as lock_block
 use Rattle.layer_traits.proofs.buffer_blocks.BufferBlock.TheSendSync as buffer_block
-use Rattle.spinlock.specs.contracts.spinner.Spinner as spinner
-use Rattle.spinlock.proofs.spinner.Spinner.TheSendSync as spinner_crosses
+use Rattle.spinlock.specs.contracts.spin_lock.SpinLock as spin_lock
+use Rattle.spinlock.proofs.spin_lock.SpinLock.TheSendSync as spin_lock_crosses
 use Rattle.table_machine.specs.contracts.seats.Seat as table_seat
 use Rattle.table_machine.proofs.seats.Seat.TheSendSync as seat_crosses
 use Rattle.layer_traits.specs.contracts.queue_edits.QueueEdit as edit_row
@@ -45,20 +45,20 @@ use Rattle.layer_traits.specs.contracts.sleeps.Outcome as outcome
 use Rattle.layer_traits.specs.contracts.locked.QOut as lock_out
 use Rattle.layer_traits.specs.contracts.conditions.CvOut as cv_out
 use Rattle.layer_traits.specs.contracts.buffer_edits.BufferOut as buffer_out
-use Rattle.sleep_wakeup.specs.contracts.kept.Kept as kept
+use Rattle.sleep_wakeup.specs.contracts.deferred.DeferredOutcome as deferred
 use Rattle.sleep_wakeup.specs.contracts.sleeper.Sleeper as sleeper
 use Rattle.cpu_workers.specs.contracts.seats.TowerSeat as seat
 use Rattle.cpu_workers.specs.contracts.seats.TowerSeat.TheInside as inside
 
 -- what is meant and has no bytes goes from thread to thread, whatever it is
-meant_send : (T : RattleType) → IsSend (meant.the_row T)
-meant_send T = view_send _ _ _ _ _ (declared_send (meant_inside.the_type T) (search (sendable, crosses), tt))
+ghost_send : (T : RattleType) → IsSend (ghost_of.the_row T)
+ghost_send T = view_send _ _ _ _ _ (declared_send (ghost_inside.the_type T) (search (sendable, crosses), tt))
 
 buffer_edit_field_send : IsSend (buffer_edit_row.the_field).row
 buffer_edit_field_send = enum_send (shape buffer_edit_row.the_type) (
   (search (sendable, crosses), (search (sendable, crosses), tt)),
   (
-    (search (sendable, crosses), (meant_send message.the_row, tt)),
+    (search (sendable, crosses), (ghost_send message.the_row, tt)),
     (
       (search (sendable, crosses), tt),
       ((search (sendable, crosses), tt), tt),
@@ -69,13 +69,13 @@ buffer_edit_field_send = enum_send (shape buffer_edit_row.the_type) (
 buffer_edit_send : IsSend buffer_edit_row.the_row
 buffer_edit_send = recorded_send (buffer_edit_row.the_field).row _ _ (buffer_edit_row.the_type).to_one buffer_edit_field_send
 
-kept_send : (E O : RattleType) → IsSend O → IsSend (kept.the_row E O)
-kept_send E O o = declared_send (kept.the_type E O)
-    (search (sendable, crosses), (meant_send E, (outcome_crosses.the_send O o, (message_crosses.the_send, tt))))
+deferred_send : (E O : RattleType) → IsSend O → IsSend (deferred.the_row E O)
+deferred_send E O o = declared_send (deferred.the_type E O)
+    (search (sendable, crosses), (ghost_send E, (outcome_crosses.the_send O o, (message_crosses.the_send, tt))))
 
 sleeper_send : (E S B O : RattleType) → IsSend S → IsSend O → IsSend (sleeper.the_row E S B O)
 sleeper_send E S B O s o = declared_send (sleeper.the_type E S B O)
-    (search (sendable, crosses), (search (sendable, crosses, kept_send) depth 9, tt))
+    (search (sendable, crosses), (search (sendable, crosses, deferred_send) depth 9, tt))
 
 buffer_out_field_send : IsSend (buffer_out.the_field).row
 buffer_out_field_send = enum_send (shape buffer_out.the_type) (
@@ -83,7 +83,7 @@ buffer_out_field_send = enum_send (shape buffer_out.the_type) (
   (
     tt,
     (
-      (enum_send (shape kind.the_type) (tt, (tt, (tt, (tt, (tt, tt))))), (search (sendable, crosses), (meant_send message.the_row, tt))),
+      (enum_send (shape kind.the_type) (tt, (tt, (tt, (tt, (tt, tt))))), (search (sendable, crosses), (ghost_send message.the_row, tt))),
       ((search (sendable, crosses), (search (sendable, crosses), tt)), tt),
     ),
   ),
@@ -102,11 +102,11 @@ tower_sleeper_send S s = sleeper_send (lock_edit_row.the_row (cv_edit_row.the_ro
 
 field_send : (B : RattleType) → IsSend B → IsSend (block.the_field B).row
 field_send B s = enum_send (shape (block.the_type B))
-    ((room_crosses.the_send queue.the_row queue_crosses.the_send, (search (sendable, crosses), tt)), ((room_crosses.the_send B s, tt), tt))
+    ((box_crosses.the_send queue.the_row queue_crosses.the_send, (search (sendable, crosses), tt)), ((box_crosses.the_send B s, tt), tt))
 
 field_sync : (B : RattleType) → IsSync B → IsSync (block.the_field B).row
 field_sync B s = enum_sync (shape (block.the_type B))
-    ((room_crosses.the_sync queue.the_row queue_crosses.the_sync, (search (sendable, crosses), tt)), ((room_crosses.the_sync B s, tt), tt))
+    ((box_crosses.the_sync queue.the_row queue_crosses.the_sync, (search (sendable, crosses), tt)), ((box_crosses.the_sync B s, tt), tt))
 
 pub block_send : (B : RattleType) → IsSend B → IsSend (block.the_row B)
 block_send B s = recorded_send (block.the_field B).row _ _ (block.the_type B).to_one (field_send B s)
@@ -142,5 +142,6 @@ tower_seat_send a K k = view_send _ _ _ _ _ (declared_send (inside.the_type a K 
 ))
 
 -- and so does a lock over it
-pub turn_send : (a : NamedLft) (K : RattleType) (k : _) (By : RattleType) → IsSend (spinner.the_row (seat.the_row a K k) By edit guarded answer)
-turn_send a K k By = spinner_crosses.the_send _ _ _ _ _ (tower_seat_send a K k) edit_send tower_block_send
+pub turn_send : (a : NamedLft) (K : RattleType) (k : _) (LockProtocol : RattleType)
+    → IsSend (spin_lock.the_row (seat.the_row a K k) LockProtocol edit guarded answer)
+turn_send a K k LockProtocol = spin_lock_crosses.the_send _ _ _ _ _ (tower_seat_send a K k) edit_send tower_block_send

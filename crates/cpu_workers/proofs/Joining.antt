@@ -4,6 +4,7 @@ use Rattle.std.proofs.Common.{sym, ◌∙◌, subst, length-append, arith}
 use Rattle.std.specs.Prelude.{Option, MatchOption}
 pub use Rattle.table_machine.proofs.Returning.{all_tail, no_more, yield_more}
 use Rattle.event_log.specs.declared.ids.CpuId.{CpuId}
+use Rattle.cpu_workers.specs.declared.gates.Go.{Go}
 use Rattle.cpu_workers.specs.declared.stops.Stop.{Stop}
 use Rattle.cpu_workers.specs.Working.{Working}
 use Rattle.cpu_workers.specs.Reports.{Both, HasRun}
@@ -43,14 +44,14 @@ module _ {A : Type 0} where
   all_head P xs rest x is all = let whole : All P (x ∷ rest) = subst (λ (l : List A). All P l) is all in whole 0 x (omega arith)
 
 -- what the promise of a worker says of the worker that it remembers
-pub kept_for : {G : Type 0} (May : G → CpuId → ℕ → Type 0) (w v r : Working) (gate its : G) (turns times taken : ℕ) (stop : Stop)
+pub kept_for : {G : Type 0} (May : G → CpuId → Go → ℕ → Type 0) (w v r : Working) (gate its : G) (turns times taken : ℕ) (stop : Stop)
     → v ≡ w → its ≡ gate → times ≡ turns → HasRun (May its) times v r taken stop → HasRun (May gate) turns w r taken stop
 kept_for May w v r gate its turns times taken stop same gate_is turns_are ran =
     subst (λ (x : Working). HasRun (May gate) turns x r taken stop) same
     (subst (λ (n : ℕ). HasRun (May gate) n v r taken stop) turns_are (subst (λ g. HasRun (May g) times v r taken stop) gate_is ran))
 
 -- what a worker's result keeps, as its promise says it
-pub keeps_so : {C G : Type 0} (r : Option C) (worker_of : C → Working) (taken_of : C → ℕ) (stop_of : C → Stop) (May : G → CpuId → ℕ → Type 0)
+pub keeps_so : {C G : Type 0} (r : Option C) (worker_of : C → Working) (taken_of : C → ℕ) (stop_of : C → Stop) (May : G → CpuId → Go → ℕ → Type 0)
     (w v : Working) (gate its : G) (turns : ℕ) → v ≡ w → its ≡ gate
     → MatchOption r (Unit {0}) (λ came. HasRun (May gate) turns w (worker_of came) (taken_of came) (stop_of came))
     → MatchOption r (Unit {0}) (λ came. HasRun (May its) turns v (worker_of came) (taken_of came) (stop_of came))

@@ -6,8 +6,8 @@ pub mod OneOrder
 pub mod ClosedLog
 pub mod Reporting
 pub mod Seated
-pub mod Desks
-pub mod Told
+pub mod SeatViews
+pub mod Observed
 pub mod Crossing
 pub mod Acting
 pub mod Counts

@@ -7,7 +7,7 @@ use Rattle.std.proofs.lemmas.List.{length-reverse}
 use Rattle.event_log.specs.declared.entries.Entry.{Entry}
 use Rattle.event_log.specs.declared.ids.CpuId.{CpuId}
 use Rattle.event_log.specs.declared.ids.LockId.TheVariants.{Buffer}
-use Rattle.event_log.specs.Actions.{Action, Take, Try, Give, doer}
+use Rattle.event_log.specs.Actions.{Action, Take, Try, Give, cpu_of_action}
 use Rattle.event_log.specs.History.{AreOthers, IsLawful, own_events, same_cpu}
 use Rattle.event_log.specs.Runs.{IsRun}
 use Rattle.event_log.specs.Sections.{sections_in}
@@ -32,7 +32,7 @@ use Rattle.cpu_workers.specs.Orders.{IsTraceOf, effects_of}
 pub record Adds (caps : List ℕ) (a : Action TowerName) (past : List (Action TowerName)) : Type 0 where
   pub effect : Option Entry
   pub is : effects_of caps (a ∷ past) ≡ option_to_list effect ++ effects_of caps past
-  pub its : (e : Entry) → effect ≡ Some e → e.cpu ≡ doer a
+  pub its : (e : Entry) → effect ≡ Some e → e.cpu ≡ cpu_of_action a
 
 module _ (caps : List ℕ) where
   adds_none : (a : Action TowerName) (past : List (Action TowerName)) → effects_of caps (a ∷ past) ≡ effects_of caps past → Adds caps a past
@@ -59,7 +59,7 @@ module _ (caps : List ℕ) where
   of_others c None es theirs = refl
   of_others c (Some e) es theirs = let other = theirs e refl in rw other refl
 
-  pub effects_since : (c : CpuId) (more past : List (Action TowerName)) → AreOthers doer c more
+  pub effects_since : (c : CpuId) (more past : List (Action TowerName)) → AreOthers cpu_of_action c more
       → of_cpu c (effects_of caps (more ++ past)) ≡ of_cpu c (effects_of caps past)
   effects_since c [] past others = refl
   effects_since c (a ∷ more) past others =
@@ -70,7 +70,7 @@ module _ (caps : List ℕ) where
       ∙ effects_since c more past others.1
 
   -- where a CPU has seen a front of the list, and all of its own actions, its trace is its effects in the whole list
-  pub trace_in : (c : CpuId) (more past log : List (Action TowerName)) (trace : List Entry) → log ≡ more ++ past → AreOthers doer c more
+  pub trace_in : (c : CpuId) (more past log : List (Action TowerName)) (trace : List Entry) → log ≡ more ++ past → AreOthers cpu_of_action c more
       → IsTraceOf c caps past trace → IsTraceOf c caps log trace
   trace_in c more past log trace is others of =
       of ∙ ap (λ (es : List Entry). reverse es) (sym (ap (λ l. of_cpu c (effects_of caps l)) is ∙ effects_since c more past others))
@@ -83,25 +83,27 @@ module _ (caps : List ℕ) where
 
   -- a CPU that acts is none of those that do not
   own_acts : (a : Action TowerName) (past : List (Action TowerName)) (n : ℕ)
-      → ((c : CpuId) → n ≤ c.0 → own_events doer c (a ∷ past) ≡ []) → (doer a).0 < n
-  own_acts a past n rest = go (cases_lt (doer a).0 n)
+      → ((c : CpuId) → n ≤ c.0 → own_events cpu_of_action c (a ∷ past) ≡ []) → (cpu_of_action a).0 < n
+  own_acts a past n rest = go (cases_lt (cpu_of_action a).0 n)
     where
-      listed : (b : Bool) → b ≡ true → (if b then a ∷ own_events doer (doer a) past else own_events doer (doer a) past) ≡ [] → ⊥
+      listed : (b : Bool) → b ≡ true → (if b then a ∷ own_events cpu_of_action (cpu_of_action a) past else own_events cpu_of_action
+          (cpu_of_action a) past) ≡ [] → ⊥
       listed true is none = absurd (cc none)
       listed false is none = absurd (cc is)
 
-      go : ((doer a).0 < n) ⊎ (n ≤ (doer a).0) → (doer a).0 < n
+      go : ((cpu_of_action a).0 < n) ⊎ (n ≤ (cpu_of_action a).0) → (cpu_of_action a).0 < n
       go (inl within) = within
-      go (inr past_all) = absurd (listed (same_cpu (doer a) (doer a)) (same_cpu_self (doer a)) (rest (doer a) past_all))
+      go (inr past_all) = absurd (listed (same_cpu (cpu_of_action a) (cpu_of_action a)) (same_cpu_self (cpu_of_action a)) (rest (cpu_of_action a) past_all))
 
-  rest_before : (c : CpuId) (a : Action TowerName) (past : List (Action TowerName)) → own_events doer c (a ∷ past) ≡ [] → own_events doer c past ≡ []
-  rest_before c a past none = go (same_cpu (doer a) c) none
+  rest_before : (c : CpuId) (a : Action TowerName) (past : List (Action TowerName)) → own_events cpu_of_action c (a ∷ past) ≡ []
+      → own_events cpu_of_action c past ≡ []
+  rest_before c a past none = go (same_cpu (cpu_of_action a) c) none
     where
-      go : (b : Bool) → (if b then a ∷ own_events doer c past else own_events doer c past) ≡ [] → own_events doer c past ≡ []
+      go : (b : Bool) → (if b then a ∷ own_events cpu_of_action c past else own_events cpu_of_action c past) ≡ [] → own_events cpu_of_action c past ≡ []
       go true is = absurd (cc is)
       go false is = is
 
-  pub effects_known : (n : ℕ) (log : List (Action TowerName)) → ((c : CpuId) → n ≤ c.0 → own_events doer c log ≡ [])
+  pub effects_known : (n : ℕ) (log : List (Action TowerName)) → ((c : CpuId) → n ≤ c.0 → own_events cpu_of_action c log ≡ [])
       → AllByRecursion (λ e. e.cpu.0 < n) (effects_of caps log)
   effects_known n [] rest = tt
   effects_known n (a ∷ past) rest =
@@ -178,7 +180,7 @@ pub record HasOrder (caps : List ℕ) (traces : List (List Entry)) (contents : L
   pub run : IsRun caps order contents
 
 pub one_order : (caps : List ℕ) (log : List (Action TowerName)) (traces : List (List Entry)) (limit : ℕ)
-    → IsLawful (MayTakeEffect caps) (effects_of caps log) → ((c : CpuId) → length traces ≤ c.0 → own_events doer c log ≡ [])
+    → IsLawful (MayTakeEffect caps) (effects_of caps log) → ((c : CpuId) → length traces ≤ c.0 → own_events cpu_of_action c log ≡ [])
     → ((k : ℕ) → k < length traces → IsTraceOf (cpu_at k) caps log (slice_index_or traces k []))
     → ((k : ℕ) → k < length traces → length (slice_index_or traces k []) ≤ limit) → length traces * limit < 2 ^ 64
     → HasOrder caps traces (contents_of caps (effects_of caps log))

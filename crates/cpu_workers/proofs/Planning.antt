@@ -15,11 +15,11 @@ use Rattle.layer_traits.specs.declared.calls.Effect.{Effect}
 use Rattle.layer_traits.specs.declared.steps.Reason.TheVariants.{AllEnded, TraceFull, StepsUsed}
 use Rattle.layer_traits.specs.declared.steps.Step.{Step}
 use Rattle.layer_traits.specs.Along.{Outcome, IsStep}
-use Rattle.layer_traits.specs.BufferLaw.{begun_of, talk_of}
+use Rattle.layer_traits.specs.BufferLaw.{begun_of, call_state_of}
 use Rattle.layer_traits.specs.Places.{Threads}
 use Rattle.cpu.specs.declared.guests.Guest.{Guest}
 use Rattle.cpu.specs.declared.guests.GuestStage.{GuestStage}
-use Rattle.cpu.specs.declared.guests.GuestStage.TheVariants.{Between, Begun, Done, Ended}
+use Rattle.cpu.specs.declared.guests.GuestStage.TheVariants.{Idle, Begun, Done, Ended}
 use Rattle.cpu.specs.Guests.{HasComeIn, after_effect, is_ended}
 use Rattle.cpu.specs.Cpus.{IsCpu, IsOfHome, begins, begun_count, chosen, guest_at, halted_at, is_over, of_cpu, of_thread, programs_of}
 use Rattle.cpu.specs.Table.Setups.{Setup, Thread, thread_at}
@@ -28,7 +28,7 @@ use Rattle.cpu.specs.Tower.Privates.{threads_in}
 use Rattle.cpu.specs.Tower.Views.{TowerName}
 use Rattle.cpu.proofs.ListReads.{all_reversed}
 use Rattle.cpu.proofs.Orders.{filter_reversed}
-use Rattle.cpu.proofs.TableCalls.{ToldCpu}
+use Rattle.cpu.proofs.TableCalls.{ObservedCpu}
 use Rattle.cpu.proofs.TableRows.{guest_there}
 use Rattle.cpu.proofs.GuestLists.{guest_with}
 use Rattle.cpu_workers.specs.Orders.{FollowsProgram, HasFollowed}
@@ -84,7 +84,7 @@ follows_by g es begun effect over ends come = go g.stage refl come
     runs_on stage s at lives is = let same : is_ended g.stage ≡ is_ended stage = ap is_ended at in let now = ends is in absurd (cc (same, lives, now))
 
     go : (stage : GuestStage) → g.stage ≡ stage → HasComeIn stage g.program g.thread es begun effect → FollowsProgram g.program (reverse es) over
-    go Between at f = record { state = g.thread; calls = turned g.thread f.1; ends = runs_on Between g.thread at refl }
+    go Idle at f = record { state = g.thread; calls = turned g.thread f.1; ends = runs_on Idle g.thread at refl }
     go Begun at f = record { state = g.thread; calls = turned g.thread f.4; ends = runs_on Begun g.thread at refl }
     go Done at f =
         let s = after_effect (next_of g.program g.thread) f.1 g.thread in
@@ -92,12 +92,12 @@ follows_by g es begun effect over ends come = go g.stage refl come
     go Ended at f = record { state = g.thread; calls = turned g.thread f.1; ends = λ is. f.2 }
 
 -- the threads of a worker have followed their programs
-module _ (told : ToldCpu) where
-  open told use {homes, caps, buffers, seen, part, talks, doing, number, guests, trace, limit, capacity}
-  open told use {tells, is}
+module _ (told : ObservedCpu) where
+  open told use {homes, caps, buffers, seen, part, call_states, under_way, number, guests, trace, limit, capacity}
+  open told use {reads_own, is}
 
-  is_own : IsCpu homes buffers seen (threads_in part) part.talks doing number guests trace limit capacity
-  is_own = subst (λ x. x) (λ i. IsCpu homes buffers seen (sym tells.0 i) (sym tells.1 i) doing number guests trace limit capacity) is
+  is_own : IsCpu homes buffers seen (threads_in part) part.call_states under_way number guests trace limit capacity
+  is_own = subst (λ x. x) (λ i. IsCpu homes buffers seen (sym reads_own.0 i) (sym reads_own.1 i) under_way number guests trace limit capacity) is
 
   entries : (t : Tid) → of_thread t.0 trace ≡ reverse (of_thread t.0 (of_cpu number seen))
   entries t = ap (λ (l : List Entry). of_thread t.0 l) is.kept ∙ filter_reversed (λ (e : Entry). e.thread.0 == t.0) (of_cpu number seen)
@@ -117,7 +117,7 @@ module _ (told : ToldCpu) where
     follows = λ t program at. let there = guest_with guests t.0 program at in
         subst (λ (l : List Instruction). FollowsProgram l (of_thread t.0 trace) (thread_at (private part guests trace) t).ended) there.2
         (subst (λ (l : List Entry). FollowsProgram there.0.program l (thread_at (private part guests trace) t).ended) (sym (entries t))
-        (follows_by there.0 (of_thread t.0 (of_cpu number seen)) (begun_of (talk_of talks t)) (talk_of talks t).effect
+        (follows_by there.0 (of_thread t.0 (of_cpu number seen)) (begun_of (call_state_of call_states t)) (call_state_of call_states t).effect
         (thread_at (private part guests trace) t).ended
         (λ over. is_own.over t (sym (ap (λ (x : Thread). x.ended) (guest_there part guests trace t there.0 there.1)) ∙ over) there.0 there.1)
         (is.follow t there.0 there.1).1));

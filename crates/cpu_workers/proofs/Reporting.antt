@@ -8,12 +8,13 @@ use Rattle.event_log.specs.declared.entries.Entry.{Entry}
 use Rattle.event_log.specs.declared.ids.CpuId.{CpuId}
 use Rattle.event_log.specs.declared.ids.LockId.{LockId}
 use Rattle.event_log.specs.declared.ids.LockId.TheVariants.{Pending, Buffer as AtBuffer}
-use Rattle.event_log.specs.Actions.{Action, AreLegal, doer, phase, acts_of, renamed}
+use Rattle.event_log.specs.Actions.{Action, AreLegal, cpu_of_action, phase, acts_of, renamed}
 use Rattle.event_log.specs.History.{AreOthers, own_events, same_cpu}
 use Rattle.event_log.specs.Messages.{Message}
 use Rattle.event_log.specs.Runs.{IsRun}
-use Rattle.event_log.specs.WordsLog.{actor}
+use Rattle.event_log.specs.WordsLog.{cpu_of_event}
 use Rattle.event_log.proofs.Foreign.{acts_of-append, others_acts, own_append, own_none, phase_others}
+use Rattle.event_log.proofs.Streams.{taken_put}
 use Rattle.event_log.proofs.Renaming.{legal_renamed, others_renamed}
 use Rattle.layer_traits.specs.declared.queue_edits.QueueBlock.{QueueBlock}
 use Rattle.layer_traits.specs.declared.steps.Reason.TheVariants as reason
@@ -27,7 +28,7 @@ use Rattle.layer_traits.specs.WordsProtocol.{edit_of}
 use Rattle.layer_traits.proofs.PlanRenaming.{map-append}
 use Rattle.sleep_wakeup.specs.Nested as sleep
 use Rattle.queuing_lock.specs.Nested as lock
-use Rattle.table_machine.specs.Desks.{Board, Closes}
+use Rattle.table_machine.specs.SeatViews.{TableView, Closes}
 use Rattle.cpu.specs.Claims.{buffer_at, listed}
 use Rattle.cpu.specs.Cpus.{IsOfHome, of_thread}
 use Rattle.cpu.specs.Table.Blocks.{Name}
@@ -39,11 +40,13 @@ use Rattle.cpu.specs.Wakeups.Lost.{IsWorked}
 use Rattle.cpu.proofs.TableQuiet.{ended_at}
 use Rattle.cpu.proofs.Wakeups.Working.{cpus_lose_no_wake_up}
 use Rattle.event_log.proofs.Same.{same_cpu_self}
+use Rattle.cpu_workers.specs.declared.gates.Go.{Go}
+use Rattle.cpu_workers.specs.declared.gates.Go.TheVariants.{Limit, Pass}
 use Rattle.cpu_workers.specs.declared.stops.Stop.{Stop}
 use Rattle.cpu_workers.specs.Closing.{HasSeen, HaveCome, IsReported, Key, LockBlock, ReportsAreLawful, StartsSo, WordsOfTower, acts_in, tower_rules}
-use Rattle.cpu_workers.specs.Lawful.{AreLeft, HasGone, IsLawfulReport, IsLineOf, IsReport, Line, Shown, TellsTrue, left_in, messages_in}
+use Rattle.cpu_workers.specs.Lawful.{AreLeft, HasGone, IsLawfulReport, IsCpuReportOf, IsReport, CpuReport, Shown, ReportsTrue, left_in, messages_in}
 use Rattle.cpu_workers.specs.Orders.{FollowsProgram, HasFollowed, IsTraceOf, effects_of}
-use Rattle.cpu_workers.specs.Reports.{HasRun, IsTrueStop, Took, TookWithin, WasHeld, WentBy, Within, below}
+use Rattle.cpu_workers.specs.Reports.{HasRun, IsTrueStop, MayTake, Took, TookWithin, WasHeld, WentBy, Within, below}
 use Rattle.cpu_workers.specs.Working.{Charge, IsPlanned, Working}
 use Rattle.cpu_workers.proofs.ClosedLog.{acts_legal, buffers_left, effects_may, messages_left, queues_left}
 use Rattle.cpu_workers.proofs.Lasting.{all_ended}
@@ -53,7 +56,7 @@ use Rattle.cpu_workers.proofs.Turning.{along_others, within_others}
 -- A worker that came back.
 
 -- what a worker has done and keeps is what its CPU did along what it has seen
-pub has_seen : (setup : Setup) (May : CpuId → ℕ → Type 0) (turns : ℕ) (c : CpuId) (first last : Working) (line : Line)
+pub has_seen : (setup : Setup) (May : CpuId → Go → ℕ → Type 0) (turns : ℕ) (c : CpuId) (first last : Working) (line : CpuReport)
     → first.cpu ≡ c → IsPlanned setup first.plan → first.private ≡ at_boot setup c → HasRun May turns first last line.taken line.stop
     → IsTraceOf last.cpu last.plan.caps last.acts last.private.trace → AreLegal last.acts → HasFollowed last → line.trace ≡ last.private.trace
     → HasSeen setup (May c) turns c last.acts line
@@ -61,13 +64,14 @@ has_seen setup May turns c first last line cpu_is planned boots ran own legal fo
   last = last.private;
   took = subst (λ (p : Private). Took (cpu_step setup c) c p last.private (named last.acts) line.taken) boots
       (subst (λ (d : CpuId). Took (cpu_step setup d) d first.private last.private (named last.acts) line.taken) cpu_is went.took);
-  within = subst (λ (p : Private). TookWithin (cpu_step setup c) c (below turns) p last.private (named last.acts) line.taken) boots
-      (subst (λ (d : CpuId). TookWithin (cpu_step setup d) d (below turns) first.private last.private (named last.acts) line.taken) cpu_is went.within);
+  within = subst (λ (p : Private). TookWithin (cpu_step setup c) c (MayTake turns (May c Pass)) p last.private (named last.acts) line.taken) boots
+      (subst (λ (d : CpuId). TookWithin (cpu_step setup d) d (MayTake turns (May d Pass)) first.private last.private
+      (named last.acts) line.taken) cpu_is went.within);
   held = λ is.
-      subst (λ (p : Private). WasHeld (cpu_step setup c) c (May c) p last.private (named last.acts) line.taken) boots
-      (subst (λ (d : CpuId). WasHeld (cpu_step setup d) d (May d) first.private last.private (named last.acts) line.taken) cpu_is (went.held is));
+      subst (λ (p : Private). WasHeld (cpu_step setup c) c (May c Limit) p last.private (named last.acts) line.taken) boots
+      (subst (λ (d : CpuId). WasHeld (cpu_step setup d) d (May d Limit) first.private last.private (named last.acts) line.taken) cpu_is (went.held is));
   rests = subst (λ (d : CpuId). is_in_section (phase d (named last.acts)) ≡ false) same ran.rests;
-  stop_is = subst (λ (d : CpuId). IsTrueStop (halted_at setup d last.private) (May d) turns line.taken line.stop) cpu_is went.stop_is;
+  stop_is = subst (λ (d : CpuId). IsTrueStop (halted_at setup d last.private) (May d Limit) turns line.taken line.stop) cpu_is went.stop_is;
   trace_is = trace_is;
   own = trace_is
       ∙ subst (λ (d : CpuId). IsTraceOf d setup.caps last.acts last.private.trace) same
@@ -106,7 +110,7 @@ acts_append more past =
     (map (renamed (renamed_edit sleep.edit_in)) (acts_of edit_of past))
 
 -- and whose they are
-acts_others : (c : CpuId) (more : WordsOfTower) → AreOthers actor c more → AreOthers doer c (acts_in more)
+acts_others : (c : CpuId) (more : WordsOfTower) → AreOthers cpu_of_event c more → AreOthers cpu_of_action c (acts_in more)
 acts_others c more others =
     others_renamed (renamed_edit lock.edit_in) c (map (renamed (renamed_edit sleep.edit_in)) (acts_of edit_of more))
     (others_renamed (renamed_edit sleep.edit_in) c (acts_of edit_of more) (others_acts edit_of c more others))
@@ -153,15 +157,15 @@ listed_so d f (suc n) k (x ∷ xs) count each =
     (λ i within. let next : k + suc i ≡ k + 1 + i = omega arith in each (suc i) (omega (arith, within)) ∙ ap f next) in
     λ i. first i ∷ rest i
 
-module _ (setup : Setup) (May : CpuId → ℕ → Type 0) (turns : ℕ) (board : Board (QueueBlock LockBlock)) (keys : List Key)
-    (blocks : List (LockId × QueueBlock LockBlock)) (r : Shown) (it : IsReported setup May turns board keys blocks r) where
-  abbrev so : StartsSo setup board
+module _ (setup : Setup) (May : CpuId → Go → ℕ → Type 0) (turns : ℕ) (table_view : TableView (QueueBlock LockBlock)) (keys : List Key)
+    (blocks : List (LockId × QueueBlock LockBlock)) (r : Shown) (it : IsReported setup May turns table_view keys blocks r) where
+  abbrev so : StartsSo setup table_view
   so = it.starts
 
   abbrev come : HaveCome setup May turns keys r
   come = it.come
 
-  abbrev closes : Closes tower_rules board keys blocks
+  abbrev closes : Closes tower_rules table_view keys blocks
   closes = it.closes
 
   abbrev acts : List (Action TowerName)
@@ -171,23 +175,24 @@ module _ (setup : Setup) (May : CpuId → ℕ → Type 0) (turns : ℕ) (board :
   record Goes (c : CpuId) (past : List (Action TowerName)) : Type 0 where
     pub more : List (Action TowerName)
     pub is : acts ≡ more ++ past
-    pub others : AreOthers doer c more
+    pub others : AreOthers cpu_of_action c more
 
   goes_on : (c : CpuId) (key : Key) → slice_get keys c.0 ≡ Some key → key.cpu ≡ c → Goes c (acts_in key.seen)
   goes_on c key at is =
       let whole = closes.keys c.0 key at in
-      let theirs : AreOthers actor key.cpu whole.ends.more = no_more_own actor key.cpu closes.log whole.ends.more key.seen whole.ends.is whole.whole in
+      let theirs : AreOthers cpu_of_event key.cpu whole.ends.more = no_more_own cpu_of_event key.cpu closes.log whole.ends.more key.seen whole.ends.is
+      whole.whole in
       record {
         more = acts_in whole.ends.more;
         is = ap acts_in whole.ends.is ∙ acts_append whole.ends.more key.seen;
-        others = subst (λ (d : CpuId). AreOthers doer d (acts_in whole.ends.more)) is (acts_others key.cpu whole.ends.more theirs);
+        others = subst (λ (d : CpuId). AreOthers cpu_of_action d (acts_in whole.ends.more)) is (acts_others key.cpu whole.ends.more theirs);
       }
 
   -- others' actions under the table's names
-  abbrev renamed_others : (c : CpuId) (more : List (Action TowerName)) → AreOthers doer c more → AreOthers doer c (named more)
+  abbrev renamed_others : (c : CpuId) (more : List (Action TowerName)) → AreOthers cpu_of_action c more → AreOthers cpu_of_action c (named more)
   renamed_others c more others = others_renamed name_of c more others
 
-  gone_so : (c : CpuId) (past : List (Action TowerName)) (line : Line) → Goes c past → HasSeen setup (May c) turns c past line
+  gone_so : (c : CpuId) (past : List (Action TowerName)) (line : CpuReport) → Goes c past → HasSeen setup (May c) turns c past line
       → HasGone setup (May c) turns c (named acts) line
   gone_so c past line goes seen =
       let log_is : named acts ≡ named goes.more ++ named past = ap named goes.is ∙ map-append (renamed name_of) goes.more past in
@@ -201,7 +206,7 @@ module _ (setup : Setup) (May : CpuId → ℕ → Type 0) (turns : ℕ) (board :
               (along_others (cpu_step setup c) c (at_boot setup c) (named goes.more) theirs seen.took.steps);
           counted = seen.took.counted;
         };
-        within = on (below turns) seen.within;
+        within = on (MayTake turns (May c Pass)) seen.within;
         held = λ is. let held = seen.held is in record {
           turn = held.turn;
           before = held.before;
@@ -224,36 +229,37 @@ module _ (setup : Setup) (May : CpuId → ℕ → Type 0) (turns : ℕ) (board :
         counted = took.counted;
       }
 
-  gone : (c : CpuId) → c.0 < setup.cpus → (line : Line) × IsLineOf r c line × HasGone setup (May c) turns c (named acts) line
+  gone : (c : CpuId) → c.0 < setup.cpus → (line : CpuReport) × IsCpuReportOf r c line × HasGone setup (May c) turns c (named acts) line
   gone c within =
       let one = come.each c within in
       (one.1, one.4, gone_so c (acts_in one.0.seen) one.1 (goes_on c one.0 one.2 one.3) one.5)
 
-  rest : (c : CpuId) → setup.cpus ≤ c.0 → AreOthers doer c acts
-  rest c beyond = let past = so.cpus in acts_others c closes.log (none_own actor c closes.log (closes.rest c (omega (arith, beyond, past))))
+  rest : (c : CpuId) → setup.cpus ≤ c.0 → AreOthers cpu_of_action c acts
+  rest c beyond = let past = so.cpus in acts_others c closes.log (none_own cpu_of_event c closes.log (closes.rest c (omega (arith, beyond, past))))
 
   left : AreLeft setup (named acts) r
   left = record {
-    buffers = λ b. ap (λ f. f (AtBuffer b)) it.told ∙ buffers_left setup board so closes.log closes.legal blocks closes.count closes.blocks_are b;
-    queues = λ c within. ap (λ f. f (Pending c)) it.told ∙ queues_left setup board so closes.log closes.legal blocks closes.count closes.blocks_are c within;
+    buffers = λ b. ap (λ f. f (AtBuffer b)) it.told ∙ buffers_left setup table_view so closes.log closes.legal blocks closes.count closes.blocks_are b;
+    queues = λ c within. ap (λ f. f (Pending c)) it.told ∙ queues_left setup table_view so closes.log closes.legal blocks closes.count closes.blocks_are c within;
   }
 
   worked : IsWorked setup (named acts)
   worked = record {
     ran = λ c within. let one = gone c within in record { count = one.2.took.count; last = one.2.last; steps = one.2.took.steps };
-    rest = λ c beyond. own_none doer c (named acts) (renamed_others c acts (rest c beyond));
+    rest = λ c beyond. own_none cpu_of_action c (named acts) (renamed_others c acts (rest c beyond));
   }
 
   -- What is told of a CPU.
 
-  told : (c : CpuId) (acts_seen : List (Action TowerName)) (line : Line) → HasSeen setup (May c) turns c acts_seen line → TellsTrue setup (May c) turns c line
+  told : (c : CpuId) (acts_seen : List (Action TowerName)) (line : CpuReport) → HasSeen setup (May c) turns c acts_seen line
+      → ReportsTrue setup (May c) turns c line
   told c acts_seen line seen = record {
     room = seen.room;
     stays = seen.stays;
     calls = λ t home. let follows = seen.follows t home in (follows.state, follows.calls);
     ended = λ is t home. let follows = seen.follows t home in
         let halted : halted_at setup c seen.last ≡ Some reason.AllEnded =
-        subst (λ (s : Stop). IsTrueStop (halted_at setup c seen.last) (May c) turns line.taken s) is seen.stop_is in
+        subst (λ (s : Stop). IsTrueStop (halted_at setup c seen.last) (May c Limit) turns line.taken s) is seen.stop_is in
         let zero_plus : 0 + t.0 ≡ t.0 = omega arith in
         record {
           state = follows.state;
@@ -261,13 +267,13 @@ module _ (setup : Setup) (May : CpuId → ℕ → Type 0) (turns : ℕ) (board :
           ends = follows.ends (subst (λ (n : ℕ). (thread_at seen.last (record { 0 = n })).ended ≡ true) zero_plus
               (ended_at seen.last c setup.homes 0 t.0 c home (same_cpu_self c) (all_ended setup c seen.last halted)));
         };
-    used = λ is. (subst (λ (s : Stop). IsTrueStop (halted_at setup c seen.last) (May c) turns line.taken s) is seen.stop_is).1;
-    held = λ is. (subst (λ (s : Stop). IsTrueStop (halted_at setup c seen.last) (May c) turns line.taken s) is seen.stop_is).1;
+    used = λ is. (subst (λ (s : Stop). IsTrueStop (halted_at setup c seen.last) (May c Limit) turns line.taken s) is seen.stop_is).1;
+    held = λ is. (subst (λ (s : Stop). IsTrueStop (halted_at setup c seen.last) (May c Limit) turns line.taken s) is seen.stop_is).1;
   }
 
   -- The order.
 
-  trace_read : (c : CpuId) (line : Line) → IsLineOf r c line → slice_index_or r.traces c.0 [] ≡ line.trace
+  trace_read : (c : CpuId) (line : CpuReport) → IsCpuReportOf r c line → slice_index_or r.traces c.0 [] ≡ line.trace
   trace_read c line at = get_or_from_slice_get r.traces c.0 line.trace [] at.trace
 
   contents_are : contents_of setup.caps (effects_of setup.caps acts) ≡ left_in (length setup.caps) r
@@ -275,27 +281,29 @@ module _ (setup : Setup) (May : CpuId → ℕ → Type 0) (turns : ℕ) (board :
       listed_so [] (λ b. messages_in (r.blocks (AtBuffer (buffer_at b)))) (length setup.caps) 0 (contents_of setup.caps (effects_of setup.caps acts))
       (contents_wide setup.caps (effects_of setup.caps acts))
       (λ b within. let zero_plus : b ≡ 0 + b = omega arith in
-      messages_left setup board so closes.log closes.legal blocks closes.count closes.blocks_are (buffer_at b) within
+      messages_left setup table_view so closes.log closes.legal blocks closes.count closes.blocks_are (buffer_at b) within
       ∙ ap (λ f. messages_in (f (AtBuffer (buffer_at b)))) (sym it.told) ∙ ap (λ k. messages_in (r.blocks (AtBuffer (buffer_at k)))) zero_plus)
 
   report : IsReport setup May turns r
   report =
       let count = come.traces in
       let few = so.small in
-      let all = one_order setup.caps acts r.traces setup.trace_room (effects_may setup board so closes.log closes.legal)
-      (λ c beyond. own_none doer c acts (rest c (omega (arith, beyond, count))))
+      let all = one_order setup.caps acts r.traces setup.trace_room (effects_may setup table_view so closes.log closes.legal)
+      (λ c beyond. own_none cpu_of_action c acts (rest c (omega (arith, beyond, count))))
       (λ k within. let one = come.each (cpu_at k) (omega (arith, within, count)) in let goes = goes_on (cpu_at k) one.0 one.2 one.3 in
       trace_read (cpu_at k) one.1 one.4 ∙ trace_in setup.caps (cpu_at k) goes.more (acts_in one.0.seen) acts one.1.trace goes.is goes.others one.5.own)
       (λ k within. let one = come.each (cpu_at k) (omega (arith, within, count)) in let room = one.5.room in
       let long = ap (λ (l : List Entry). length l) (trace_read (cpu_at k) one.1 one.4) in omega (arith, room, long))
       (subst (λ (n : ℕ). n * setup.trace_room < 2 ^ 64) (sym count) few) in
+      let run = subst (λ (l : List (List Message)). IsRun setup.caps all.order l) contents_are all.run in
       record {
         traces_count = come.traces;
         taken_count = come.taken;
         stops_count = come.stops;
         order = all.order;
         keeps = all.keeps;
-        run = subst (λ (l : List (List Message)). IsRun setup.caps all.order l) contents_are all.run;
+        run = run;
+        fifo = taken_put setup.caps all.order (left_in (length setup.caps) r) run;
         each = λ c within. let one = come.each c within in (one.1, one.4, told c (acts_in one.0.seen) one.1 one.5);
       }
 
@@ -304,12 +312,12 @@ module _ (setup : Setup) (May : CpuId → ℕ → Type 0) (turns : ℕ) (board :
   lawful = record {
     report = report;
     log = named acts;
-    legal = legal_renamed name_of acts (acts_legal setup board so closes.log closes.legal);
+    legal = legal_renamed name_of acts (acts_legal setup table_view so closes.log closes.legal);
     gone = gone;
     rest = worked.rest;
     left = left;
     awake = λ b k is. cpus_lose_no_wake_up setup (named acts) worked b k (sym (left.buffers b) ∙ is);
   }
 
-pub report_is_lawful : (May : CpuId → ℕ → Type 0) → ReportsAreLawful May
-report_is_lawful May setup turns board keys blocks r it = lawful setup May turns board keys blocks r it
+pub report_is_lawful : (May : CpuId → Go → ℕ → Type 0) → ReportsAreLawful May
+report_is_lawful May setup turns table_view keys blocks r it = lawful setup May turns table_view keys blocks r it

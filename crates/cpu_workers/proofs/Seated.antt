@@ -9,8 +9,8 @@ use Rattle.event_log.specs.declared.ids.CpuId.{CpuId}
 use Rattle.event_log.specs.declared.ids.LockId.{LockId}
 use Rattle.event_log.specs.declared.ids.TheConstants.{THREADS}
 use Rattle.event_log.specs.Actions.{Action}
-use Rattle.layer_traits.specs.declared.talks.Talk.{Talk}
-use Rattle.layer_traits.specs.BufferLaw.{Buffering, Doing, buffering_at_start, quiet}
+use Rattle.layer_traits.specs.declared.call_states.CallState.{CallState}
+use Rattle.layer_traits.specs.BufferLaw.{Buffering, UnderWay, buffering_at_start, no_call}
 use Rattle.layer_traits.specs.IpcLaw.{OpensSo}
 use Rattle.layer_traits.specs.Places.{Threads, at_boot}
 use Rattle.cpu.specs.declared.guests.Guest.{Guest}
@@ -27,6 +27,7 @@ use Rattle.cpu.proofs.Started.{private_boots}
 use Rattle.cpu.proofs.TableCalls.{boots_tabled}
 use Rattle.cpu.proofs.GuestLists.{guest_with}
 use Rattle.layer_traits.specs.OnePlace.{cpu_at}
+use Rattle.cpu_workers.specs.declared.gates.Go.{Go}
 use Rattle.cpu_workers.specs.declared.seating.Left.{Left}
 use Rattle.cpu_workers.specs.declared.turns.Did.{Did}
 use Rattle.cpu_workers.specs.Reports.{Both, HasRun}
@@ -62,17 +63,19 @@ made_of homes buffers number guests most its table trace limit capacity = record
 
 module _ (x : Made) (are : AreGuests x.homes x.buffers x.number x.guests)
     (made : IsBooted x.number x.guests x.most x.its x.table x.trace x.limit x.capacity) where
-  pub boots_over : (homes : List CpuId) (count : ℕ) (seen : List Entry) (threads : Threads) (talks : List Talk) (doing : Option Doing)
+  pub boots_over : (homes : List CpuId) (count : ℕ) (seen : List Entry) (threads : Threads) (call_states : List CallState) (under_way : Option UnderWay)
       → length x.homes ≤ THREADS → homes ≡ x.homes → count ≡ x.buffers → seen ≡ [] → threads ≡ at_boot x.homes x.number
-      → talks ≡ replicate THREADS quiet → doing ≡ None → IsCpu homes count seen threads talks doing x.its x.table x.trace x.limit x.capacity
-  boots_over homes count seen threads talks doing few same counted none threads_are talks_are nothing =
-      rw (same, counted, none, threads_are, talks_are, nothing, made.number_is, made.guests_are, made.nothing, made.limit_is)
+      → call_states ≡ replicate THREADS no_call → under_way ≡ None → IsCpu homes count seen threads call_states under_way x.its x.table x.trace x.limit
+      x.capacity
+  boots_over homes count seen threads call_states under_way few same counted none threads_are call_states_are nothing =
+      rw (same, counted, none, threads_are, call_states_are, nothing, made.number_is, made.guests_are, made.nothing, made.limit_is)
       (boots x.homes x.buffers x.number x.guests x.most x.capacity are few made.reserved)
 
-  pub tabled_over : (homes : List CpuId) (caps : List ℕ) (own : Buffering) (doing : Option Doing) (opening : LockId → Option TowerBlock) → homes ≡ x.homes
-      → own ≡ buffering_at_start x.homes x.number → doing ≡ None → OpensSo caps x.homes x.number opening
-      → IsTabled homes caps x.its own doing x.table opening
-  tabled_over homes caps own doing opening same own_is nothing opens =
+  pub tabled_over : (homes : List CpuId) (caps : List ℕ) (own : Buffering) (under_way : Option UnderWay) (opening : LockId → Option TowerBlock)
+      → homes ≡ x.homes
+      → own ≡ buffering_at_start x.homes x.number → under_way ≡ None → OpensSo caps x.homes x.number opening
+      → IsTabled homes caps x.its own under_way x.table opening
+  tabled_over homes caps own under_way opening same own_is nothing opens =
       rw (same, own_is, nothing, made.number_is, made.guests_are) (boots_tabled x.homes caps x.number x.guests x.buffers opening are opens)
 
   pub private_over : (own : Buffering) (p : Private) → p ≡ private own x.table x.trace → own ≡ buffering_at_start x.homes x.number
@@ -129,7 +132,7 @@ both_back Fits (x ∷ xs) (z ∷ ys) all zero y at = let same : z ≡ y = cc at 
 both_back Fits (x ∷ xs) (z ∷ ys) all (suc k) y at = both_back Fits xs ys all.1 k y at
 
 -- a worker that ran from boot leaves this
-pub left_so : (plan : BootPlan) (May : CpuId → ℕ → Type 0) (turns : ℕ) (c : CpuId) (first last : Working) (acts : List (Action TowerName)) (site : List ℕ)
+pub left_so : (plan : BootPlan) (May : CpuId → Go → ℕ → Type 0) (turns : ℕ) (c : CpuId) (first last : Working) (acts : List (Action TowerName)) (site : List ℕ)
     (trace : List Entry) (did its : Did) → IsAtBoot plan c first → HasRun May turns first last did.taken did.stop → IsApart last acts site trace → its ≡ did
     → HasLeft plan May turns c acts site trace its.taken its.stop
 left_so plan May turns c first last acts site trace did its boot ran apart same = record {

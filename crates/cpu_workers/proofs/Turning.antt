@@ -1,8 +1,11 @@
 -- A worker's turns along one list of actions.
-use Rattle.std.proofs.Common.{◌≡◌, ◌⊎◌, inl, inr, ℕ, ◌+◌, ◌<◌, ◌≤◌, ◌==◌, Bool, true, false, List, [], ◌∷◌, ◌++◌, Option, if◌then◌else◌, refl, ap, sym, ◌∙◌, subst, arith}
+use Rattle.std.proofs.Common.{◌≡◌, ◌⊎◌, inl, inr, ℕ, ◌+◌, ◌<◌, ◌≤◌, ◌==◌, Bool, true, false}
+use Rattle.std.proofs.Common.{List, [], ◌∷◌, ◌++◌, Option, if◌then◌else◌, refl, ap, sym, ◌∙◌, subst, arith}
+use Rattle.std.proofs.Common.{ltb-true, ltb-false}
+use Rattle.std.specs.Prelude.{nat_lt}
 use Rattle.event_log.specs.declared.ids.CpuId.{CpuId}
 use Rattle.event_log.specs.History.{AreOthers}
-use Rattle.event_log.specs.Actions.{Action, doer, phase}
+use Rattle.event_log.specs.Actions.{Action, cpu_of_action, phase}
 use Rattle.event_log.proofs.Foreign.{phase_others}
 use Rattle.layer_traits.specs.declared.steps.Reason.{Reason}
 use Rattle.layer_traits.specs.declared.steps.Step.{Step}
@@ -14,6 +17,8 @@ use Rattle.cpu.specs.Table.Setups.{Setup, Private}
 use Rattle.cpu.specs.Table.Steps.{cpu_step, halted_at}
 use Rattle.cpu.specs.Tower.Composed.{answer_of}
 use Rattle.cpu.proofs.Tower.Polls.{halts_exactly}
+use Rattle.cpu_workers.specs.declared.gates.Go.{Go}
+use Rattle.cpu_workers.specs.declared.gates.Go.TheVariants.{Limit, Pass}
 use Rattle.cpu_workers.specs.declared.stops.Stop.{Stop}
 use Rattle.cpu_workers.specs.declared.stops.Stop.TheVariants.{AllEnded, TurnsUsed, TraceFull, Held}
 use Rattle.cpu_workers.specs.Working.{IsPlanned, IsSame, MayStep, Charge, Turned, Working, is_inside, log}
@@ -22,7 +27,7 @@ use Rattle.cpu_workers.specs.Reports.{MayTake, none_taken, one_taken}
 
 module _ {P N : Type 0} (table : P → List (Action N) → Outcome P N) (cpu : CpuId) (first : P) where
   -- other CPUs act
-  pub along_others : (more : List (Action N)) {n : ℕ} {p : P} {past : List (Action N)} → AreOthers doer cpu more → Along table cpu first n p past
+  pub along_others : (more : List (Action N)) {n : ℕ} {p : P} {past : List (Action N)} → AreOthers cpu_of_action cpu more → Along table cpu first n p past
       → Along table cpu first n p (more ++ past)
   along_others [] all along = along
   along_others (a ∷ more) all along = others a (along_others more all.1 along) all.0
@@ -62,17 +67,6 @@ module _ {P N : Type 0} (table : P → List (Action N) → Outcome P N) (cpu : C
 
 -- A way on which each step between two sections is allowed.
 module _ {P N : Type 0} (table : P → List (Action N) → Outcome P N) (cpu : CpuId) (first : P) where
-  -- what allows more allows the same way
-  pub within_so : (A B : ℕ → Type 0) → ((k : ℕ) → A k → B k) → {n : ℕ} {p : P} {past : List (Action N)} → Within table cpu A first n p past
-      → Within table cpu B first n p past
-  within_so A B so none_taken = none_taken
-  within_so A B so (another a way apart) = another a (within_so A B so way) apart
-  within_so A B so (one_taken {n} way may stepped) = one_taken (within_so A B so way) (go may) stepped
-    where
-      go : {X : Type 0} → X ⊎ A n → X ⊎ B n
-      go (inl inside) = inl inside
-      go (inr allowed) = inr (so n allowed)
-
   -- a way of no more than so many steps took each of them below that many
   pub within_up : (A : ℕ → Type 0) (bound : ℕ) {n : ℕ} {p : P} {past : List (Action N)} → n ≤ bound → Within table cpu A first n p past
       → Within table cpu (below bound) first n p past
@@ -82,7 +76,7 @@ module _ {P N : Type 0} (table : P → List (Action N) → Outcome P N) (cpu : C
       one_taken (within_up A bound (omega (arith, short)) way) (inr (omega (arith, short))) stepped
 
   -- other CPUs act
-  pub within_others : (May : ℕ → Type 0) (more : List (Action N)) {n : ℕ} {p : P} {past : List (Action N)} → AreOthers doer cpu more
+  pub within_others : (May : ℕ → Type 0) (more : List (Action N)) {n : ℕ} {p : P} {past : List (Action N)} → AreOthers cpu_of_action cpu more
       → Within table cpu May first n p past → Within table cpu May first n p (more ++ past)
   within_others May [] all way = way
   within_others May (a ∷ more) all way = another a (within_others May more all.1 way) all.0
@@ -96,7 +90,7 @@ module _ {P N : Type 0} (table : P → List (Action N) → Outcome P N) (cpu : C
       (subst (λ (l : List (Action N)). Within table cpu May first (n + 1) (table p (went.others ++ old)).next l) (sym went.grows)
       (one_taken (within_others May went.others theirs way) (go may) stepped))
     where
-      theirs : AreOthers doer cpu went.others
+      theirs : AreOthers cpu_of_action cpu went.others
       theirs = went.foreign cpu refl
 
       go : (is_in_section (phase cpu old) ≡ true) ⊎ May n → (is_in_section (phase cpu (went.others ++ old)) ≡ true) ⊎ May n
@@ -118,17 +112,13 @@ module _ {P N : Type 0} (table : P → List (Action N) → Outcome P N) (cpu : C
       go (inl inside) = inl inside
       go (inr allowed) = inr (allowed took.count took.counted)
 
-  pub all_within : (A B : ℕ → Type 0) → ((k : ℕ) → A k → B k) → {last : P} {past : List (Action N)} {shown : ℕ}
-      → TookWithin table cpu A first last past shown → TookWithin table cpu B first last past shown
-  all_within A B so took = record { count = took.count; steps = within_so A B so took.steps; counted = took.counted }
-
 -- a turn that is shown to be below a number of 64 bits was taken below it
 pub below_shown : (turns shown : ℕ) → turns ≤ most → shown < turns → (count : ℕ) → Counts shown count → below turns count
 below_shown turns shown small short count counts =
     let same : count ≡ shown = counts.exact (omega (arith, small, short)) in omega (arith, same, short)
 
 -- the table's step is taken, whatever other CPUs did before it
-goes_on : (setup : Setup) (c : CpuId) (p : Private) (past more : List (Action Name)) → AreOthers doer c more
+goes_on : (setup : Setup) (c : CpuId) (p : Private) (past more : List (Action Name)) → AreOthers cpu_of_action c more
     → answer_of (is_in_section (phase c past)) (halted_at setup c p) ≡ Stepped → (cpu_step setup c p (more ++ past)).answer ≡ Stepped
 goes_on setup c p past more theirs goes =
     halts_exactly setup c p (more ++ past)
@@ -250,44 +240,68 @@ true_stop halted A B turns taken TurnsUsed may is = is
 true_stop halted A B turns taken Held may is = (is.0, may is.1)
 
 -- whom the gate holds before its turn: it did before, or it answers so now
-pub held_so : (A : ℕ → Type 0) (May : CpuId → ℕ → Type 0) (start now : Working) (taken : ℕ) (Was : Type 0) → Ran A start now taken
-    → (Was → Holds (May start.cpu) start now taken) → Was ⊎ May now.cpu taken → Holds (May start.cpu) start now taken
+pub held_so : (A : ℕ → Type 0) (May : CpuId → Go → ℕ → Type 0) (start now : Working) (taken : ℕ) (Was : Type 0) → Ran A start now taken
+    → (Was → Holds (May start.cpu Limit) start now taken) → Was ⊎ May now.cpu Limit taken → Holds (May start.cpu Limit) start now taken
 held_so A May start now taken Was ran holds (inl was) = holds was
-held_so A May start now taken Was ran holds (inr may) = holds_now A (May start.cpu) start now taken ran (subst (λ (d : CpuId). May d taken) ran.same.cpu may)
+held_so A May start now taken Was ran holds (inr may) =
+    holds_now A (May start.cpu Limit) start now taken ran (subst (λ (d : CpuId). May d Limit taken) ran.same.cpu may)
+
+-- the gate has let whoever is not held pass each time
+abbrev pub HasPassed : (ℕ → Type 0) → Bool → ℕ → Type 0
+HasPassed May held taken = held ≡ false → (k : ℕ) → k < taken → May k
+
+-- whoever is not held after the gate was asked was let pass this time too
+pub passed_so : (May : CpuId → Go → ℕ → Type 0) (start now : Working) (taken : ℕ) (old new : Bool) → IsSame start now
+    → HasPassed (May start.cpu Pass) old taken → (old ≡ true → new ≡ true) → (new ≡ false → May now.cpu Pass taken) → new ≡ false
+    → (k : ℕ) → k ≤ taken → May start.cpu Pass k
+passed_so May start now taken true new same passed kept asked free k least = let held = kept refl in absurd (cc (held, free))
+passed_so May start now taken false new same passed kept asked free k least = go (nat_lt k taken) refl
+  where
+    go : (b : Bool) → nat_lt k taken ≡ b → May start.cpu Pass k
+    go true is = passed refl k (ltb-true k taken is)
+    go false is =
+        let past = ltb-false k taken is in
+        let now_is : taken ≡ k = omega (arith, past, least) in
+        subst (λ (n : ℕ). May start.cpu Pass n) now_is (subst (λ (d : CpuId). May d Pass taken) same.cpu (asked free))
+
+-- one turn later
+pub passed_on : (May : ℕ → Type 0) (taken : ℕ) → ((k : ℕ) → k ≤ taken → May k) → (k : ℕ) → k < counted_on taken → May k
+passed_on May taken passed k before = passed k (go (taken == most) before)
+  where
+    go : (b : Bool) → k < (if b then taken else taken + 1) → k ≤ taken
+    go true before = omega (arith, before)
+    go false before = omega (arith, before)
 
 -- a turn outside a section is one that the worker may take
-pub paced_so : (May : CpuId → ℕ → Type 0) (turns : ℕ) (start now : Working) (taken : ℕ) (held : Bool) → IsSame start now → turns ≤ most
-    → (is_inside now ≡ true) ⊎ ((held ≡ false) × (taken < turns) × May now.cpu taken)
-    → (is_inside now ≡ true) ⊎ ((count : ℕ) → Counts taken count → MayTake turns (May start.cpu) count)
-paced_so May turns start now taken held same small (inl inside) = inl inside
-paced_so May turns start now taken held same small (inr may) = inr (λ count counts. (
-  below_shown turns taken small may.1 count counts,
-  (taken, counts, subst (λ (d : CpuId). May d taken) same.cpu may.2),
-))
+pub may_take_so : (May : ℕ → Type 0) (turns : ℕ) (now : Working) (taken : ℕ) (held : Bool) → turns ≤ most
+    → (held ≡ false → (k : ℕ) → k ≤ taken → May k) → (is_inside now ≡ true) ⊎ ((held ≡ false) × (taken < turns))
+    → (is_inside now ≡ true) ⊎ ((count : ℕ) → Counts taken count → MayTake turns May count)
+may_take_so May turns now taken held small passed (inl inside) = inl inside
+may_take_so May turns now taken held small passed (inr may) =
+    inr (λ count counts. (below_shown turns taken small may.1 count counts, (taken, counts, passed may.0)))
 
 -- and whoever is held is inside one
-pub held_inside : (May : CpuId → ℕ → Type 0) (turns : ℕ) (now : Working) (taken : ℕ) (held : Bool) → held ≡ true
-    → (is_inside now ≡ true) ⊎ ((held ≡ false) × (taken < turns) × May now.cpu taken) → is_inside now ≡ true
-held_inside May turns now taken held is (inl inside) = inside
-held_inside May turns now taken held is (inr may) = let free = may.0 in absurd (cc (is, free))
+pub held_inside : (turns : ℕ) (now : Working) (taken : ℕ) (held : Bool) → held ≡ true
+    → (is_inside now ≡ true) ⊎ ((held ≡ false) × (taken < turns)) → is_inside now ≡ true
+held_inside turns now taken held is (inl inside) = inside
+held_inside turns now taken held is (inr may) = let free = may.0 in absurd (cc (is, free))
 
-pub has_run : (May MayPass : CpuId → ℕ → Type 0) (turns : ℕ) (start now : Working) (taken : ℕ) (stop : Stop) (held : Bool)
-    → Ran (MayTake turns (MayPass start.cpu)) start now taken → is_inside now ≡ false → (held ≡ true → Holds (May start.cpu) start now taken)
+pub has_run : (May : CpuId → Go → ℕ → Type 0) (turns : ℕ) (start now : Working) (taken : ℕ) (stop : Stop) (held : Bool)
+    → Ran (MayTake turns (May start.cpu Pass)) start now taken → is_inside now ≡ false → (held ≡ true → Holds (May start.cpu Limit) start now taken)
     → ((setup : Setup) → IsPlanned setup now.plan → IsTrueStop (halted_at setup now.cpu now.private) (λ turn. held ≡ true) turns taken stop)
     → HasRun May turns start now taken stop
-has_run May MayPass turns start now taken stop held ran rests holds stops = record {
+has_run May turns start now taken stop held ran rests holds stops = record {
   same = ran.same;
   rests = rests;
   went = λ setup of. record {
     took = ran.took setup of;
-    within = all_within (cpu_step setup start.cpu) start.cpu start.private (MayTake turns (MayPass start.cpu)) (below turns) (λ k may. may.0)
-        (ran.within setup of);
+    within = ran.within setup of;
     held = λ is.
         let was = subst (λ (x : Stop). IsTrueStop (halted_at setup start.cpu now.private) (λ turn. held ≡ true) turns taken x) is (true_at setup of) in
         let holding = holds was.1.2 in
         let bound = holding.within setup of in
         record { turn = holding.turn; before = holding.before; may = holding.may; count = bound.0; counted = bound.1; within = bound.2 };
-    stop_is = true_stop (halted_at setup start.cpu now.private) (λ turn. held ≡ true) (May start.cpu) turns taken stop
+    stop_is = true_stop (halted_at setup start.cpu now.private) (λ turn. held ≡ true) (May start.cpu Limit) turns taken stop
         (λ was. let holding = holds was.2 in (holding.turn, holding.before, holding.may)) (true_at setup of);
   };
 }

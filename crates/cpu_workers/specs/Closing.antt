@@ -22,7 +22,7 @@ use Rattle.layer_traits.specs.declared.queues.QueueAnswer.{QueueAnswer}
 use Rattle.layer_traits.specs.declared.sleeps.Outcome.{Outcome}
 use Rattle.layer_traits.specs.BufferBlocks.{BufferState}
 use Rattle.layer_traits.specs.BufferEffects.{opening_locks}
-use Rattle.layer_traits.specs.BufferProtocol.{buffer_deeds}
+use Rattle.layer_traits.specs.BufferProtocol.{buffer_monitor_rules}
 use Rattle.layer_traits.specs.Conditions.{cv_rules}
 use Rattle.layer_traits.specs.OneLock.{opened}
 use Rattle.layer_traits.specs.Places.{home_of}
@@ -38,20 +38,22 @@ use Rattle.sleep_wakeup.specs.Nested.{nested_moves, nested_rules, state_of}
 use Rattle.sleep_wakeup.specs.Nested as sleep
 use Rattle.queuing_lock.specs.declared.edits.QBlock.{QBlock}
 use Rattle.queuing_lock.specs.declared.edits.QLockEdit.{QLockEdit}
-use Rattle.queuing_lock.specs.Nested.{busy_rules, lock_of}
+use Rattle.queuing_lock.specs.Nested.{busy_rules, nested_lock_of}
 use Rattle.queuing_lock.specs.Nested as lock
-use Rattle.table_machine.specs.Desks.{Board, Closes, Desk}
+use Rattle.table_machine.specs.SeatViews.{TableView, Closes, SeatView}
 use Rattle.cpu.specs.Table.Blocks.{Block}
 use Rattle.cpu.specs.Cpus.{IsOfHome, of_thread}
 use Rattle.cpu.specs.Table.Setups.{Setup, Private, at_boot, program_of, thread_at}
 use Rattle.cpu.specs.Table.Steps.{cpu_step, halted_at}
 use Rattle.cpu.specs.Tower.Composed.{named}
 use Rattle.cpu.specs.Tower.Views.{TowerBlock, TowerName, view}
+use Rattle.cpu_workers.specs.declared.gates.Go.{Go}
+use Rattle.cpu_workers.specs.declared.gates.Go.TheVariants.{Limit, Pass}
 use Rattle.cpu_workers.specs.declared.stops.Stop.{Stop}
-use Rattle.cpu_workers.specs.Lawful.{IsLawfulReport, IsLineOf, Line, Shown}
+use Rattle.cpu_workers.specs.Lawful.{IsLawfulReport, IsCpuReportOf, CpuReport, Shown}
 use Rattle.cpu_workers.specs.Orders.{FollowsProgram, IsTraceOf}
 use Rattle.cpu_workers.specs.declared.stops.Stop.TheVariants.{Held}
-use Rattle.cpu_workers.specs.Reports.{IsTrueStop, Took, TookWithin, WasHeld, below}
+use Rattle.cpu_workers.specs.Reports.{IsTrueStop, MayTake, Took, TookWithin, WasHeld}
 
 -- the tower's edit of the block of a lock, the block, and what an edit answers
 abbrev pub LockEdit : Type 0
@@ -69,11 +71,11 @@ WordsOfTower = List (Event (Mark (QueueEdit LockEdit)))
 
 -- the key of a CPU at a table of these locks
 abbrev pub Key : Type 0
-Key = Desk (QueueEdit LockEdit) (QueueBlock LockBlock)
+Key = SeatView (QueueEdit LockEdit) (QueueBlock LockBlock)
 
 -- what the tower's edits mean
 abbrev pub tower_rules : Rules (QueueEdit LockEdit) (QueueBlock LockBlock) (QueueAnswer LockOut)
-tower_rules = queue_rules (nested_rules (busy_rules (cv_rules buffer_deeds))) (nested_moves (busy_rules (cv_rules buffer_deeds)))
+tower_rules = queue_rules (nested_rules (busy_rules (cv_rules buffer_monitor_rules))) (nested_moves (busy_rules (cv_rules buffer_monitor_rules)))
 
 -- the actions of a words log, by the names of the layers above
 abbrev pub acts_in : WordsOfTower → List (Action TowerName)
@@ -81,39 +83,40 @@ acts_in log = map (renamed (renamed_edit lock.edit_in)) (map (renamed (renamed_e
 
 -- opening blocks, as the layers above see them
 abbrev pub seen_above : (LockId → Option (QueueBlock LockBlock)) → LockId → Option TowerBlock
-seen_above opening = viewed lock_of (viewed state_of opening)
+seen_above opening = viewed nested_lock_of (viewed state_of opening)
 
 -- a block of the tower's locks, as the step table has blocks
 abbrev pub block_shown : Option (QueueBlock LockBlock) → Option Block
-block_shown o = option_map view (option_map (viewed_block lock_of) (option_map (viewed_block state_of) o))
+block_shown o = option_map view (option_map (viewed_block nested_lock_of) (option_map (viewed_block state_of) o))
 
 -- the block of each lock in a list of locks with their blocks, as the step table has blocks
-abbrev pub blocks_told : List (LockId × QueueBlock LockBlock) → LockId → Option Block
-blocks_told blocks lock = block_shown (opened blocks lock)
+abbrev pub blocks_read : List (LockId × QueueBlock LockBlock) → LockId → Option Block
+blocks_read blocks lock = block_shown (opened blocks lock)
 
 -- a table that opened with the locks of this setup: a queue for each of its CPUs, with the homes of its threads, and its buffers, each empty
 -- under a free lock with nobody asleep; there is a CPU, and all traces together have less than 2^64 entries
-pub record StartsSo (setup : Setup) (board : Board (QueueBlock LockBlock)) : Type 0 where
+pub record StartsSo (setup : Setup) (table_view : TableView (QueueBlock LockBlock)) : Type 0 where
   pub some : 0 < setup.cpus
-  pub cpus : board.cpus ≡ setup.cpus
-  pub starts : StartsWell (opened board.start)
-  pub homes : homes_in (opened board.start) ≡ setup.homes
-  pub queues : (c : CpuId) → c.0 < setup.cpus → IsSome (opened board.start (Pending c))
-  pub locks : inner (seen_above (opened board.start)) ≡ opening_locks setup.caps
+  pub cpus : table_view.cpus ≡ setup.cpus
+  pub starts : StartsWell (opened table_view.start)
+  pub homes : homes_in (opened table_view.start) ≡ setup.homes
+  pub queues : (c : CpuId) → c.0 < setup.cpus → IsSome (opened table_view.start (Pending c))
+  pub locks : inner (seen_above (opened table_view.start)) ≡ opening_locks setup.caps
   pub buffers : length setup.caps ≤ BUFFERS
   pub small : setup.cpus * setup.trace_room < 2 ^ 64
 
 -- what a CPU did that has seen these actions: it went from boot to its last state by the step table, in just as many steps as its line tells,
--- with none of its sections under way at the end; between two sections it took a turn only below so many, and none after a `Limit` of the
--- gate; its stop is true of where it stands, and its trace is its effects in what it has seen; the trace kept to its room, each entry is of a
--- thread at home, and each thread at home followed its program
-pub record HasSeen (setup : Setup) (May : ℕ → Type 0) (turns : ℕ) (c : CpuId) (acts : List (Action TowerName)) (line : Line) : Type 0 where
+-- with none of its sections under way at the end; between two sections it took a turn only below so many and where the gate, which was asked
+-- at each turn so far with the number of turns taken, may have let it pass each time, and none after a `Limit` of the gate if it was held; its
+-- stop is true of where it stands, and its trace is its effects in what it has seen; the trace kept to its room, each entry is of a thread at
+-- home, and each thread at home followed its program
+pub record HasSeen (setup : Setup) (May : Go → ℕ → Type 0) (turns : ℕ) (c : CpuId) (acts : List (Action TowerName)) (line : CpuReport) : Type 0 where
   pub last : Private
   pub took : Took (cpu_step setup c) c (at_boot setup c) last (named acts) line.taken
-  pub within : TookWithin (cpu_step setup c) c (below turns) (at_boot setup c) last (named acts) line.taken
-  pub held : line.stop ≡ Held → WasHeld (cpu_step setup c) c May (at_boot setup c) last (named acts) line.taken
+  pub within : TookWithin (cpu_step setup c) c (MayTake turns (May Pass)) (at_boot setup c) last (named acts) line.taken
+  pub held : line.stop ≡ Held → WasHeld (cpu_step setup c) c (May Limit) (at_boot setup c) last (named acts) line.taken
   pub rests : is_in_section (phase c (named acts)) ≡ false
-  pub stop_is : IsTrueStop (halted_at setup c last) May turns line.taken line.stop
+  pub stop_is : IsTrueStop (halted_at setup c last) (May Limit) turns line.taken line.stop
   pub trace_is : line.trace ≡ last.trace
   pub own : IsTraceOf c setup.caps acts line.trace
   pub legal : AreLegal acts
@@ -123,26 +126,26 @@ pub record HasSeen (setup : Setup) (May : ℕ → Type 0) (turns : ℕ) (c : Cpu
       → FollowsProgram (program_of setup t) (of_thread t.0 line.trace) (thread_at last t).ended
 
 -- the report has a line for each worker that came back with the key of its CPU, and no more lines
-pub record HaveCome (setup : Setup) (May : CpuId → ℕ → Type 0) (turns : ℕ) (keys : List Key) (r : Shown) : Type 0 where
+pub record HaveCome (setup : Setup) (May : CpuId → Go → ℕ → Type 0) (turns : ℕ) (keys : List Key) (r : Shown) : Type 0 where
   pub traces : length r.traces ≡ setup.cpus
   pub taken : length r.taken ≡ setup.cpus
   pub stops : length r.stops ≡ setup.cpus
-  pub each : (c : CpuId) → c.0 < setup.cpus → (key : Key) × (line : Line) × (slice_get keys c.0 ≡ Some key) × (key.cpu ≡ c) × IsLineOf r c line
+  pub each : (c : CpuId) → c.0 < setup.cpus → (key : Key) × (line : CpuReport) × (slice_get keys c.0 ≡ Some key) × (key.cpu ≡ c) × IsCpuReportOf r c line
       × HasSeen setup (May c) turns c (acts_in key.seen) line
 
 -- a report of the closed table, whose blocks are those that `close` gave
 abbrev pub shown : List (List Entry) → List ℕ → List Stop → List (LockId × QueueBlock LockBlock) → Shown
-shown traces taken stops blocks = record { traces = traces; taken = taken; stops = stops; blocks = blocks_told blocks }
+shown traces taken stops blocks = record { traces = traces; taken = taken; stops = stops; blocks = blocks_read blocks }
 
 -- the workers of a table came back, the table was closed with their keys and gave these blocks, and this is the report
-pub record IsReported (setup : Setup) (May : CpuId → ℕ → Type 0) (turns : ℕ) (board : Board (QueueBlock LockBlock)) (keys : List Key)
+pub record IsReported (setup : Setup) (May : CpuId → Go → ℕ → Type 0) (turns : ℕ) (table_view : TableView (QueueBlock LockBlock)) (keys : List Key)
     (blocks : List (LockId × QueueBlock LockBlock)) (r : Shown) : Type 0 where
-  pub starts : StartsSo setup board
+  pub starts : StartsSo setup table_view
   pub come : HaveCome setup May turns keys r
-  pub closes : Closes tower_rules board keys blocks
-  pub told : r.blocks ≡ blocks_told blocks
+  pub closes : Closes tower_rules table_view keys blocks
+  pub told : r.blocks ≡ blocks_read blocks
 
 -- such a report is lawful, whatever this gate may answer
-abbrev pub ReportsAreLawful : (CpuId → ℕ → Type 0) → Type 0
-ReportsAreLawful May = (setup : Setup) (turns : ℕ) (board : Board (QueueBlock LockBlock)) (keys : List Key)
-    (blocks : List (LockId × QueueBlock LockBlock)) (r : Shown) → IsReported setup May turns board keys blocks r → IsLawfulReport setup May turns r
+abbrev pub ReportsAreLawful : (CpuId → Go → ℕ → Type 0) → Type 0
+ReportsAreLawful May = (setup : Setup) (turns : ℕ) (table_view : TableView (QueueBlock LockBlock)) (keys : List Key)
+    (blocks : List (LockId × QueueBlock LockBlock)) (r : Shown) → IsReported setup May turns table_view keys blocks r → IsLawfulReport setup May turns r

@@ -4,13 +4,13 @@ use Rattle.event_log.specs.declared.ids.CpuId.{CpuId}
 use Rattle.event_log.specs.declared.ids.LockId.{LockId}
 use Rattle.event_log.specs.declared.events.Event.{Event}
 use Rattle.event_log.specs.History.{IsLawful, how_many, own_events, same_lock}
-use Rattle.event_log.specs.WordsLog.{actor, frees, standing, Outside}
-use Rattle.event_log.specs.Sections.{Section, section_actor}
+use Rattle.event_log.specs.WordsLog.{cpu_of_event, frees, lock_phase, Idle}
+use Rattle.event_log.specs.Sections.{Section, cpu_of_section}
 use Rattle.layer_traits.specs.declared.edits.Mark.{Mark}
 use Rattle.layer_traits.specs.OneLock.{opened}
 use Rattle.layer_traits.specs.Protocol.{Rules}
 use Rattle.layer_traits.specs.WordsProtocol.{MayCome, sections}
-use Rattle.table_machine.specs.Desks.{Board, Desk, IsIn, new_desk}
+use Rattle.table_machine.specs.SeatViews.{TableView, SeatView, IsIn, new_seat_view}
 use Rattle.cpu_workers.specs.declared.counting.AddOne.{AddOne}
 use Rattle.cpu_workers.specs.Reports.{Both}
 
@@ -24,10 +24,10 @@ sections_at lock past = how_many (λ s. same_lock lock s.lock) past
 
 -- how many sections at this lock are this CPU's
 abbrev pub made : {E : Type 0} → CpuId → LockId → List (Section E) → ℕ
-made cpu lock past = sections_at lock (own_events section_actor cpu past)
+made cpu lock past = sections_at lock (own_events cpu_of_section cpu past)
 
 -- no table at all
-abbrev pub nowhere : Board ℕ
+abbrev pub nowhere : TableView ℕ
 nowhere = record {
   table = record { words = 0; slots = 0; views_name = 0; atom = 0; block = 0; offset = 0; slot_names = [] };
   start = [];
@@ -35,28 +35,28 @@ nowhere = record {
 }
 
 -- a key of this table that has seen nothing
-abbrev pub IsFresh : {E B : Type 0} → Board B → Desk E B → Type 0
-IsFresh board desk = desk ≡ new_desk board desk.cpu.0
+abbrev pub IsFresh : {E B : Type 0} → TableView B → SeatView E B → Type 0
+IsFresh table_view seat_view = seat_view ≡ new_seat_view table_view seat_view.cpu.0
 
 -- the key has come back after so many sections of its CPU
-pub record HasMade {E B : Type 0} (lock : LockId) (old new : Desk E B) (times : ℕ) : Type 0 where
+pub record HasMade {E B : Type 0} (lock : LockId) (old new : SeatView E B) (times : ℕ) : Type 0 where
   pub cpu : new.cpu ≡ old.cpu
   pub table : new.table ≡ old.table
-  pub outside : standing new.cpu new.seen ≡ Outside
+  pub outside : lock_phase new.cpu new.seen ≡ Idle
   pub more : made old.cpu lock (sections new.seen) ≡ made old.cpu lock (sections old.seen) + times
 
 -- a worker that did not start leaves nothing
-abbrev pub MayHaveMade : {E B : Type 0} → LockId → Desk E B → Option (Desk E B) → ℕ → Type 0
+abbrev pub MayHaveMade : {E B : Type 0} → LockId → SeatView E B → Option (SeatView E B) → ℕ → Type 0
 MayHaveMade lock old came times = MatchOption came (Unit {0}) (λ new. HasMade lock old new times)
 
 -- each key has come back after so many sections of its CPU
-abbrev pub AllHaveMade : {E B : Type 0} → LockId → List (Desk E B) → List (Desk E B) → ℕ → Type 0
+abbrev pub AllHaveMade : {E B : Type 0} → LockId → List (SeatView E B) → List (SeatView E B) → ℕ → Type 0
 AllHaveMade lock old new times = Both (λ d e. HasMade lock d e times) old new
 
--- how often this lock was freed in one legal log of the table, in which all desks stand whole, with no other CPU's events
-pub record IsNumberOfFrees {E B O : Type 0} (rules : Rules E B O) (lock : LockId) (board : Board B) (desks : List (Desk E B)) (number : ℕ) : Type 0 where
+-- how often this lock was freed in one legal log of the table, in which all seat views stand whole, with no other CPU's events
+pub record IsNumberOfFrees {E B O : Type 0} (rules : Rules E B O) (lock : LockId) (table_view : TableView B) (seat_views : List (SeatView E B)) (number : ℕ) : Type 0 where
   pub log : List (Event (Mark E))
-  pub legal : IsLawful (MayCome (rules.allowed (opened board.start))) log
-  pub keys : (i : ℕ) (desk : Desk E B) → slice_get desks i ≡ Some desk → IsIn log desk
-  pub rest : (c : CpuId) → board.cpus ≤ c.0 → own_events actor c log ≡ []
+  pub legal : IsLawful (MayCome (rules.allowed (opened table_view.start))) log
+  pub keys : (i : ℕ) (seat_view : SeatView E B) → slice_get seat_views i ≡ Some seat_view → IsIn log seat_view
+  pub rest : (c : CpuId) → table_view.cpus ≤ c.0 → own_events cpu_of_event c log ≡ []
   pub is : number ≡ frees lock log

@@ -7,10 +7,11 @@ use Rattle.event_log.specs.declared.ids.CpuId.{CpuId}
 use Rattle.event_log.specs.declared.ids.LockId.{LockId}
 use Rattle.event_log.specs.declared.ids.LockId.TheVariants.{Pending, Buffer as AtBuffer}
 use Rattle.event_log.specs.declared.ids.Tid.{Tid}
-use Rattle.event_log.specs.Actions.{Action, AreLegal, doer, phase}
+use Rattle.event_log.specs.Actions.{Action, AreLegal, cpu_of_action, phase}
 use Rattle.event_log.specs.History.{own_events}
 use Rattle.event_log.specs.Messages.{Message}
 use Rattle.event_log.specs.Runs.{IsRun}
+use Rattle.event_log.specs.Streams.{IsFirstInFirstOut}
 use Rattle.event_log.specs.Traces.{IsInterleaving}
 use Rattle.guest.specs.Calls.{AreProgramsCalls, IsProgramsCalls, HasEnded}
 use Rattle.guest.specs.State.{State}
@@ -22,12 +23,14 @@ use Rattle.cpu.specs.Table.Blocks.{Block, Buffer, Name, OfBuffer, OfPending}
 use Rattle.cpu.specs.Table.Setups.{Setup, Private, at_boot, program_of}
 use Rattle.cpu.specs.Table.Steps.{block_at, cpu_step, halted_at}
 use Rattle.cpu.specs.Wakeups.Lost.{NoWakeUpIsLost}
+use Rattle.cpu_workers.specs.declared.gates.Go.{Go}
+use Rattle.cpu_workers.specs.declared.gates.Go.TheVariants.{Limit, Pass}
 use Rattle.cpu_workers.specs.declared.stops.Stop.{Stop}
 use Rattle.cpu_workers.specs.declared.stops.Stop.TheVariants.{AllEnded, TurnsUsed, Held}
-use Rattle.cpu_workers.specs.Reports.{IsTrueStop, MayHold, Took, TookWithin, WasHeld, below}
+use Rattle.cpu_workers.specs.Reports.{IsTrueStop, MayHold, MayTake, Took, TookWithin, WasHeld}
 
 -- what a report tells of one CPU: its trace, oldest first, how many turns it took, and why it stopped
-pub record Line : Type 0 where
+pub record CpuReport : Type 0 where
   pub trace : List Entry
   pub taken : ℕ
   pub stop : Stop
@@ -40,7 +43,7 @@ pub record Shown : Type 0 where
   pub blocks : LockId → Option Block
 
 -- the report has this line at the CPU's number
-pub record IsLineOf (r : Shown) (c : CpuId) (line : Line) : Type 0 where
+pub record IsCpuReportOf (r : Shown) (c : CpuId) (line : CpuReport) : Type 0 where
   pub trace : slice_get r.traces c.0 ≡ Some line.trace
   pub taken : slice_get r.taken c.0 ≡ Some line.taken
   pub stop : slice_get r.stops c.0 ≡ Some line.stop
@@ -68,36 +71,39 @@ pub record EndsAt (setup : Setup) (t : Tid) (entries : List Entry) : Type 0 wher
 -- what is told of a CPU is true: its trace kept to its room, each entry is of a thread at home, and a thread's entries are its program's calls;
 -- it stopped with `AllEnded` only where all programs at home have ended, with `TurnsUsed` only after its turns, and with `Held` only where the
 -- gate may have held it
-pub record TellsTrue (setup : Setup) (May : ℕ → Type 0) (turns : ℕ) (c : CpuId) (line : Line) : Type 0 where
+pub record ReportsTrue (setup : Setup) (May : Go → ℕ → Type 0) (turns : ℕ) (c : CpuId) (line : CpuReport) : Type 0 where
   pub room : length line.trace ≤ setup.trace_room
   pub stays : AllByRecursion (IsOfHome setup.homes c) line.trace
   pub calls : (t : Tid) → home_of setup.homes t ≡ Some c → AreProgramsCalls (program_of setup t) (of_thread t.0 line.trace)
   pub ended : line.stop ≡ AllEnded → (t : Tid) → home_of setup.homes t ≡ Some c → EndsAt setup t (of_thread t.0 line.trace)
   pub used : line.stop ≡ TurnsUsed → turns ≤ line.taken
-  pub held : line.stop ≡ Held → MayHold May line.taken
+  pub held : line.stop ≡ Held → MayHold (May Limit) line.taken
 
 -- a report of workers: its lists have one element for each CPU; its traces have one order that keeps each of them, is a run of first-in first-out
--- buffers and ends in what the blocks hold; and what it tells of each CPU is true
-pub record IsReport (setup : Setup) (May : CpuId → ℕ → Type 0) (turns : ℕ) (r : Shown) : Type 0 where
+-- buffers and ends in what the blocks hold: for each buffer, what was put is what was taken, in that order, and then what its block holds; and
+-- what it tells of each CPU is true
+pub record IsReport (setup : Setup) (May : CpuId → Go → ℕ → Type 0) (turns : ℕ) (r : Shown) : Type 0 where
   pub traces_count : length r.traces ≡ setup.cpus
   pub taken_count : length r.taken ≡ setup.cpus
   pub stops_count : length r.stops ≡ setup.cpus
   pub order : List Entry
   pub keeps : IsInterleaving r.traces order
   pub run : IsRun setup.caps order (left_in (length setup.caps) r)
-  pub each : (c : CpuId) → c.0 < setup.cpus → (line : Line) × IsLineOf r c line × TellsTrue setup (May c) turns c line
+  pub fifo : IsFirstInFirstOut order (left_in (length setup.caps) r)
+  pub each : (c : CpuId) → c.0 < setup.cpus → (line : CpuReport) × IsCpuReportOf r c line × ReportsTrue setup (May c) turns c line
 
 -- a CPU went along this list of actions by the step table: from boot to its last state, in just as many steps as its line tells, with none of
--- its sections under way at the end; between two sections it took a turn only below so many, and none after a `Limit` of the gate; the line
--- has its trace, and its stop is true of where it stands
-pub record HasGone (setup : Setup) (May : ℕ → Type 0) (turns : ℕ) (c : CpuId) (log : List (Action Name)) (line : Line) : Type 0 where
+-- its sections under way at the end; between two sections it took a turn only below so many and where the gate, which was
+-- asked at each turn so far with the number of turns taken, may have let it pass each time, and none after a `Limit` of the
+-- gate if it was held; the line has its trace, and its stop is true of where it stands
+pub record HasGone (setup : Setup) (May : Go → ℕ → Type 0) (turns : ℕ) (c : CpuId) (log : List (Action Name)) (line : CpuReport) : Type 0 where
   pub last : Private
   pub trace_is : line.trace ≡ last.trace
   pub took : Took (cpu_step setup c) c (at_boot setup c) last log line.taken
-  pub within : TookWithin (cpu_step setup c) c (below turns) (at_boot setup c) last log line.taken
-  pub held : line.stop ≡ Held → WasHeld (cpu_step setup c) c May (at_boot setup c) last log line.taken
+  pub within : TookWithin (cpu_step setup c) c (MayTake turns (May Pass)) (at_boot setup c) last log line.taken
+  pub held : line.stop ≡ Held → WasHeld (cpu_step setup c) c (May Limit) (at_boot setup c) last log line.taken
   pub rests : is_in_section (phase c log) ≡ false
-  pub stop_is : IsTrueStop (halted_at setup c last) May turns line.taken line.stop
+  pub stop_is : IsTrueStop (halted_at setup c last) (May Limit) turns line.taken line.stop
 
 -- the blocks are what the sections of these actions leave
 pub record AreLeft (setup : Setup) (log : List (Action Name)) (r : Shown) : Type 0 where
@@ -106,11 +112,11 @@ pub record AreLeft (setup : Setup) (log : List (Action Name)) (r : Shown) : Type
 
 -- a lawful report: there is one legal list of actions along which each CPU went by the step table, and which has no others' actions; the blocks
 -- are what it leaves; and no wake-up is lost in them
-pub record IsLawfulReport (setup : Setup) (May : CpuId → ℕ → Type 0) (turns : ℕ) (r : Shown) : Type 0 where
+pub record IsLawfulReport (setup : Setup) (May : CpuId → Go → ℕ → Type 0) (turns : ℕ) (r : Shown) : Type 0 where
   pub report : IsReport setup May turns r
   pub log : List (Action Name)
   pub legal : AreLegal log
-  pub gone : (c : CpuId) → c.0 < setup.cpus → (line : Line) × IsLineOf r c line × HasGone setup (May c) turns c log line
-  pub rest : (c : CpuId) → setup.cpus ≤ c.0 → own_events doer c log ≡ []
+  pub gone : (c : CpuId) → c.0 < setup.cpus → (line : CpuReport) × IsCpuReportOf r c line × HasGone setup (May c) turns c log line
+  pub rest : (c : CpuId) → setup.cpus ≤ c.0 → own_events cpu_of_action c log ≡ []
   pub left : AreLeft setup log r
   pub awake : (b : BufId) (k : Buffer) → r.blocks (AtBuffer b) ≡ Some (OfBuffer k) → NoWakeUpIsLost k

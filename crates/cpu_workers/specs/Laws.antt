@@ -2,7 +2,7 @@
 use Rattle.std.specs.Prelude.{◌≡◌, ℕ, ◌≤◌, ◌<◌, Bool, true, List, [], ◌++◌, None}
 use Rattle.event_log.specs.declared.ids.CpuId.{CpuId}
 use Rattle.event_log.specs.History.{AreOthers, own_events}
-use Rattle.event_log.specs.Actions.{Action, doer}
+use Rattle.event_log.specs.Actions.{Action, cpu_of_action}
 use Rattle.cpu.specs.Table.Blocks.{Name}
 use Rattle.cpu.specs.Table.Setups.{Setup, Private, at_boot, have_ended, home_threads}
 use Rattle.cpu.specs.Table.Steps.{cpu_step, halted_at}
@@ -19,12 +19,12 @@ pub record HasWorked (setup : Setup) (c : CpuId) (log : List (Action Name)) : Ty
   pub took : Took (cpu_step setup c) c (at_boot setup c) last seen shown
   pub more : List (Action Name)
   pub is : log ≡ more ++ seen
-  pub others : AreOthers doer c more
+  pub others : AreOthers cpu_of_action c more
 
 -- the workers of one table, whose list has no other CPU's actions
 pub record HaveWorked (setup : Setup) (log : List (Action Name)) : Type 0 where
   pub each : (c : CpuId) → c.0 < setup.cpus → HasWorked setup c log
-  pub rest : (c : CpuId) → setup.cpus ≤ c.0 → own_events doer c log ≡ []
+  pub rest : (c : CpuId) → setup.cpus ≤ c.0 → own_events cpu_of_action c log ≡ []
 
 -- such workers lose no wake-up
 abbrev pub WorkersLoseNoWakeUp : Type 0

@@ -1,7 +1,7 @@
 -- What a worker did: so many turns, and why it stopped.
 use Rattle.std.specs.Prelude.{◌≡◌, ◌⊎◌, ℕ, ◌+◌, ◌-◌, ◌^◌, ◌<◌, ◌≤◌, ◌==◌, List, [], ◌∷◌, ◌++◌, Option, Some, None, false, true, if◌then◌else◌}
 use Rattle.event_log.specs.declared.ids.CpuId.{CpuId}
-use Rattle.event_log.specs.Actions.{Action, doer, phase}
+use Rattle.event_log.specs.Actions.{Action, cpu_of_action, phase}
 use Rattle.event_log.specs.History.{same_cpu}
 use Rattle.layer_traits.specs.declared.steps.Reason.{Reason}
 use Rattle.layer_traits.specs.declared.steps.Reason.TheVariants as reason
@@ -10,6 +10,8 @@ use Rattle.layer_traits.specs.Along.{Outcome, Along}
 use Rattle.layer_traits.specs.Plans.{is_in_section}
 use Rattle.cpu.specs.Table.Setups.{Setup}
 use Rattle.cpu.specs.Table.Steps.{cpu_step, halted_at}
+use Rattle.cpu_workers.specs.declared.gates.Go.{Go}
+use Rattle.cpu_workers.specs.declared.gates.Go.TheVariants.{Limit, Pass}
 use Rattle.cpu_workers.specs.declared.stops.Stop.{Stop}
 use Rattle.cpu_workers.specs.declared.stops.Stop.TheVariants.{AllEnded, TurnsUsed, TraceFull, Held}
 use Rattle.cpu_workers.specs.Working.{IsPlanned, IsSame, Working, is_inside, log}
@@ -38,7 +40,7 @@ pub record Took {P N : Type 0} (table : P → List (Action N) → Outcome P N) (
 pub data Within {P N : Type 0} (table : P → List (Action N) → Outcome P N) (cpu : CpuId) (May : ℕ → Type 0) (start : P) :
     ℕ → P → List (Action N) → Type 0 where
   none_taken : Within table cpu May start 0 start []
-  another : {n : ℕ} {p : P} {log : List (Action N)} (a : Action N) → Within table cpu May start n p log → same_cpu (doer a) cpu ≡ false
+  another : {n : ℕ} {p : P} {log : List (Action N)} (a : Action N) → Within table cpu May start n p log → same_cpu (cpu_of_action a) cpu ≡ false
       → Within table cpu May start n p (a ∷ log)
   one_taken : {n : ℕ} {p : P} {log : List (Action N)} → Within table cpu May start n p log → (is_in_section (phase cpu log) ≡ true) ⊎ May n
       → (table p log).answer ≡ Stepped → Within table cpu May start (n + 1) (table p log).next ((table p log).acts ++ log)
@@ -54,9 +56,9 @@ pub record TookWithin {P N : Type 0} (table : P → List (Action N) → Outcome 
 abbrev pub below : ℕ → ℕ → Type 0
 below turns count = count < turns
 
--- the gate was asked where so many turns were taken, and may have let the CPU pass
+-- the gate was asked at each turn up to the one after so many, with the number of turns taken, and may have let the CPU pass each time
 abbrev pub WasAsked : (ℕ → Type 0) → ℕ → Type 0
-WasAsked MayPass count = (shown : ℕ) × Counts shown count × MayPass shown
+WasAsked MayPass count = (shown : ℕ) × Counts shown count × ((k : ℕ) → k ≤ shown → MayPass k)
 
 -- a CPU was held: after so many turns the gate may have answered `Limit`, and from there on the CPU took none but to end its section
 pub record WasHeld {P N : Type 0} (table : P → List (Action N) → Outcome P N) (cpu : CpuId) (May : ℕ → Type 0) (first last : P)
@@ -79,28 +81,24 @@ IsTrueStop halted May turns taken TraceFull = halted ≡ Some reason.TraceFull
 IsTrueStop halted May turns taken TurnsUsed = (halted ≡ None) × (turns ≤ taken)
 IsTrueStop halted May turns taken Held = (halted ≡ None) × MayHold May taken
 
--- a worker has run by the step table: between two sections it took a turn only below so many, and after a `Limit` none
-pub record WentBy (setup : Setup) (May : ℕ → Type 0) (turns : ℕ) (old new : Working) (taken : ℕ) (stop : Stop) : Type 0 where
-  pub took : Took (cpu_step setup old.cpu) old.cpu old.private new.private (log new) taken
-  pub within : TookWithin (cpu_step setup old.cpu) old.cpu (below turns) old.private new.private (log new) taken
-  pub held : stop ≡ Held → WasHeld (cpu_step setup old.cpu) old.cpu May old.private new.private (log new) taken
-  pub stop_is : IsTrueStop (halted_at setup old.cpu new.private) May turns taken stop
-
--- a worker has run: it is the same one, none of its sections is under way, and each table of its plan tells its steps and its stop
-pub record HasRun (May : CpuId → ℕ → Type 0) (turns : ℕ) (old new : Working) (taken : ℕ) (stop : Stop) : Type 0 where
-  pub same : IsSame old new
-  pub rests : is_inside new ≡ false
-  pub went : (setup : Setup) → IsPlanned setup old.plan → WentBy setup (May old.cpu) turns old new taken stop
-
--- after so many turns a worker may take one more between two sections: fewer than `turns` were taken, and the gate was asked just then and
--- may have let it pass
+-- after so many turns a worker may take one more between two sections: fewer than `turns` were taken, and the gate was asked at each turn so
+-- far, and just then, and may have let it pass each time
 abbrev pub MayTake : ℕ → (ℕ → Type 0) → ℕ → Type 0
 MayTake turns MayPass count = below turns count × WasAsked MayPass count
 
--- each turn that a worker took between two sections was one that it may take
-abbrev pub HasAsked : (CpuId → ℕ → Type 0) → ℕ → Working → Working → ℕ → Type 0
-HasAsked MayPass turns old new taken = (setup : Setup) → IsPlanned setup old.plan
-    → TookWithin (cpu_step setup old.cpu) old.cpu (MayTake turns (MayPass old.cpu)) old.private new.private (log new) taken
+-- a worker has run by the step table: between two sections it took a turn only below so many and where the gate, which was asked at each turn
+-- so far with the number of turns taken, may have let it pass each time; and if it was held, it took none after a `Limit` but to end its section
+pub record WentBy (setup : Setup) (May : Go → ℕ → Type 0) (turns : ℕ) (old new : Working) (taken : ℕ) (stop : Stop) : Type 0 where
+  pub took : Took (cpu_step setup old.cpu) old.cpu old.private new.private (log new) taken
+  pub within : TookWithin (cpu_step setup old.cpu) old.cpu (MayTake turns (May Pass)) old.private new.private (log new) taken
+  pub held : stop ≡ Held → WasHeld (cpu_step setup old.cpu) old.cpu (May Limit) old.private new.private (log new) taken
+  pub stop_is : IsTrueStop (halted_at setup old.cpu new.private) (May Limit) turns taken stop
+
+-- a worker has run: it is the same one, none of its sections is under way, and each table of its plan tells its steps and its stop
+pub record HasRun (May : CpuId → Go → ℕ → Type 0) (turns : ℕ) (old new : Working) (taken : ℕ) (stop : Stop) : Type 0 where
+  pub same : IsSame old new
+  pub rests : is_inside new ≡ false
+  pub went : (setup : Setup) → IsPlanned setup old.plan → WentBy setup (May old.cpu) turns old new taken stop
 
 -- each element of the one list has its own in the other, in order
 abbrev pub Both : {A B : Type 0} → (A → B → Type 0) → List A → List B → Type 0

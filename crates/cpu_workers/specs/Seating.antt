@@ -15,15 +15,16 @@ use Rattle.layer_traits.specs.OneLock.{AreDistinct, opened}
 use Rattle.layer_traits.specs.QueueBlocks.{StartsWell, homes_in, inner}
 use Rattle.layer_traits.specs.Renaming.{renamed_edit, viewed}
 use Rattle.layer_traits.specs.WordsProtocol.{edit_of}
-use Rattle.queuing_lock.specs.Nested.{edit_in as lock_call, lock_of}
+use Rattle.queuing_lock.specs.Nested.{edit_in as lock_call, nested_lock_of}
 use Rattle.sleep_wakeup.specs.Nested.{edit_in as slept_edit, state_of}
 use Rattle.cpu.specs.Boots.{homes_for}
 use Rattle.cpu.specs.Sound.{setup_for}
-use Rattle.table_machine.specs.Desks.{Board, Closes, IsOver, site_of}
+use Rattle.table_machine.specs.SeatViews.{TableView, Closes, IsOver, site_of}
 use Rattle.cpu.specs.Table.Setups.{at_boot}
 use Rattle.cpu.specs.Tower.Views.{TowerName}
+use Rattle.cpu_workers.specs.declared.gates.Go.{Go}
 use Rattle.cpu_workers.specs.declared.stops.Stop.{Stop}
-use Rattle.cpu_workers.specs.Closing.{Key, LockBlock, LockEdit, blocks_told, tower_rules}
+use Rattle.cpu_workers.specs.Closing.{Key, LockBlock, LockEdit, blocks_read, tower_rules}
 use Rattle.cpu_workers.specs.Lawful.{held_at}
 use Rattle.cpu_workers.specs.Orders.{HasFollowed, IsTraceOf}
 use Rattle.cpu_workers.specs.Reports.{HasRun}
@@ -46,7 +47,7 @@ pub record OpensPlan (plan : BootPlan) (opening : LockId → Option Block) : Typ
   pub starts : StartsWell opening
   pub homes : homes_in opening ≡ homes_for plan
   pub queues : (c : CpuId) → c.0 < plan.cpus → IsSome (opening (Pending c))
-  pub locks : inner (viewed lock_of (viewed state_of opening)) ≡ opening_locks plan.caps
+  pub locks : inner (viewed nested_lock_of (viewed state_of opening)) ≡ opening_locks plan.caps
 
 -- a machine for one CPU's worker before its first turn: it acts for the CPU, no section of which is under way, has seen no section and no
 -- action, and its locks open so
@@ -84,7 +85,7 @@ pub record IsApart (w : Working) (acts : List (Action TowerName)) (site : List �
   pub follows : HasFollowed w
 
 -- the worker of a CPU of a plan has run from before its first turn to where it stopped, and this is what it left
-pub record HasLeft (plan : BootPlan) (May : CpuId → ℕ → Type 0) (turns : ℕ) (c : CpuId) (acts : List (Action TowerName)) (site : List ℕ)
+pub record HasLeft (plan : BootPlan) (May : CpuId → Go → ℕ → Type 0) (turns : ℕ) (c : CpuId) (acts : List (Action TowerName)) (site : List ℕ)
     (trace : List Entry) (taken : ℕ) (stop : Stop) : Type 0 where
   pub first : Working
   pub last : Working
@@ -93,14 +94,14 @@ pub record HasLeft (plan : BootPlan) (May : CpuId → ℕ → Type 0) (turns : �
   pub apart : IsApart last acts site trace
 
 -- the worker of a CPU left its key of this table, which is outside all locks, and the rest
-pub record LeftKey (plan : BootPlan) (May : CpuId → ℕ → Type 0) (turns : ℕ) (board : Board Block) (c : CpuId) (key : Key)
+pub record LeftKey (plan : BootPlan) (May : CpuId → Go → ℕ → Type 0) (turns : ℕ) (table_view : TableView Block) (c : CpuId) (key : Key)
     (trace : List Entry) (taken : ℕ) (stop : Stop) : Type 0 where
   pub cpu_is : key.cpu ≡ c
-  pub over : IsOver board key
+  pub over : IsOver table_view key
   pub left : HasLeft plan May turns c (tower_acts (acts_of edit_of key.seen)) (site_of key.table) trace taken stop
 
 -- the workers of all CPUs have left what stands in these lists, by CPU
-pub record HaveLeft (plan : BootPlan) (May : CpuId → ℕ → Type 0) (turns : ℕ) (board : Board Block) (keys : List Key) (traces : List (List Entry))
+pub record HaveLeft (plan : BootPlan) (May : CpuId → Go → ℕ → Type 0) (turns : ℕ) (table_view : TableView Block) (keys : List Key) (traces : List (List Entry))
     (taken : List ℕ) (stops : List Stop) : Type 0 where
   pub count : length keys ≡ plan.cpus
   pub traces_count : length traces ≡ plan.cpus
@@ -108,19 +109,19 @@ pub record HaveLeft (plan : BootPlan) (May : CpuId → ℕ → Type 0) (turns : 
   pub stops_count : length stops ≡ plan.cpus
   pub each : (c : CpuId) → c.0 < plan.cpus → (key : Key) × (trace : List Entry) × (n : ℕ) × (stop : Stop)
       × (slice_get keys c.0 ≡ Some key) × (slice_get traces c.0 ≡ Some trace) × (slice_get taken c.0 ≡ Some n) × (slice_get stops c.0 ≡ Some stop)
-      × LeftKey plan May turns board c key trace n stop
+      × LeftKey plan May turns table_view c key trace n stop
 
 -- the workers of a plan have run at one table that opened as the plan says, and these are the blocks that it left when it was closed
-pub record IsReportOf (plan : BootPlan) (May : CpuId → ℕ → Type 0) (turns : ℕ) (traces : List (List Entry)) (taken : List ℕ) (stops : List Stop)
+pub record IsReportOf (plan : BootPlan) (May : CpuId → Go → ℕ → Type 0) (turns : ℕ) (traces : List (List Entry)) (taken : List ℕ) (stops : List Stop)
     (blocks : List (LockId × Block)) : Type 0 where
-  pub board : Board Block
-  pub cpus_are : board.cpus ≡ plan.cpus
-  pub distinct : AreDistinct board.start
-  pub opens : OpensPlan plan (opened board.start)
+  pub table_view : TableView Block
+  pub cpus_are : table_view.cpus ≡ plan.cpus
+  pub distinct : AreDistinct table_view.start
+  pub opens : OpensPlan plan (opened table_view.start)
   pub keys : List Key
-  pub left : HaveLeft plan May turns board keys traces taken stops
-  pub closes : Closes tower_rules board keys blocks
+  pub left : HaveLeft plan May turns table_view keys traces taken stops
+  pub closes : Closes tower_rules table_view keys blocks
 
 -- the items of a buffer among these blocks, as a report tells them
-abbrev pub items_in : List (LockId × Block) → BufId → List Message
-items_in blocks b = held_at (blocks_told blocks) b
+abbrev pub items_of_block : List (LockId × Block) → BufId → List Message
+items_of_block blocks b = held_at (blocks_read blocks) b

@@ -10,7 +10,7 @@ mod tables;
 mod threads;
 
 use event_log::{BufId, LockId};
-use layer_traits::{Edit, Tray};
+use layer_traits::{Edit, Payload};
 pub use sections::CountWords;
 pub use tables::{NotCounted, count_or_leave, count_table, number_left};
 use thiserror::Error;
@@ -29,7 +29,7 @@ impl Edit for AddOne {
 
     ghost rules = { counting };
 
-    fn apply(&self, block: &mut u64, _tray: &mut Tray) -> u64 {
+    fn apply(&self, block: &mut u64, _payload: &mut Payload) -> u64 {
         let before = *block;
         *block = before.wrapping_add(1);
         before

@@ -13,22 +13,19 @@ pub enum Go {
     Limit,
 }
 
-/// What a worker asks before each turn of its CPU. A gate that wants to hold the CPU does so inside
-/// `pass`, up to a limit of its own, and then answers `Limit`; after that it is asked no more.
+/// What a worker asks before each turn of its CPU, with the number of turns that the CPU has taken. A
+/// gate that wants to hold the CPU does so inside `pass`, up to a limit of its own, and then answers
+/// `Limit`; after that the CPU takes no turn but to end its section.
 pub trait Gate {
     ghost use Rattle.event_log.specs.declared.ids.CpuId.{CpuId};
-    ghost use Rattle.cpu_workers.specs.declared.gates.Go.TheVariants.{Limit, Pass};
+    ghost use Rattle.cpu_workers.specs.declared.gates.Go.{Go};
 
-    /// For which CPU and at which of its turns the gate may answer `Limit`.
-    ghost MayLimit: { Self → CpuId → ℕ → Type 0 };
-
-    /// For which CPU and at which of its turns the gate may answer `Pass`.
-    ghost MayPass: { Self → CpuId → ℕ → Type 0 };
+    /// For which CPU, and at which of its turns, the gate may give an answer.
+    ghost MayAnswer: { Self → CpuId → Go → ℕ → Type 0 };
 
     /// Whether `cpu`, which has taken `turn` turns, may take one more.
     fn pass(&self, cpu: CpuId, turn: u64) -> Go
-        ensures limits { result ≡ Limit → MayLimit self.now cpu turn }
-        ensures passes { result ≡ Pass → MayPass self.now cpu turn };
+        ensures { MayAnswer self.now cpu result turn };
 }
 
 /// The gate that is always open.
@@ -36,9 +33,9 @@ pub trait Gate {
 pub struct OpenGate;
 
 impl Gate for OpenGate {
-    ghost MayLimit = { λ gate cpu turn. ⊥ };
+    ghost use Rattle.cpu_workers.specs.declared.gates.Go.TheVariants.{Pass};
 
-    ghost MayPass = { λ gate cpu turn. Unit {0} };
+    ghost MayAnswer = { λ gate cpu go turn. go ≡ Pass };
 
     fn pass(&self, _cpu: CpuId, _turn: u64) -> Go {
         Go::Pass

@@ -26,7 +26,7 @@ pub fn stops_are_true()
 /// first-out buffers and ends in what the blocks hold; each thread followed its program, the stops
 /// are true, and no wake-up is lost in the blocks.
 pub fn reports_are_lawful<G: Gate>(gate: &G)
-    ensures { ReportsAreLawful (G.MayLimit gate.now) }
+    ensures { ReportsAreLawful (G.MayAnswer gate.now) }
 {
     let _ = gate;
 }

@@ -26,12 +26,12 @@ pub struct Report {
 }
 
 impl Report {
-    ghost use Rattle.cpu_workers.specs.Seating.{items_in};
+    ghost use Rattle.cpu_workers.specs.Seating.{items_of_block};
 
     /// What `buffer` holds, front first: what the report tells of its block. Where there is no such
     /// buffer it is nothing.
     pub fn items(&self, buffer: BufId) -> ArrayVec<Msg, CAPACITY>
-        ensures { result.items ≡ items_in self.now.blocks.items buffer }
+        ensures { result.items ≡ items_of_block self.now.blocks.items buffer }
     {
         items_at(&self.blocks, LockId::Buffer(buffer))
     }

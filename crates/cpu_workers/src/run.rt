@@ -2,7 +2,8 @@
 
 ghost use Rattle.std.specs.Prelude.{◌≡◌, ◌≤◌, [], IfOk, All, length, map, vec_capacity};
 ghost use Rattle.layer_traits.specs.OneLock.{AreDistinct, opened};
-ghost use Rattle.table_machine.specs.Desks.{Closes, Covers, IsOf, IsOver, new_desks};
+ghost use Rattle.table_machine.specs.SeatViews.{Closes, Covers, IsOf, IsOver, new_seat_views};
+ghost use Rattle.boot.specs.declared.locks.LockKind.TheVariants as kind;
 ghost use Rattle.boot.specs.Plan.{IsPlan};
 ghost use Rattle.cpu.specs.Sound.{setup_for};
 ghost use Rattle.cpu_workers.specs.Closing.{shown, tower_rules};
@@ -119,9 +120,10 @@ fn run_tickets<G: Gate + Sync, R: Threads + Wait + Sync>(
     shared: &Shared<TowerEdit, TicketWords>,
     keys: Vec<Key<TowerEdit>>,
 ) -> Result<Back<TowerEdit>, WorkerError>
-    requires keys { keys.items ≡ new_desks shared.now boot.now.cpus }
+    requires lock { boot.now.lock ≡ kind.Ticket }
+    requires keys { keys.items ≡ new_seat_views shared.now boot.now.cpus }
     requires opens { OpensPlan boot.now (opened shared.now.start) }
-    ensures { IfOk result (λ b. HaveLeft boot.now (G.MayLimit gate.now) turns shared.now b.keys.items (map (λ t. t.items) b.traces.items) b.taken.items
+    ensures { IfOk result (λ b. HaveLeft boot.now (G.MayAnswer gate.now) turns shared.now b.keys.items (map (λ t. t.items) b.traces.items) b.taken.items
         b.stops.items) }
 {
     let back = Back::with_capacity(alloc, boot.cpus() as usize)?;
@@ -142,9 +144,10 @@ fn run_grants<G: Gate + Sync, R: Threads + Wait + Sync>(
     shared: &Shared<TowerEdit, WaiterWords>,
     keys: Vec<Key<TowerEdit>>,
 ) -> Result<Back<TowerEdit>, WorkerError>
-    requires keys { keys.items ≡ new_desks shared.now boot.now.cpus }
+    requires lock { boot.now.lock ≡ kind.Grant }
+    requires keys { keys.items ≡ new_seat_views shared.now boot.now.cpus }
     requires opens { OpensPlan boot.now (opened shared.now.start) }
-    ensures { IfOk result (λ b. HaveLeft boot.now (G.MayLimit gate.now) turns shared.now b.keys.items (map (λ t. t.items) b.traces.items) b.taken.items
+    ensures { IfOk result (λ b. HaveLeft boot.now (G.MayAnswer gate.now) turns shared.now b.keys.items (map (λ t. t.items) b.traces.items) b.taken.items
         b.stops.items) }
 {
     let back = Back::with_capacity(alloc, boot.cpus() as usize)?;
@@ -164,7 +167,7 @@ fn table_of<K: TableWords>(
     ensures cpus { IfOk result (λ r. r.0.cpus ≡ boot.now.cpus) }
     ensures distinct { IfOk result (λ r. AreDistinct r.0.start) }
     ensures opens { IfOk result (λ r. OpensPlan boot.now (opened r.0.start)) }
-    ensures keys { IfOk result (λ r. r.1.items ≡ new_desks r.0 boot.now.cpus) }
+    ensures keys { IfOk result (λ r. r.1.items ≡ new_seat_views r.0 boot.now.cpus) }
 {
     let homes = homes_of(boot);
     let caps = boot.caps();
@@ -198,7 +201,9 @@ fn closed<K: TableWords>(shared: Shared<TowerEdit, K>, back: Back<TowerEdit>) ->
 /// Runs a plan with a worker thread for each CPU, each at its own seat at one table of shared
 /// words, under a gate. The locks of the table are of the plan's kind. A worker stops between two of
 /// its sections, as [`crate::work`] says: where its CPU is halted, where the gate has answered
-/// `Limit`, or where `turns` turns are taken.
+/// `Limit`, or where `turns` turns are taken. Between two sections it takes a turn only below
+/// `turns`, and only where the gate, which was asked at each turn so far with the number of turns
+/// taken, may have answered `Pass` each time.
 ///
 /// It waits for its workers, so it need not return. All memory is taken and all workers are known to
 /// have started before any step is taken.
@@ -212,7 +217,7 @@ pub fn run_workers<G: Gate + Sync, R: Threads + Wait + Sync>(
     turns: u64,
     gate: &G,
 ) -> Result<Report, WorkerError>
-    ensures { IfOk result (λ r. IsLawfulReport (setup_for boot.now) (G.MayLimit gate.now) turns
+    ensures { IfOk result (λ r. IsLawfulReport (setup_for boot.now) (G.MayAnswer gate.now) turns
         (shown (map (λ t. t.items) r.traces.items) r.taken.items r.stops.items r.blocks.items)) }
 {
     match boot.lock() {

@@ -18,7 +18,7 @@ use crate::worker::Worker;
 use boot::Boot;
 use cpu::{guests_of, homes_of};
 use event_log::{CpuId, Entry, NoMemory};
-use ipc_calls::{Ipc, Over, TowerEdit};
+use ipc_calls::{Ipc, TowerEdit, TowerOver};
 use layer_traits::{IpcLayer, LockLayer};
 use std::alloc::Global;
 use std::sync::Wait;
@@ -154,7 +154,7 @@ where
         → I.site x.machine ≡ I.site m) }
     ensures owns { IfOk result (λ left. (k : ℕ) (x : _) → slice_get left.items k ≡ Some x → I.ActsFor x.machine (cpu_at k)) }
     ensures left { IfOk result (λ left. (k : ℕ) (x : _) → slice_get left.items k ≡ Some x
-        → HasLeft boot.now (G.MayLimit gate.now) turns (cpu_at k) (I.acts x.machine) (I.site x.machine) x.trace.items x.did.taken x.did.stop) }
+        → HasLeft boot.now (G.MayAnswer gate.now) turns (cpu_at k) (I.acts x.machine) (I.site x.machine) x.trace.items x.did.taken x.did.stop) }
 {
     let left = Vec::with_capacity(alloc, machines.len())?;
     let workers = workers_over::<I>(alloc, boot, machines)?;
@@ -194,7 +194,7 @@ where
         → L.site x.machine ≡ L.site m) }
     ensures owns { IfOk result (λ left. (k : ℕ) (x : _) → slice_get left.items k ≡ Some x → L.ActsFor x.machine (cpu_at k)) }
     ensures left { IfOk result (λ left. (k : ℕ) (x : _) → slice_get left.items k ≡ Some x
-        → HasLeft boot.now (G.MayLimit gate.now) turns (cpu_at k) (tower_acts (L.acts x.machine)) (L.site x.machine) x.trace.items x.did.taken x.did.stop) }
+        → HasLeft boot.now (G.MayAnswer gate.now) turns (cpu_at k) (tower_acts (L.acts x.machine)) (L.site x.machine) x.trace.items x.did.taken x.did.stop) }
 {
-    run_each::<Ipc<Over<L>>, G, R>(rt, alloc, boot, turns, gate, machines)
+    run_each::<Ipc<TowerOver<L>>, G, R>(rt, alloc, boot, turns, gate, machines)
 }

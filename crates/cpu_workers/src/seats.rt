@@ -1,11 +1,11 @@
 //! The seat of a CPU at the table of the tower's locks.
 
 ghost use Rattle.std.specs.Prelude.{◌≡◌};
-ghost use Rattle.table_machine.specs.Desks.{IsOf};
+ghost use Rattle.table_machine.specs.SeatViews.{IsOf};
 
 use event_log::{CpuId, LockId};
 use ipc_calls::{TowerBlock, TowerEdit};
-use layer_traits::{Mark, TellsGrants, Words};
+use layer_traits::{Mark, UsesGrantWords, Words};
 use std::marker::Model;
 use table_machine::{Key, Seat, Shared, TableWords, WaiterWords};
 
@@ -17,10 +17,10 @@ pub(crate) struct TowerSeat<'a, K: TableWords> {
 }
 
 impl<'a, K: TableWords> Model for TowerSeat<'a, K> {
-    ghost use Rattle.table_machine.specs.Desks.{Desk};
+    ghost use Rattle.table_machine.specs.SeatViews.{SeatView};
     ghost use Rattle.cpu_workers.specs.Seating.{Block, Edit};
 
-    ghost Value = { Desk Edit Block };
+    ghost Value = { SeatView Edit Block };
 
     ghost view = { λ s. s.seat };
 }
@@ -50,7 +50,7 @@ impl<'a, K: TableWords> Words for TowerSeat<'a, K> {
     ghost use Rattle.event_log.specs.History.{IsLawful};
     ghost use Rattle.layer_traits.specs.WordsProtocol.{MayCome, edit_of};
     ghost use Rattle.layer_traits.specs.OneLock.{opened};
-    ghost use Rattle.table_machine.specs.Desks.{site_of};
+    ghost use Rattle.table_machine.specs.SeatViews.{site_of};
     ghost use Rattle.cpu_workers.specs.Closing.{tower_rules};
 
     type Edit = TowerEdit;
@@ -90,4 +90,4 @@ impl<'a, K: TableWords> Words for TowerSeat<'a, K> {
     ghost legal = { λ s c acts. acts.1 };
 }
 
-impl<'a> TellsGrants for TowerSeat<'a, WaiterWords> {}
+impl<'a> UsesGrantWords for TowerSeat<'a, WaiterWords> {}

@@ -76,7 +76,7 @@ where
     ghost use Rattle.cpu_workers.specs.Reports.{HasRun};
 
     ghost kept_by = { λ p r. MatchOption r (Unit {0})
-        (λ came. HasRun (G.MayLimit p.gate.value) p.turns p.worker.value came.worker came.did.taken came.did.stop) };
+        (λ came. HasRun (G.MayAnswer p.gate.value) p.turns p.worker.value came.worker came.did.taken came.did.stop) };
 }
 
 // What a thread does: it waits until all are started, and lets its worker run if they were.
@@ -92,7 +92,7 @@ where
     I::Machine: Drop,
     requires { worker.acts ≡ [] }
     ensures { MatchOption result (Unit {0})
-        (λ came. HasRun (G.MayLimit gate.now) turns worker came.worker came.did.taken came.did.stop) }
+        (λ came. HasRun (G.MayAnswer gate.now) turns worker came.worker came.did.taken came.did.stop) }
 {
     start.wait(rt);
     if !go.load(Ordering::SeqCst) {
@@ -113,7 +113,7 @@ where
     I::Machine: Drop,
     requires empty { done.items ≡ [] }
     requires room { length children.items ≤ vec_capacity done }
-    ensures { Both (λ child came. HasRun (G.MayLimit child.promise.gate.value) child.promise.turns child.promise.worker.value
+    ensures { Both (λ child came. HasRun (G.MayAnswer child.promise.gate.value) child.promise.turns child.promise.worker.value
         came.worker came.did.taken came.did.stop) children.items result.items }
 {
     for child in children {
@@ -131,7 +131,7 @@ fn join_one<I: IpcLayer + Drop, G: Gate, R: Threads + Wait>(
 ) -> Came<I>
 where
     I::Machine: Drop,
-    ensures { HasRun (G.MayLimit child.promise.gate.value) child.promise.turns child.promise.worker.value result.worker result.did.taken result.did.stop }
+    ensures { HasRun (G.MayAnswer child.promise.gate.value) child.promise.turns child.promise.worker.value result.worker result.did.taken result.did.stop }
 {
     if let Some(came) = child.join(rt) {
         return came;
@@ -181,7 +181,7 @@ where
     requires fresh { All (λ w. w.acts ≡ []) workers.items }
     requires children { (supplies.children.items ≡ []) × (length workers.items ≤ vec_capacity supplies.children) }
     requires done { (supplies.done.items ≡ []) × (length workers.items ≤ vec_capacity supplies.done) }
-    ensures { IfOk result (λ came. Both (λ w c. HasRun (G.MayLimit gate.now) turns w c.worker c.did.taken c.did.stop) workers.items came.items) }
+    ensures { IfOk result (λ came. Both (λ w c. HasRun (G.MayAnswer gate.now) turns w c.worker c.did.taken c.did.stop) workers.items came.items) }
 {
     let Supplies {
         group,
@@ -194,7 +194,7 @@ where
         |scope| -> Result<Vec<Came<I>>, WorkerError>
             requires { All (λ w. w.acts ≡ []) workers.items × (children.items ≡ []) × (length workers.items ≤ vec_capacity children)
                 × (done.items ≡ []) × (length workers.items ≤ vec_capacity done) }
-            ensures { IfOk result (λ came. Both (λ w c. HasRun (G.MayLimit gate.entry.now) turns w c.worker c.did.taken c.did.stop) workers.items came.items) }
+            ensures { IfOk result (λ came. Both (λ w c. HasRun (G.MayAnswer gate.entry.now) turns w c.worker c.did.taken c.did.stop) workers.items came.items) }
         {
             for worker in workers {
                 let Ok(start) = group.clone() else {
@@ -210,7 +210,7 @@ where
                     move ||
                         requires { worker.acts ≡ [] }
                         ensures { MatchOption result (Unit {0})
-                            (λ came. HasRun (G.MayLimit gate.entry.now) turns worker came.worker came.did.taken came.did.stop) }
+                            (λ came. HasRun (G.MayAnswer gate.entry.now) turns worker came.worker came.did.taken came.did.stop) }
                     { run(rt, gate, go, start, worker, turns) },
                 );
                 let Ok(child) = started else {
@@ -242,7 +242,7 @@ pub fn work_all<I: IpcLayer + Drop + Send, G: Gate + Sync, R: Threads + Wait + S
 where
     I::Machine: Drop + Send,
     requires { All (λ w. w.acts ≡ []) workers.items }
-    ensures { IfOk result (λ came. Both (λ w c. HasRun (G.MayLimit gate.now) turns w c.worker c.did.taken c.did.stop) workers.items came.items) }
+    ensures { IfOk result (λ came. Both (λ w c. HasRun (G.MayAnswer gate.now) turns w c.worker c.did.taken c.did.stop) workers.items came.items) }
 {
     let Ok(supplies) = supplies_for(alloc, workers.len()) else {
         return Err(WorkerError::NoMemory);

@@ -5,7 +5,8 @@ ghost use Rattle.layer_traits.specs.declared.steps.Reason.TheVariants.{StepsUsed
 ghost use Rattle.cpu.specs.Table.Setups.{Setup};
 ghost use Rattle.cpu.specs.Table.Steps.{halted_at};
 ghost use Rattle.cpu_workers.specs.Working.{IsPlanned, MayStep, is_inside};
-ghost use Rattle.cpu_workers.specs.Reports.{HasAsked, HasRun, IsTrueStop, counted_on};
+ghost use Rattle.cpu_workers.specs.declared.gates.Go.TheVariants.{Limit, Pass};
+ghost use Rattle.cpu_workers.specs.Reports.{HasRun, IsTrueStop, counted_on};
 
 use crate::gates::{Gate, Go};
 use crate::stops::Stop;
@@ -74,8 +75,8 @@ fn ending(halted: Option<Reason>, held: bool, taken: u64, turns: u64) -> Option<
 fn ask<I: IpcLayer + Drop, G: Gate>(gate: &G, worker: &Worker<I>, taken: u64, held: bool) -> bool
 where
     I::Machine: Drop,
-    ensures limits { result ≡ true → (held ≡ true) ⊎ G.MayLimit gate.now worker.now.cpu taken }
-    ensures passes { result ≡ false → G.MayPass gate.now worker.now.cpu taken }
+    ensures limits { result ≡ true → (held ≡ true) ⊎ G.MayAnswer gate.now worker.now.cpu Limit taken }
+    ensures passes { result ≡ false → G.MayAnswer gate.now worker.now.cpu Pass taken }
     ensures kept { held ≡ true → result ≡ true }
 {
     held || gate.pass(worker.number(), taken) == Go::Limit
@@ -92,12 +93,12 @@ fn before<I: IpcLayer + Drop, G: Gate>(
 ) -> Option<Stop>
 where
     I::Machine: Drop,
-    ensures held { held.new ≡ true → (held.old ≡ true) ⊎ G.MayLimit gate.now worker.now.cpu taken }
+    ensures held { held.new ≡ true → (held.old ≡ true) ⊎ G.MayAnswer gate.now worker.now.cpu Limit taken }
     ensures kept { held.old ≡ true → held.new ≡ true }
-    // It goes on between two sections only where no `Limit` came, fewer turns than `turns` are
-    // taken, and the gate was asked with their number.
-    ensures paced { result ≡ None → (is_inside worker.now ≡ true)
-        ⊎ ((held.new ≡ false) × (taken < turns) × G.MayPass gate.now worker.now.cpu taken) }
+    // It goes on between two sections only where no `Limit` came and fewer turns than `turns` are
+    // taken. Where none came, the gate was asked with their number, and let the CPU pass.
+    ensures may_take { result ≡ None → (is_inside worker.now ≡ true) ⊎ ((held.new ≡ false) × (taken < turns)) }
+    ensures passes { result ≡ None → held.new ≡ false → G.MayAnswer gate.now worker.now.cpu Pass taken }
     ensures goes { result ≡ None → (setup : Setup) → IsPlanned setup worker.now.plan → MayStep setup worker.now }
     ensures rests { (stop : _) → result ≡ Some stop → is_inside worker.now ≡ false }
     ensures stops { (stop : _) → result ≡ Some stop → (setup : Setup) → IsPlanned setup worker.now.plan
@@ -119,7 +120,7 @@ where
 /// looks whether a section is under way. Where none is, it stops if its CPU is halted, else if the
 /// gate has answered `Limit`, else if `turns` turns are taken; and else it asks the gate, whose
 /// `Limit` stops it without that turn. Inside a section it asks the gate too, but goes on to the
-/// section's end. After a `Limit` it asks the gate no more.
+/// section's end. After a `Limit` it takes no turn but to end the section.
 ///
 /// It may wait for other CPUs' sections and inside the gate, so it need not return.
 pub fn work<I: IpcLayer + Drop, G: Gate, R: Wait>(
@@ -131,8 +132,7 @@ pub fn work<I: IpcLayer + Drop, G: Gate, R: Wait>(
 where
     I::Machine: Drop,
     requires { worker.old.acts ≡ [] }
-    ensures ran { HasRun (G.MayLimit gate.now) turns worker.old worker.new result.taken result.stop }
-    ensures asked { HasAsked (G.MayPass gate.now) turns worker.old worker.new result.taken }
+    ensures { HasRun (G.MayAnswer gate.now) turns worker.old worker.new result.taken result.stop }
 {
     let mut taken = 0;
     let mut held = false;

@@ -42,9 +42,9 @@ where
     } };
 
     ghost invariant = { λ w. IsWorker I.IsStepwise (I.Fits w.cpu.part w.machine) (I.cpu_of w.cpu.part ≡ w.cpu.number)
-        (IsCpu (I.homes_of w.machine) (length (I.caps w.machine)) (I.seen w.machine) (I.threads w.cpu.part) (I.talks w.cpu.part)
-        (I.doing w.cpu.part) w.cpu.number w.cpu.guests.items w.cpu.trace.items w.cpu.limit (vec_capacity w.cpu.trace))
-        (IsTabled (I.homes_of w.machine) (I.caps w.machine) w.cpu.number (I.own w.cpu.part) (I.doing w.cpu.part) w.cpu.guests.items (I.opening w.machine))
+        (IsCpu (I.homes_of w.machine) (length (I.caps w.machine)) (I.seen w.machine) (I.threads w.cpu.part) (I.call_states w.cpu.part)
+        (I.under_way w.cpu.part) w.cpu.number w.cpu.guests.items w.cpu.trace.items w.cpu.limit (vec_capacity w.cpu.trace))
+        (IsTabled (I.homes_of w.machine) (I.caps w.machine) w.cpu.number (I.own w.cpu.part) (I.under_way w.cpu.part) w.cpu.guests.items (I.opening w.machine))
         ((m : I.Machine) → 0 < I.room m) (inner (I.opening w.machine) ≡ opening_locks (I.caps w.machine)) };
 }
 
@@ -71,9 +71,9 @@ where
         requires stepwise { I.IsStepwise }
         requires fits { I.Fits cpu.part machine }
         requires number { I.cpu_of cpu.part ≡ cpu.number }
-        requires is { IsCpu (I.homes_of machine) (length (I.caps machine)) (I.seen machine) (I.threads cpu.part) (I.talks cpu.part)
-            (I.doing cpu.part) cpu.number cpu.guests.items cpu.trace.items cpu.limit (vec_capacity cpu.trace) }
-        requires tabled { IsTabled (I.homes_of machine) (I.caps machine) cpu.number (I.own cpu.part) (I.doing cpu.part) cpu.guests.items (I.opening machine) }
+        requires is { IsCpu (I.homes_of machine) (length (I.caps machine)) (I.seen machine) (I.threads cpu.part) (I.call_states cpu.part)
+            (I.under_way cpu.part) cpu.number cpu.guests.items cpu.trace.items cpu.limit (vec_capacity cpu.trace) }
+        requires tabled { IsTabled (I.homes_of machine) (I.caps machine) cpu.number (I.own cpu.part) (I.under_way cpu.part) cpu.guests.items (I.opening machine) }
         requires room { (m : I.Machine) → 0 < I.room m }
         requires opens { inner (I.opening machine) ≡ opening_locks (I.caps machine) }
         ensures cpu { result.cpu ≡ cpu.number }

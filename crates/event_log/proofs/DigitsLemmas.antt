@@ -97,14 +97,14 @@ pub record IsRead (most : ℕ) (text : List ℕ) (n : ℕ) : Type 0 where
   pub value : digits_value 10 text ≡ n
   pub within : n ≤ most
 
-kept : (b : Bool) (v n : ℕ) → (if b then Some v else None) ≡ Some n → (b ≡ true) × (v ≡ n)
-kept true v n h = (refl, cc)
-kept false v n h = absurd (cc)
+some_if_is : (b : Bool) (v n : ℕ) → (if b then Some v else None) ≡ Some n → (b ≡ true) × (v ≡ n)
+some_if_is true v n h = (refl, cc)
+some_if_is false v n h = absurd (cc)
 
 pub number_to-Some : (most : ℕ) (text : List ℕ) (n : ℕ) → number_to most text ≡ Some n → IsRead most text n
 unfolding number_to
 number_to-Some most text n h =
-    let value = kept (is_number text && nat_le (digits_value 10 text) most) (digits_value 10 text) n h in
+    let value = some_if_is (is_number text && nat_le (digits_value 10 text) most) (digits_value 10 text) n h in
     let tests = and_parts (is_number text) (nat_le (digits_value 10 text) most) value.0 in
     let small : digits_value 10 text ≤ most = (let test = tests.1 in grind (arith, nat_tests)) in
     record { spelled = spelled_number text tests.0; value = value.1; within = rw (← value.1) small }

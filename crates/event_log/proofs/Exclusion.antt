@@ -5,7 +5,7 @@ use Rattle.event_log.specs.declared.ids.CpuId.{CpuId}
 use Rattle.event_log.specs.declared.ids.LockId.{LockId}
 use Rattle.event_log.specs.declared.ids.TheConstants.{CPUS}
 use Rattle.event_log.specs.History.{same_cpu, same_lock}
-use Rattle.event_log.specs.Actions.{Action, Take, Try, Give, Phase, Rests, Waits, Holds, phase, left_in, doer, spot_of, takes, gives, MayAct, AreLegal}
+use Rattle.event_log.specs.Actions.{Action, Take, Try, Give, Phase, Rests, Waits, Holds, phase, left_in, cpu_of_action, spot_of, takes, gives, MayAct, AreLegal}
 use Rattle.event_log.proofs.BoolLemmas.{refuted}
 use Rattle.event_log.proofs.Same.{same_cpu_self, same_lock_self, same_lock_true}
 use Rattle.event_log.proofs.Line.{Line, crowd_none, crowd_within, by_cpu, line_stays, line_joined, line_left}
@@ -28,39 +28,39 @@ LineAt lock actions =
     Line (takes lock actions) (gives lock actions) (λ c. is_at lock (phase c actions)) (λ c. is_holding lock (phase c actions)) (λ c. spot_of c actions)
 
 -- an action changes no other CPU's phase and spot
-pub phase_other : {N : Type 0} (a : Action N) (past : List (Action N)) (c : CpuId) → same_cpu (doer a) c ≡ false → phase c (a ∷ past) ≡ phase c past
+pub phase_other : {N : Type 0} (a : Action N) (past : List (Action N)) (c : CpuId) → same_cpu (cpu_of_action a) c ≡ false → phase c (a ∷ past) ≡ phase c past
 phase_other a past c other = ap (λ b. if b then left_in a else phase c past) other
 
-pub phase_own : {N : Type 0} (a : Action N) (past : List (Action N)) → phase (doer a) (a ∷ past) ≡ left_in a
-phase_own a past = ap (λ b. if b then left_in a else phase (doer a) past) (same_cpu_self (doer a))
+pub phase_own : {N : Type 0} (a : Action N) (past : List (Action N)) → phase (cpu_of_action a) (a ∷ past) ≡ left_in a
+phase_own a past = ap (λ b. if b then left_in a else phase (cpu_of_action a) past) (same_cpu_self (cpu_of_action a))
 
-pub spot_other : {N : Type 0} (a : Action N) (past : List (Action N)) (c : CpuId) → same_cpu (doer a) c ≡ false → spot_of c (a ∷ past) ≡ spot_of c past
+pub spot_other : {N : Type 0} (a : Action N) (past : List (Action N)) (c : CpuId) → same_cpu (cpu_of_action a) c ≡ false → spot_of c (a ∷ past) ≡ spot_of c past
 spot_other (Take d m) past c other = ap (λ b. if b then takes m past else spot_of c past) other
 spot_other (Try d m hit) past c other = refl
 spot_other (Give d m name) past c other = refl
 
 module _ {N : Type 0} (lock : LockId) (past : List (Action N)) (line : LineAt lock past) (a : Action N) where
   -- an action that neither joins nor leaves the line
-  acts_in_line : is_at lock (left_in a) ≡ is_at lock (phase (doer a) past)
-      → (is_at lock (phase (doer a) past) ≡ true → spot_of (doer a) (a ∷ past) ≡ spot_of (doer a) past)
-      → (is_holding lock (left_in a) ≡ true → (is_at lock (phase (doer a) past) ≡ true) × (spot_of (doer a) past ≡ gives lock past))
+  acts_in_line : is_at lock (left_in a) ≡ is_at lock (phase (cpu_of_action a) past)
+      → (is_at lock (phase (cpu_of_action a) past) ≡ true → spot_of (cpu_of_action a) (a ∷ past) ≡ spot_of (cpu_of_action a) past)
+      → (is_holding lock (left_in a) ≡ true → (is_at lock (phase (cpu_of_action a) past) ≡ true) × (spot_of (cpu_of_action a) past ≡ gives lock past))
       → Line (takes lock past) (gives lock past) (λ c. is_at lock (phase c (a ∷ past))) (λ c. is_holding lock (phase c (a ∷ past))) (λ c. spot_of c (a ∷ past))
   acts_in_line same still entered =
       line_stays (takes lock past) (gives lock past) (λ c. is_at lock (phase c past)) (λ c. is_holding lock (phase c past)) (λ c. spot_of c past)
       (λ c. is_at lock (phase c (a ∷ past))) (λ c. is_holding lock (phase c (a ∷ past))) (λ c. spot_of c (a ∷ past)) line
-      (by_cpu (doer a) (λ c. is_at lock (phase c (a ∷ past)) ≡ is_at lock (phase c past))
+      (by_cpu (cpu_of_action a) (λ c. is_at lock (phase c (a ∷ past)) ≡ is_at lock (phase c past))
       (ap (is_at lock) (phase_own a past) ∙ same)
       (λ c o. ap (is_at lock) (phase_other a past c o)))
-      (by_cpu (doer a) (λ c. is_at lock (phase c past) ≡ true → spot_of c (a ∷ past) ≡ spot_of c past)
+      (by_cpu (cpu_of_action a) (λ c. is_at lock (phase c past) ≡ true → spot_of c (a ∷ past) ≡ spot_of c past)
       still
       (λ c o h. spot_other a past c o))
-      (by_cpu (doer a) (λ c. is_holding lock (phase c (a ∷ past)) ≡ true → (is_at lock (phase c past) ≡ true) × (spot_of c past ≡ gives lock past))
+      (by_cpu (cpu_of_action a) (λ c. is_holding lock (phase c (a ∷ past)) ≡ true → (is_at lock (phase c past) ≡ true) × (spot_of c past ≡ gives lock past))
       (λ h. entered (sym (ap (is_holding lock) (phase_own a past)) ∙ h))
       (λ c o h. let held : is_holding lock (phase c past) ≡ true = sym (ap (is_holding lock) (phase_other a past c o)) ∙ h in
       (line.inside c held, line.first c held)))
 
   -- what an action leaves to all others
-  others_same : (c : CpuId) → same_cpu (doer a) c ≡ false
+  others_same : (c : CpuId) → same_cpu (cpu_of_action a) c ≡ false
       → (is_at lock (phase c (a ∷ past)) ≡ is_at lock (phase c past)) × (is_holding lock (phase c (a ∷ past)) ≡ is_holding lock (phase c past))
       × (spot_of c (a ∷ past) ≡ spot_of c past)
   others_same c o = (ap (is_at lock) (phase_other a past c o), ap (is_holding lock) (phase_other a past c o), spot_other a past c o)

@@ -5,12 +5,12 @@ use Rattle.event_log.specs.declared.ids.TheConstants.{CPUS}
 use Rattle.event_log.specs.declared.events.Event.{Event}
 use Rattle.event_log.specs.declared.events.Event.TheVariants.{Draw, Look, Free}
 use Rattle.event_log.specs.History.{same_cpu, own_events, IsLawful, AreOthers, AreForeign}
-use Rattle.event_log.specs.WordsLog.{actor, standing, IsLegalWords}
-use Rattle.event_log.specs.Actions.{Action, Take, Try, Give, phase, doer, spot_of, MayAct, AreLegal, act_of, acts_of}
-use Rattle.event_log.specs.Sections.{section_actor, sections_of, sections_in}
+use Rattle.event_log.specs.WordsLog.{cpu_of_event, lock_phase, IsLegalWords}
+use Rattle.event_log.specs.Actions.{Action, Take, Try, Give, phase, cpu_of_action, spot_of, MayAct, AreLegal, act_of, acts_of}
+use Rattle.event_log.specs.Sections.{cpu_of_section, sections_of, sections_in}
 use Rattle.event_log.proofs.Same.{same_cpu_self, same_lock_self}
 use Rattle.event_log.proofs.Exclusion.{is_at, phase_other, spot_other, knows}
-use Rattle.event_log.proofs.Tickets.{standing_other, legal_acts, doer_is}
+use Rattle.event_log.proofs.Tickets.{lock_phase_other, legal_acts, cpu_of_action_is}
 
 -- Any relation and any event.
 
@@ -53,36 +53,40 @@ no_foreign ActsFor by (e ∷ others) past all known foreign =
 
 -- A words log.
 
-pub standing_others : {M : Type 0} (c : CpuId) (others past : List (Event M)) → AreOthers actor c others → standing c (others ++ past) ≡ standing c past
-standing_others c [] past foreign = refl
-standing_others c (e ∷ others) past foreign = standing_other e (others ++ past) c foreign.0 ∙ standing_others c others past foreign.1
+pub lock_phase_others : {M : Type 0} (c : CpuId) (others past : List (Event M)) → AreOthers cpu_of_event c others
+    → lock_phase c (others ++ past) ≡ lock_phase c past
+lock_phase_others c [] past foreign = refl
+lock_phase_others c (e ∷ others) past foreign = lock_phase_other e (others ++ past) c foreign.0 ∙ lock_phase_others c others past foreign.1
 
 -- Actions.
 
-pub phase_others : {N : Type 0} (c : CpuId) (others past : List (Action N)) → AreOthers doer c others → phase c (others ++ past) ≡ phase c past
+pub phase_others : {N : Type 0} (c : CpuId) (others past : List (Action N)) → AreOthers cpu_of_action c others → phase c (others ++ past) ≡ phase c past
 phase_others c [] past foreign = refl
 phase_others c (a ∷ others) past foreign = phase_other a (others ++ past) c foreign.0 ∙ phase_others c others past foreign.1
 
-pub spot_others : {N : Type 0} (c : CpuId) (others past : List (Action N)) → AreOthers doer c others → spot_of c (others ++ past) ≡ spot_of c past
+pub spot_others : {N : Type 0} (c : CpuId) (others past : List (Action N)) → AreOthers cpu_of_action c others → spot_of c (others ++ past) ≡ spot_of c past
 spot_others c [] past foreign = refl
 spot_others c (a ∷ others) past foreign = spot_other a (others ++ past) c foreign.0 ∙ spot_others c others past foreign.1
 
 -- who acts is a CPU of the machine
-pub doer_known : {N : Type 0} (a : Action N) (past : List (Action N)) → MayAct past a → AreLegal past → (doer a).0 < CPUS
-doer_known (Take cpu lock) past may legal = may.0
-doer_known (Try cpu lock hit) past may legal = knows past legal cpu lock (ap (is_at lock) may.0 ∙ same_lock_self lock)
-doer_known (Give cpu lock name) past may legal = knows past legal cpu lock (ap (is_at lock) may ∙ same_lock_self lock)
+pub cpu_of_action_known : {N : Type 0} (a : Action N) (past : List (Action N)) → MayAct past a → AreLegal past → (cpu_of_action a).0 < CPUS
+cpu_of_action_known (Take cpu lock) past may legal = may.0
+cpu_of_action_known (Try cpu lock hit) past may legal = knows past legal cpu lock (ap (is_at lock) may.0 ∙ same_lock_self lock)
+cpu_of_action_known (Give cpu lock name) past may legal = knows past legal cpu lock (ap (is_at lock) may ∙ same_lock_self lock)
 
-pub doers_known : {N : Type 0} (actions : List (Action N)) → AreLegal actions → IsLawful (λ before a. (doer a).0 < CPUS) actions
-doers_known [] legal = tt
-doers_known (a ∷ past) legal = (doer_known a past legal.0 legal.1, doers_known past legal.1)
+pub cpus_of_actions_known : {N : Type 0} (actions : List (Action N)) → AreLegal actions → IsLawful (λ before a. (cpu_of_action a).0 < CPUS) actions
+cpus_of_actions_known [] legal = tt
+cpus_of_actions_known (a ∷ past) legal = (cpu_of_action_known a past legal.0 legal.1, cpus_of_actions_known past legal.1)
 
-pub actors_known : {M : Type 0} (log : List (Event M)) → IsLegalWords log → IsLawful (λ before e. (actor e).0 < CPUS) log
-actors_known [] legal = tt
-actors_known {M = M} (e ∷ past) legal =
+pub cpus_of_events_known : {M : Type 0} (log : List (Event M)) → IsLegalWords log → IsLawful (λ before e. (cpu_of_event e).0 < CPUS) log
+cpus_of_events_known [] legal = tt
+cpus_of_events_known {M = M} (e ∷ past) legal =
     let name : M → M = λ m. m in
-    let acts = legal_acts name (e ∷ past) legal in
-    (subst (λ c. c.0 < CPUS) (doer_is name e) (doer_known (act_of name e) (acts_of name past) acts.0 acts.1), actors_known past legal.1)
+    let acts = legal_acts name (e ∷ past) legal in (
+      subst (λ c. c.0 < CPUS) (cpu_of_action_is name e) (cpu_of_action_known (act_of name e)
+          (acts_of name past) acts.0 acts.1),
+      cpus_of_events_known past legal.1,
+    )
 
 -- Sections of logs, of actions and of both.
 
@@ -111,25 +115,27 @@ sections_acts name (Draw cpu lock ticket ∷ past) = sections_acts name past
 sections_acts name (Look cpu lock ticket read ∷ past) = sections_acts name past
 sections_acts name (Free cpu lock mark ∷ past) = ap (λ s. record { cpu = cpu; lock = lock; edit = name mark } ∷ s) (sections_acts name past)
 
-pub others_acts : {M N : Type 0} (name : M → N) (c : CpuId) (others : List (Event M)) → AreOthers actor c others → AreOthers doer c (acts_of name others)
+pub others_acts : {M N : Type 0} (name : M → N) (c : CpuId) (others : List (Event M)) → AreOthers cpu_of_event c others
+    → AreOthers cpu_of_action c (acts_of name others)
 others_acts name c [] foreign = tt
-others_acts name c (e ∷ others) foreign = (subst (λ d. same_cpu d c ≡ false) (sym (doer_is name e)) foreign.0, others_acts name c others foreign.1)
+others_acts name c (e ∷ others) foreign = (subst (λ d. same_cpu d c ≡ false) (sym (cpu_of_action_is name e)) foreign.0, others_acts name c others foreign.1)
 
-pub others_sections_in : {N : Type 0} (c : CpuId) (others : List (Action N)) → AreOthers doer c others → AreOthers section_actor c (sections_in others)
+pub others_sections_in : {N : Type 0} (c : CpuId) (others : List (Action N)) → AreOthers cpu_of_action c others
+    → AreOthers cpu_of_section c (sections_in others)
 others_sections_in c [] foreign = tt
 others_sections_in c (Take cpu lock ∷ others) foreign = others_sections_in c others foreign.1
 others_sections_in c (Try cpu lock hit ∷ others) foreign = others_sections_in c others foreign.1
 others_sections_in c (Give cpu lock name ∷ others) foreign = (foreign.0, others_sections_in c others foreign.1)
 
-pub others_sections_of : {M E : Type 0} (edit : M → E) (c : CpuId) (others : List (Event M)) → AreOthers actor c others
-    → AreOthers section_actor c (sections_of edit others)
+pub others_sections_of : {M E : Type 0} (edit : M → E) (c : CpuId) (others : List (Event M)) → AreOthers cpu_of_event c others
+    → AreOthers cpu_of_section c (sections_of edit others)
 others_sections_of edit c [] foreign = tt
 others_sections_of edit c (Draw cpu lock ticket ∷ others) foreign = others_sections_of edit c others foreign.1
 others_sections_of edit c (Look cpu lock ticket read ∷ others) foreign = others_sections_of edit c others foreign.1
 others_sections_of edit c (Free cpu lock mark ∷ others) foreign = (foreign.0, others_sections_of edit c others foreign.1)
 
 -- whose section it is is a CPU of the machine
-pub sections_in_known : {N : Type 0} (actions : List (Action N)) → IsLawful (λ before a. (doer a).0 < CPUS) actions
+pub sections_in_known : {N : Type 0} (actions : List (Action N)) → IsLawful (λ before a. (cpu_of_action a).0 < CPUS) actions
     → IsLawful (λ before s. s.cpu.0 < CPUS) (sections_in actions)
 sections_in_known [] known = tt
 sections_in_known (Take cpu lock ∷ past) known = sections_in_known past known.1
@@ -139,4 +145,4 @@ sections_in_known (Give cpu lock name ∷ past) known = (known.0, sections_in_kn
 pub sections_of_known : {M E : Type 0} (edit : M → E) (log : List (Event M)) → IsLegalWords log → IsLawful (λ before s. s.cpu.0 < CPUS) (sections_of edit log)
 sections_of_known edit log legal =
     subst (IsLawful (λ before s. s.cpu.0 < CPUS)) (sections_acts edit log)
-    (sections_in_known (acts_of edit log) (doers_known (acts_of edit log) (legal_acts edit log legal)))
+    (sections_in_known (acts_of edit log) (cpus_of_actions_known (acts_of edit log) (legal_acts edit log legal)))

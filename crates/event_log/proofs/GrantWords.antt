@@ -8,30 +8,30 @@ use Rattle.event_log.specs.declared.ids.TheConstants.{CPUS}
 use Rattle.event_log.specs.declared.grants.GrantEvent.{GrantEvent}
 use Rattle.event_log.specs.declared.grants.GrantEvent.TheVariants.{Take, Peek, Give}
 use Rattle.event_log.specs.History.{same_lock}
-use Rattle.event_log.specs.WordsLog.{Inside}
-use Rattle.event_log.specs.Grants.{grant_actor, is_ticket, tickets, left_by_grant, grant_standing, ticket_in, after_give, grant_word, MayFollowGrants}
+use Rattle.event_log.specs.WordsLog.{Holding}
+use Rattle.event_log.specs.Grants.{cpu_of_grant, is_ticket, tickets, left_by_grant, grant_lock_phase, ticket_in, after_give, grant_word, MayFollowGrants}
 use Rattle.event_log.specs.Grants.{IsLegalGrants, act_of_grant, acts_of_grants}
-use Rattle.event_log.specs.Actions.{Waits, Holds, phase, left_in, doer, spot_of, takes, gives, is_take, MayAct, AreLegal}
+use Rattle.event_log.specs.Actions.{Waits, Holds, phase, left_in, cpu_of_action, spot_of, takes, gives, is_take, MayAct, AreLegal}
 use Rattle.event_log.proofs.Same.{same_cpu_self, same_lock_self, same_lock_true}
 use Rattle.event_log.proofs.Exclusion.{is_at, is_holding, line_at, one_holds, near}
-use Rattle.event_log.proofs.Told.{phase_of, phase_either, TicketOf, ticket_either, how_many-map, Tells, told_phase, told_ticket, eqb_same}
+use Rattle.event_log.proofs.Observed.{phase_of, phase_either, TicketOf, ticket_either, how_many-map, Simulates, phase_simulated, ticket_simulated, eqb_same}
 
-grant_doer : {M N : Type 0} (name : M → N) (e : GrantEvent M) → doer (act_of_grant name e) ≡ grant_actor e
-grant_doer name (Take cpu lock ticket) = refl
-grant_doer name (Peek cpu lock ticket read) = refl
-grant_doer name (Give cpu lock mark) = refl
+cpu_of_grant_is : {M N : Type 0} (name : M → N) (e : GrantEvent M) → cpu_of_action (act_of_grant name e) ≡ cpu_of_grant e
+cpu_of_grant_is name (Take cpu lock ticket) = refl
+cpu_of_grant_is name (Peek cpu lock ticket read) = refl
+cpu_of_grant_is name (Give cpu lock mark) = refl
 
 grant_phase : {M N : Type 0} (name : M → N) (e : GrantEvent M) → left_in (act_of_grant name e) ≡ phase_of (left_by_grant e)
 grant_phase name (Take cpu lock ticket) = refl
 grant_phase name (Peek cpu lock ticket read) = phase_either (read == (ticket + 1) % 2 ^ 64) lock ticket
 grant_phase name (Give cpu lock mark) = refl
 
-grants_tell : {M N : Type 0} (name : M → N) → Tells grant_actor left_by_grant grant_standing (act_of_grant name)
-grants_tell name = record { at_start = λ c. refl; at_next = λ c e past. refl; doer_is = grant_doer name; left_is = grant_phase name }
+grants_simulate : {M N : Type 0} (name : M → N) → Simulates cpu_of_grant left_by_grant grant_lock_phase (act_of_grant name)
+grants_simulate name = record { at_start = λ c. refl; at_next = λ c e past. refl; cpu_of_action_is = cpu_of_grant_is name; left_is = grant_phase name }
 
--- the standing of a CPU tells its phase
-pub phase_grants : {M N : Type 0} (name : M → N) (c : CpuId) (log : List (GrantEvent M)) → phase c (acts_of_grants name log) ≡ phase_of (grant_standing c log)
-phase_grants name c log = told_phase grant_actor left_by_grant grant_standing (act_of_grant name) (grants_tell name) c log
+-- the lock phase of a CPU tells its phase
+pub phase_grants : {M N : Type 0} (name : M → N) (c : CpuId) (log : List (GrantEvent M)) → phase c (acts_of_grants name log) ≡ phase_of (grant_lock_phase c log)
+phase_grants name c log = phase_simulated cpu_of_grant left_by_grant grant_lock_phase (act_of_grant name) (grants_simulate name) c log
 
 is_take_ticket : {M N : Type 0} (name : M → N) (lock : LockId) (e : GrantEvent M) → is_take lock (act_of_grant name e) ≡ is_ticket lock e
 is_take_ticket name lock (Take cpu at ticket) = refl
@@ -43,8 +43,8 @@ pub takes_grants : {M N : Type 0} (name : M → N) (lock : LockId) (log : List (
 takes_grants name lock log = how_many-map (act_of_grant name) (is_ticket lock) (is_take lock) (is_take_ticket name lock) log
 
 ticket_left : {M N : Type 0} (name : M → N) (e : GrantEvent M) (past : List (GrantEvent M)) → MayFollowGrants past e
-    → TicketOf (grant_standing (grant_actor e) past) (spot_of (grant_actor e) (acts_of_grants name past))
-    → TicketOf (left_by_grant e) (spot_of (grant_actor e) (acts_of_grants name (e ∷ past)))
+    → TicketOf (grant_lock_phase (cpu_of_grant e) past) (spot_of (cpu_of_grant e) (acts_of_grants name past))
+    → TicketOf (left_by_grant e) (spot_of (cpu_of_grant e) (acts_of_grants name (e ∷ past)))
 ticket_left name (Take cpu lock ticket) past may had =
     may.2 ∙ ap (λ n. n % 2 ^ 64) (sym (takes_grants name lock past)
     ∙ sym (ap (λ b. if b then takes lock (acts_of_grants name past) else spot_of cpu (acts_of_grants name past)) (same_cpu_self cpu)))
@@ -55,9 +55,9 @@ ticket_left name (Give cpu lock mark) past may had = tt
 
 -- in a legal log each ticket is the rest of the true spot
 pub grant_ticket_at : {M N : Type 0} (name : M → N) (log : List (GrantEvent M)) → IsLegalGrants log → (c : CpuId)
-    → TicketOf (grant_standing c log) (spot_of c (acts_of_grants name log))
+    → TicketOf (grant_lock_phase c log) (spot_of c (acts_of_grants name log))
 grant_ticket_at name log legal c =
-    told_ticket grant_actor left_by_grant grant_standing (act_of_grant name) (grants_tell name) MayFollowGrants (ticket_left name) log legal c
+    ticket_simulated cpu_of_grant left_by_grant grant_lock_phase (act_of_grant name) (grants_simulate name) MayFollowGrants (ticket_left name) log legal c
 
 -- What a grant word holds after a lock was given on `given` times: the spot k that came to it last is the one that it lets in.
 -- Where no spot has come to it yet, it holds 0.
@@ -148,7 +148,7 @@ one_word word given a b first second = elim (within_or_past word given) [
 -- who is inside a lock holds the ticket of the spot that is served
 inside_is_served : {M N : Type 0} (name : M → N) (cpu : CpuId) (lock : LockId) (ticket : ℕ) (past : List (GrantEvent M)) → IsLegalGrants past
     → AreLegal (acts_of_grants name past)
-    → grant_standing cpu past ≡ Inside lock ticket → ticket_in (grant_standing cpu past) ≡ gives lock (acts_of_grants name past) % 2 ^ 64
+    → grant_lock_phase cpu past ≡ Holding lock ticket → ticket_in (grant_lock_phase cpu past) ≡ gives lock (acts_of_grants name past) % 2 ^ 64
 inside_is_served name cpu lock ticket past legal acts inside =
     let holds : phase cpu (acts_of_grants name past) ≡ Holds lock = phase_grants name cpu past ∙ ap phase_of inside in
     let served : spot_of cpu (acts_of_grants name past) ≡ gives lock (acts_of_grants name past) =
@@ -170,15 +170,15 @@ words_fit {M = M} {N = N} name lock word within (Give cpu at mark ∷ past) lega
   where
     give_fits : {M N : Type 0} (name : M → N) (lock at : LockId) (b : Bool) → same_lock lock at ≡ b → (cpu : CpuId) (word : ℕ) → word < CPUS
         → (ticket : ℕ) (past : List (GrantEvent M))
-        → IsLegalGrants past → AreLegal (acts_of_grants name past) → grant_standing cpu past ≡ Inside at ticket
+        → IsLegalGrants past → AreLegal (acts_of_grants name past) → grant_lock_phase cpu past ≡ Holding at ticket
         → WordFits word (gives lock (acts_of_grants name past)) (grant_word lock word past)
         → WordFits word (if b then gives lock (acts_of_grants name past) + 1 else gives lock (acts_of_grants name past))
-        (if b then after_give (ticket_in (grant_standing cpu past)) word (grant_word lock word past) else grant_word lock word past)
+        (if b then after_give (ticket_in (grant_lock_phase cpu past)) word (grant_word lock word past) else grant_word lock word past)
     give_fits name lock at false elsewhere cpu word within ticket past legal acts inside fits = fits
     give_fits name lock at true here cpu word within ticket past legal acts inside fits =
         let same : at ≡ lock = sym (same_lock_true lock at here) in
-        fits_after word (gives lock (acts_of_grants name past)) (ticket_in (grant_standing cpu past)) (grant_word lock word past) within
-        (inside_is_served name cpu lock ticket past legal acts (inside ∙ ap (λ l. Inside l ticket) same)) fits
+        fits_after word (gives lock (acts_of_grants name past)) (ticket_in (grant_lock_phase cpu past)) (grant_word lock word past) within
+        (inside_is_served name cpu lock ticket past legal acts (inside ∙ ap (λ l. Holding l ticket) same)) fits
 
 legal_grant : {M N : Type 0} (name : M → N) (e : GrantEvent M) (past : List (GrantEvent M)) → MayFollowGrants past e → IsLegalGrants past
     → AreLegal (acts_of_grants name past)
@@ -208,7 +208,7 @@ legal_grants name (e ∷ past) legal =
 
 -- two CPUs are never inside one lock
 pub one_inside_grants : {M : Type 0} (log : List (GrantEvent M)) → IsLegalGrants log → (a b : CpuId) (lock : LockId) (s t : ℕ)
-    → grant_standing a log ≡ Inside lock s → grant_standing b log ≡ Inside lock t → a ≡ b
+    → grant_lock_phase a log ≡ Holding lock s → grant_lock_phase b log ≡ Holding lock t → a ≡ b
 one_inside_grants {M = M} log legal a b lock s t first second =
     let name : M → M = λ m. m in
     one_holds (acts_of_grants name log) (legal_grants name log legal) a b lock

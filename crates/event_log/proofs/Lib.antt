@@ -1,12 +1,12 @@
 pub mod BoolLemmas
 pub mod ListLemmas
 pub mod RunLemmas
-mod Streams
+pub mod Streams
 pub mod Same
 pub mod Forms
 pub mod Line
 pub mod Exclusion
-pub mod Told
+pub mod Observed
 pub mod Tickets
 pub mod Foreign
 pub mod Alone

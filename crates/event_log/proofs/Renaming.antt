@@ -5,15 +5,16 @@ use Rattle.event_log.specs.declared.ids.LockId.{LockId}
 use Rattle.event_log.specs.declared.events.Event.{Event}
 use Rattle.event_log.specs.declared.events.Event.TheVariants.{Draw, Look, Free}
 use Rattle.event_log.specs.History.{same_cpu, AreOthers}
-use Rattle.event_log.specs.Actions.{Action, Take, Try, Give, Phase, Rests, Waits, Holds, phase, left_in, doer, spot_of, takes, gives, is_take, is_give, MayAct}
+use Rattle.event_log.specs.Actions.{Action, Take, Try, Give, Phase, Rests, Waits, Holds}
+use Rattle.event_log.specs.Actions.{phase, left_in, cpu_of_action, spot_of, takes, gives, is_take, is_give, MayAct}
 use Rattle.event_log.specs.Actions.{AreLegal, action_in, next_action, renamed, act_of, acts_of}
 use Rattle.event_log.specs.Sections.{renamed_section, sections_in}
 
 module _ {N L : Type 0} (f : N → L) where
-  doer_renamed : (a : Action N) → doer (renamed f a) ≡ doer a
-  doer_renamed (Take cpu lock) = refl
-  doer_renamed (Try cpu lock hit) = refl
-  doer_renamed (Give cpu lock name) = refl
+  cpu_of_action_renamed : (a : Action N) → cpu_of_action (renamed f a) ≡ cpu_of_action a
+  cpu_of_action_renamed (Take cpu lock) = refl
+  cpu_of_action_renamed (Try cpu lock hit) = refl
+  cpu_of_action_renamed (Give cpu lock name) = refl
 
   left_in_renamed : (a : Action N) → left_in (renamed f a) ≡ left_in a
   left_in_renamed (Take cpu lock) = refl
@@ -22,7 +23,7 @@ module _ {N L : Type 0} (f : N → L) where
 
   pub phase_renamed : (c : CpuId) (past : List (Action N)) → phase c (map (renamed f) past) ≡ phase c past
   phase_renamed c [] = refl
-  phase_renamed c (a ∷ past) = λ i. if same_cpu (doer_renamed a i) c then left_in_renamed a i else phase_renamed c past i
+  phase_renamed c (a ∷ past) = λ i. if same_cpu (cpu_of_action_renamed a i) c then left_in_renamed a i else phase_renamed c past i
 
   is_take_renamed : (lock : LockId) (a : Action N) → is_take lock (renamed f a) ≡ is_take lock a
   is_take_renamed lock (Take cpu at) = refl
@@ -71,9 +72,9 @@ module _ {N L : Type 0} (f : N → L) where
   next_action_renamed cpu lock name past =
       ap (action_in cpu lock (f name) (map (renamed f) past)) (phase_renamed cpu past) ∙ action_in_renamed cpu lock name past (phase cpu past)
 
-  pub others_renamed : (c : CpuId) (others : List (Action N)) → AreOthers doer c others → AreOthers doer c (map (renamed f) others)
+  pub others_renamed : (c : CpuId) (others : List (Action N)) → AreOthers cpu_of_action c others → AreOthers cpu_of_action c (map (renamed f) others)
   others_renamed c [] foreign = tt
-  others_renamed c (a ∷ others) foreign = (ap (λ d. same_cpu d c) (doer_renamed a) ∙ foreign.0, others_renamed c others foreign.1)
+  others_renamed c (a ∷ others) foreign = (ap (λ d. same_cpu d c) (cpu_of_action_renamed a) ∙ foreign.0, others_renamed c others foreign.1)
 
   pub sections_in_renamed : (past : List (Action N)) → sections_in (map (renamed f) past) ≡ map (renamed_section f) (sections_in past)
   sections_in_renamed [] = refl

@@ -1,5 +1,6 @@
 -- What was put into a buffer is what was taken from it, and then what is left: one entry after the other.
-use Rattle.std.proofs.Common.{◌≡◌, ℕ, zero, suc, ◌<◌, ◌==◌, Bool, true, false, if◌then◌else◌, List, [], ◌∷◌, ◌++◌, length, drop, refl, sym, ap, ◌∙◌, append_assoc}
+use Rattle.std.proofs.Common.{◌≡◌, ℕ, zero, suc, ◌<◌, ◌==◌, Bool, true, false, if◌then◌else◌}
+use Rattle.std.proofs.Common.{List, [], ◌∷◌, ◌++◌, length, drop, refl, sym, ap, ◌∙◌, append_assoc}
 use Rattle.std.specs.Prelude.{slice_set}
 use Rattle.std.proofs.lemmas.Bool.{eqb-true, eqb-false}
 use Rattle.std.proofs.lemmas.List.{get_or-set_same, get_or-set_other}
@@ -54,7 +55,8 @@ one_more caps earlier contents e left many next b sent taken more true here =
 
 -- entries from these contents on
 stream_from : (caps : List ℕ) (earlier : List Entry) (contents : List (List Message)) (es : List Entry) (left : List (List Message))
-    → length contents ≡ length caps → IsRunFrom caps earlier contents es left → (b : ℕ) → items_of contents b ++ sent_to b es ≡ taken_from b es ++ items_of left b
+    → length contents ≡ length caps → IsRunFrom caps earlier contents es left → (b : ℕ)
+    → items_of contents b ++ sent_to b es ≡ taken_from b es ++ items_of left b
 stream_from caps earlier contents [] left many run b = append_nil_of (items_of contents b) ∙ ap (λ all. items_of all b) run where
   append_nil_of : (xs : List Message) → xs ++ [] ≡ xs
   append_nil_of [] = refl

@@ -6,29 +6,29 @@ use Rattle.event_log.specs.declared.ids.TheConstants.{CPUS}
 use Rattle.event_log.specs.declared.events.Event.{Event}
 use Rattle.event_log.specs.declared.events.Event.TheVariants.{Draw, Look, Free}
 use Rattle.event_log.specs.History.{same_cpu}
-use Rattle.event_log.specs.WordsLog.{actor, draws, frees, is_draw, is_free, Inside, left_by, standing, MayFollow, IsLegalWords}
-use Rattle.event_log.specs.Actions.{Waits, phase, left_in, doer, spot_of, takes, gives, is_take, is_give, MayAct, AreLegal, act_of, acts_of}
+use Rattle.event_log.specs.WordsLog.{cpu_of_event, draws, frees, is_draw, is_free, Holding, left_by, lock_phase, MayFollow, IsLegalWords}
+use Rattle.event_log.specs.Actions.{Waits, phase, left_in, cpu_of_action, spot_of, takes, gives, is_take, is_give, MayAct, AreLegal, act_of, acts_of}
 use Rattle.event_log.proofs.Same.{same_cpu_self, same_lock_self}
 use Rattle.event_log.proofs.Exclusion.{is_at, one_holds, near}
-pub use Rattle.event_log.proofs.Told.{phase_of, TicketOf}
-use Rattle.event_log.proofs.Told.{phase_either, ticket_either, how_many-map, Tells, told_phase, told_ticket, eqb_same}
+pub use Rattle.event_log.proofs.Observed.{phase_of, TicketOf}
+use Rattle.event_log.proofs.Observed.{phase_either, ticket_either, how_many-map, Simulates, phase_simulated, ticket_simulated, eqb_same}
 
-pub doer_is : {M N : Type 0} (name : M → N) (e : Event M) → doer (act_of name e) ≡ actor e
-doer_is name (Draw cpu lock ticket) = refl
-doer_is name (Look cpu lock ticket read) = refl
-doer_is name (Free cpu lock mark) = refl
+pub cpu_of_action_is : {M N : Type 0} (name : M → N) (e : Event M) → cpu_of_action (act_of name e) ≡ cpu_of_event e
+cpu_of_action_is name (Draw cpu lock ticket) = refl
+cpu_of_action_is name (Look cpu lock ticket read) = refl
+cpu_of_action_is name (Free cpu lock mark) = refl
 
 phase_left : {M N : Type 0} (name : M → N) (e : Event M) → left_in (act_of name e) ≡ phase_of (left_by e)
 phase_left name (Draw cpu lock ticket) = refl
 phase_left name (Look cpu lock ticket read) = phase_either (read == ticket) lock ticket
 phase_left name (Free cpu lock mark) = refl
 
-words_tell : {M N : Type 0} (name : M → N) → Tells actor left_by standing (act_of name)
-words_tell name = record { at_start = λ c. refl; at_next = λ c e past. refl; doer_is = doer_is name; left_is = phase_left name }
+words_simulate : {M N : Type 0} (name : M → N) → Simulates cpu_of_event left_by lock_phase (act_of name)
+words_simulate name = record { at_start = λ c. refl; at_next = λ c e past. refl; cpu_of_action_is = cpu_of_action_is name; left_is = phase_left name }
 
--- the standing of a CPU tells its phase
-pub phase_acts : {M N : Type 0} (name : M → N) (c : CpuId) (log : List (Event M)) → phase c (acts_of name log) ≡ phase_of (standing c log)
-phase_acts name c log = told_phase actor left_by standing (act_of name) (words_tell name) c log
+-- the lock phase of a CPU tells its phase
+pub phase_acts : {M N : Type 0} (name : M → N) (c : CpuId) (log : List (Event M)) → phase c (acts_of name log) ≡ phase_of (lock_phase c log)
+phase_acts name c log = phase_simulated cpu_of_event left_by lock_phase (act_of name) (words_simulate name) c log
 
 is_take_draw : {M N : Type 0} (name : M → N) (lock : LockId) (e : Event M) → is_take lock (act_of name e) ≡ is_draw lock e
 is_take_draw name lock (Draw cpu at ticket) = refl
@@ -50,8 +50,8 @@ gives_acts name lock log = how_many-map (act_of name) (is_free lock) (is_give lo
 
 -- where its own event leaves a CPU, with the spot that it then has
 ticket_left : {M N : Type 0} (name : M → N) (e : Event M) (past : List (Event M)) → MayFollow past e
-    → TicketOf (standing (actor e) past) (spot_of (actor e) (acts_of name past))
-    → TicketOf (left_by e) (spot_of (actor e) (acts_of name (e ∷ past)))
+    → TicketOf (lock_phase (cpu_of_event e) past) (spot_of (cpu_of_event e) (acts_of name past))
+    → TicketOf (left_by e) (spot_of (cpu_of_event e) (acts_of name (e ∷ past)))
 ticket_left name (Draw cpu lock ticket) past may had =
     may.2 ∙ ap (λ n. n % 2 ^ 64) (sym (takes_acts name lock past)
     ∙ sym (ap (λ b. if b then takes lock (acts_of name past) else spot_of cpu (acts_of name past)) (same_cpu_self cpu)))
@@ -60,13 +60,15 @@ ticket_left name (Look cpu lock ticket read) past may had =
     (subst (λ s. TicketOf s (spot_of cpu (acts_of name past))) may.0 had)
 ticket_left name (Free cpu lock mark) past may had = tt
 
--- an event changes the standing of no other CPU
-pub standing_other : {M : Type 0} (e : Event M) (past : List (Event M)) (c : CpuId) → same_cpu (actor e) c ≡ false → standing c (e ∷ past) ≡ standing c past
-standing_other e past c other = ap (λ b. if b then left_by e else standing c past) other
+-- an event changes the lock phase of no other CPU
+pub lock_phase_other : {M : Type 0} (e : Event M) (past : List (Event M)) (c : CpuId) → same_cpu (cpu_of_event e) c ≡ false
+    → lock_phase c (e ∷ past) ≡ lock_phase c past
+lock_phase_other e past c other = ap (λ b. if b then left_by e else lock_phase c past) other
 
 -- in a legal log each ticket is the rest of the true spot
-pub ticket_at : {M N : Type 0} (name : M → N) (log : List (Event M)) → IsLegalWords log → (c : CpuId) → TicketOf (standing c log) (spot_of c (acts_of name log))
-ticket_at name log legal c = told_ticket actor left_by standing (act_of name) (words_tell name) MayFollow (ticket_left name) log legal c
+pub ticket_at : {M N : Type 0} (name : M → N) (log : List (Event M)) → IsLegalWords log → (c : CpuId)
+    → TicketOf (lock_phase c log) (spot_of c (acts_of name log))
+ticket_at name log legal c = ticket_simulated cpu_of_event left_by lock_phase (act_of name) (words_simulate name) MayFollow (ticket_left name) log legal c
 
 -- the next number's rest follows that of the number
 pub next_rests : (count n : ℕ) → n ≡ count % 2 ^ 64 → (n + 1) % 2 ^ 64 ≡ (count + 1) % 2 ^ 64
@@ -105,7 +107,7 @@ legal_acts name (e ∷ past) legal =
 
 -- two CPUs are never inside one lock
 pub one_inside : {M : Type 0} (log : List (Event M)) → IsLegalWords log → (a b : CpuId) (lock : LockId) (s t : ℕ)
-    → standing a log ≡ Inside lock s → standing b log ≡ Inside lock t → a ≡ b
+    → lock_phase a log ≡ Holding lock s → lock_phase b log ≡ Holding lock t → a ≡ b
 one_inside {M = M} log legal a b lock s t first second =
     let name : M → M = λ m. m in
     one_holds (acts_of name log) (legal_acts name log legal) a b lock

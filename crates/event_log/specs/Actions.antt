@@ -15,10 +15,10 @@ pub data Action (N : Type 0) : Type 0 where
   Give : (cpu : CpuId) (lock : LockId) (name : N) → Action N
 
 -- the CPU that acts
-abbrev pub doer : {N : Type 0} → Action N → CpuId
-doer (Take cpu lock) = cpu
-doer (Try cpu lock hit) = cpu
-doer (Give cpu lock name) = cpu
+abbrev pub cpu_of_action : {N : Type 0} → Action N → CpuId
+cpu_of_action (Take cpu lock) = cpu
+cpu_of_action (Try cpu lock hit) = cpu
+cpu_of_action (Give cpu lock name) = cpu
 
 -- the lock that it acts on
 abbrev pub lock_of : {N : Type 0} → Action N → LockId
@@ -67,7 +67,7 @@ left_in (Give cpu lock name) = Rests
 -- what a CPU does: its newest action tells
 abbrev pub phase : {N : Type 0} → CpuId → List (Action N) → Phase
 phase cpu [] = Rests
-phase cpu (a ∷ past) = if same_cpu (doer a) cpu then left_in a else phase cpu past
+phase cpu (a ∷ past) = if same_cpu (cpu_of_action a) cpu then left_in a else phase cpu past
 
 -- the spot in line that a CPU took last: how many spots of that lock had been taken before
 abbrev pub spot_of : {N : Type 0} → CpuId → List (Action N) → ℕ

@@ -6,14 +6,14 @@ use Rattle.event_log.specs.declared.ids.TheConstants.{CPUS}
 use Rattle.event_log.specs.declared.grants.GrantEvent.{GrantEvent}
 use Rattle.event_log.specs.declared.grants.GrantEvent.TheVariants.{Take, Peek, Give}
 use Rattle.event_log.specs.History.{same_cpu, same_lock, how_many, IsLawful}
-use Rattle.event_log.specs.WordsLog.{Standing, Outside, Waiting, Inside}
+use Rattle.event_log.specs.WordsLog.{LockPhase, Idle, Waiting, Holding}
 use Rattle.event_log.specs.Actions.{Action, Take as TakePlace, Try as TryEntry, Give as GiveOn, AreLegal}
 
 -- the CPU that acts
-abbrev pub grant_actor : {M : Type 0} → GrantEvent M → CpuId
-grant_actor (Take cpu lock ticket) = cpu
-grant_actor (Peek cpu lock ticket read) = cpu
-grant_actor (Give cpu lock mark) = cpu
+abbrev pub cpu_of_grant : {M : Type 0} → GrantEvent M → CpuId
+cpu_of_grant (Take cpu lock ticket) = cpu
+cpu_of_grant (Peek cpu lock ticket read) = cpu
+cpu_of_grant (Give cpu lock mark) = cpu
 
 -- whether the event takes a ticket of this lock
 abbrev pub is_ticket : {M : Type 0} → LockId → GrantEvent M → Bool
@@ -26,21 +26,21 @@ abbrev pub tickets : {M : Type 0} → LockId → List (GrantEvent M) → ℕ
 tickets lock past = how_many (is_ticket lock) past
 
 -- where an event leaves the CPU that acts: a Peek hits where it reads its ticket plus 1
-abbrev pub left_by_grant : {M : Type 0} → GrantEvent M → Standing
+abbrev pub left_by_grant : {M : Type 0} → GrantEvent M → LockPhase
 left_by_grant (Take cpu lock ticket) = Waiting lock ticket
-left_by_grant (Peek cpu lock ticket read) = if read == (ticket + 1) % 2 ^ 64 then Inside lock ticket else Waiting lock ticket
-left_by_grant (Give cpu lock mark) = Outside
+left_by_grant (Peek cpu lock ticket read) = if read == (ticket + 1) % 2 ^ 64 then Holding lock ticket else Waiting lock ticket
+left_by_grant (Give cpu lock mark) = Idle
 
 -- where a CPU is: its newest event tells
-abbrev pub grant_standing : {M : Type 0} → CpuId → List (GrantEvent M) → Standing
-grant_standing cpu [] = Outside
-grant_standing cpu (e ∷ past) = if same_cpu (grant_actor e) cpu then left_by_grant e else grant_standing cpu past
+abbrev pub grant_lock_phase : {M : Type 0} → CpuId → List (GrantEvent M) → LockPhase
+grant_lock_phase cpu [] = Idle
+grant_lock_phase cpu (e ∷ past) = if same_cpu (cpu_of_grant e) cpu then left_by_grant e else grant_lock_phase cpu past
 
 -- the ticket that a CPU holds; 0 where it holds none
-abbrev pub ticket_in : Standing → ℕ
-ticket_in Outside = 0
+abbrev pub ticket_in : LockPhase → ℕ
+ticket_in Idle = 0
 ticket_in (Waiting lock ticket) = ticket
-ticket_in (Inside lock ticket) = ticket
+ticket_in (Holding lock ticket) = ticket
 
 -- what a Give of this ticket leaves in a grant word: the ticket plus 2 in the next ticket's word, and each other word as it was
 abbrev pub after_give : ℕ → ℕ → ℕ → ℕ
@@ -53,17 +53,17 @@ grant_word lock word (Take cpu at ticket ∷ past) = grant_word lock word past
 grant_word lock word (Peek cpu at ticket read ∷ past) = grant_word lock word past
 grant_word lock word (Give cpu at mark ∷ past) =
     if same_lock lock at
-    then after_give (ticket_in (grant_standing cpu past)) word (grant_word lock word past)
+    then after_give (ticket_in (grant_lock_phase cpu past)) word (grant_word lock word past)
     else grant_word lock word past
 
 -- the event may come after this past. A CPU of the machine takes a ticket while it is outside: the number of tickets taken
 -- before. While it waits it peeks, and reads its ticket's grant word. While it is inside it may give the lock on.
 abbrev pub MayFollowGrants : {M : Type 0} → List (GrantEvent M) → GrantEvent M → Type 0
 MayFollowGrants past (Take cpu lock ticket) =
-    (cpu.0 < CPUS) × (grant_standing cpu past ≡ Outside) × (ticket ≡ tickets lock past % 2 ^ 64)
+    (cpu.0 < CPUS) × (grant_lock_phase cpu past ≡ Idle) × (ticket ≡ tickets lock past % 2 ^ 64)
 MayFollowGrants past (Peek cpu lock ticket read) =
-    (grant_standing cpu past ≡ Waiting lock ticket) × (read ≡ grant_word lock (ticket % CPUS) past)
-MayFollowGrants past (Give cpu lock mark) = (ticket : ℕ) × (grant_standing cpu past ≡ Inside lock ticket)
+    (grant_lock_phase cpu past ≡ Waiting lock ticket) × (read ≡ grant_word lock (ticket % CPUS) past)
+MayFollowGrants past (Give cpu lock mark) = (ticket : ℕ) × (grant_lock_phase cpu past ≡ Holding lock ticket)
 
 -- a legal log of grant words
 abbrev pub IsLegalGrants : {M : Type 0} → List (GrantEvent M) → Type 0
@@ -86,4 +86,4 @@ GrantsTellSpots M = (log : List (GrantEvent M)) → IsLegalGrants log → AreLeg
 -- two CPUs are never inside one lock, whatever their tickets are
 abbrev pub OneInsideGrants : Type 0 → Type 0
 OneInsideGrants M = (log : List (GrantEvent M)) → IsLegalGrants log → (a b : CpuId) (lock : LockId) (s t : ℕ)
-    → grant_standing a log ≡ Inside lock s → grant_standing b log ≡ Inside lock t → a ≡ b
+    → grant_lock_phase a log ≡ Holding lock s → grant_lock_phase b log ≡ Holding lock t → a ≡ b

@@ -5,9 +5,9 @@ use Rattle.event_log.specs.declared.ids.LockId.{LockId}
 use Rattle.event_log.specs.declared.events.Event.{Event}
 use Rattle.event_log.specs.declared.events.Event.TheVariants.{Draw, Look, Free}
 use Rattle.event_log.specs.History.{same_cpu, own_events}
-use Rattle.event_log.specs.WordsLog.{actor, frees, IsLegalWords, Inside, standing}
+use Rattle.event_log.specs.WordsLog.{cpu_of_event, frees, IsLegalWords, Holding, lock_phase}
 use Rattle.event_log.specs.declared.ids.TheConstants.{CPUS}
-use Rattle.event_log.specs.Actions.{Action, Take, Try, Give, Rests, Holds, doer, gives, phase, AreLegal, IsFree, AreFree, next_action, acts_of}
+use Rattle.event_log.specs.Actions.{Action, Take, Try, Give, Rests, Holds, cpu_of_action, gives, phase, AreLegal, IsFree, AreFree, next_action, acts_of}
 use Rattle.event_log.specs.Sections.{sections_in}
 
 -- two CPUs never hold one lock
@@ -18,7 +18,7 @@ OneHolds N = (actions : List (Action N)) → AreLegal actions → (a b : CpuId) 
 -- two CPUs are never inside one lock, whatever their tickets are
 abbrev pub OneInside : Type 0 → Type 0
 OneInside M = (log : List (Event M)) → IsLegalWords log → (a b : CpuId) (lock : LockId) (s t : ℕ)
-    → standing a log ≡ Inside lock s → standing b log ≡ Inside lock t → a ≡ b
+    → lock_phase a log ≡ Holding lock s → lock_phase b log ≡ Holding lock t → a ≡ b
 
 -- a legal words log is a legal list of actions: its tickets, modulo 2^64, tell the true spots
 abbrev pub TicketsTellSpots : Type 0 → Type 0
@@ -54,8 +54,8 @@ OnlyTries (Give cpu lock name ∷ past) = ⊥
 -- from the Take of a CPU on, while it does nothing but try, no other CPU gives that lock on twice
 abbrev pub GivenOnceMeanwhile : Type 0 → Type 0
 GivenOnceMeanwhile N = (past between : List (Action N)) (cpu other : CpuId) (lock : LockId)
-    → AreLegal (between ++ (Take cpu lock ∷ past)) → OnlyTries (own_events doer cpu between) → same_cpu cpu other ≡ false
-    → gives lock (own_events doer other between) ≤ 1
+    → AreLegal (between ++ (Take cpu lock ∷ past)) → OnlyTries (own_events cpu_of_action cpu between) → same_cpu cpu other ≡ false
+    → gives lock (own_events cpu_of_action other between) ≤ 1
 
 -- each of these events is a look
 abbrev pub OnlyLooks : {M : Type 0} → List (Event M) → Type 0
@@ -67,5 +67,5 @@ OnlyLooks (Free cpu lock mark ∷ past) = ⊥
 -- from the Draw of a CPU on, while it does nothing but look, no other CPU frees that lock twice
 abbrev pub FreedOnceMeanwhile : Type 0 → Type 0
 FreedOnceMeanwhile M = (past between : List (Event M)) (cpu other : CpuId) (lock : LockId) (ticket : ℕ)
-    → IsLegalWords (between ++ (Draw cpu lock ticket ∷ past)) → OnlyLooks (own_events actor cpu between) → same_cpu cpu other ≡ false
-    → frees lock (own_events actor other between) ≤ 1
+    → IsLegalWords (between ++ (Draw cpu lock ticket ∷ past)) → OnlyLooks (own_events cpu_of_event cpu between) → same_cpu cpu other ≡ false
+    → frees lock (own_events cpu_of_event other between) ≤ 1

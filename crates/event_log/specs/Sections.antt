@@ -14,8 +14,8 @@ pub record Section (E : Type 0) : Type 0 where
   pub edit : E
 
 -- the CPU whose section it is
-abbrev pub section_actor : {E : Type 0} → Section E → CpuId
-section_actor s = s.cpu
+abbrev pub cpu_of_section : {E : Type 0} → Section E → CpuId
+cpu_of_section s = s.cpu
 
 -- the same section, its edit under another name
 abbrev pub renamed_section : {N L : Type 0} → (N → L) → Section N → Section L

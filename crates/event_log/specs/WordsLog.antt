@@ -8,10 +8,10 @@ use Rattle.event_log.specs.declared.events.Event.TheVariants.{Draw, Look, Free}
 use Rattle.event_log.specs.History.{same_cpu, same_lock, how_many, IsLawful}
 
 -- the CPU that acts
-abbrev pub actor : {M : Type 0} → Event M → CpuId
-actor (Draw cpu lock ticket) = cpu
-actor (Look cpu lock ticket read) = cpu
-actor (Free cpu lock mark) = cpu
+abbrev pub cpu_of_event : {M : Type 0} → Event M → CpuId
+cpu_of_event (Draw cpu lock ticket) = cpu
+cpu_of_event (Look cpu lock ticket read) = cpu
+cpu_of_event (Free cpu lock mark) = cpu
 
 -- whether the event draws at this lock
 abbrev pub is_draw : {M : Type 0} → LockId → Event M → Bool
@@ -34,30 +34,30 @@ abbrev pub frees : {M : Type 0} → LockId → List (Event M) → ℕ
 frees lock past = how_many (is_free lock) past
 
 -- where a CPU is: outside every section, waiting at a lock with its ticket, or inside the lock that it entered with it
-pub data Standing : Type 0 where
-  Outside : Standing
-  Waiting : (lock : LockId) (ticket : ℕ) → Standing
-  Inside : (lock : LockId) (ticket : ℕ) → Standing
+pub data LockPhase : Type 0 where
+  Idle : LockPhase
+  Waiting : (lock : LockId) (ticket : ℕ) → LockPhase
+  Holding : (lock : LockId) (ticket : ℕ) → LockPhase
 
 -- where an event leaves the CPU that acts: a Look hits where it reads its ticket
-abbrev pub left_by : {M : Type 0} → Event M → Standing
+abbrev pub left_by : {M : Type 0} → Event M → LockPhase
 left_by (Draw cpu lock ticket) = Waiting lock ticket
-left_by (Look cpu lock ticket read) = if read == ticket then Inside lock ticket else Waiting lock ticket
-left_by (Free cpu lock mark) = Outside
+left_by (Look cpu lock ticket read) = if read == ticket then Holding lock ticket else Waiting lock ticket
+left_by (Free cpu lock mark) = Idle
 
 -- where a CPU is: its newest event tells
-abbrev pub standing : {M : Type 0} → CpuId → List (Event M) → Standing
-standing cpu [] = Outside
-standing cpu (e ∷ past) = if same_cpu (actor e) cpu then left_by e else standing cpu past
+abbrev pub lock_phase : {M : Type 0} → CpuId → List (Event M) → LockPhase
+lock_phase cpu [] = Idle
+lock_phase cpu (e ∷ past) = if same_cpu (cpu_of_event e) cpu then left_by e else lock_phase cpu past
 
 -- the event may come after this past. A CPU of the machine draws while it is outside, and its ticket is the number of
 -- earlier draws. While it waits it looks, and reads the number of earlier frees. While it is inside it may free.
 abbrev pub MayFollow : {M : Type 0} → List (Event M) → Event M → Type 0
 MayFollow past (Draw cpu lock ticket) =
-    (cpu.0 < CPUS) × (standing cpu past ≡ Outside) × (ticket ≡ draws lock past % 2 ^ 64)
+    (cpu.0 < CPUS) × (lock_phase cpu past ≡ Idle) × (ticket ≡ draws lock past % 2 ^ 64)
 MayFollow past (Look cpu lock ticket read) =
-    (standing cpu past ≡ Waiting lock ticket) × (read ≡ frees lock past % 2 ^ 64)
-MayFollow past (Free cpu lock mark) = (ticket : ℕ) × (standing cpu past ≡ Inside lock ticket)
+    (lock_phase cpu past ≡ Waiting lock ticket) × (read ≡ frees lock past % 2 ^ 64)
+MayFollow past (Free cpu lock mark) = (ticket : ℕ) × (lock_phase cpu past ≡ Holding lock ticket)
 
 -- a legal words log
 abbrev pub IsLegalWords : {M : Type 0} → List (Event M) → Type 0

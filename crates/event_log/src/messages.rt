@@ -112,6 +112,8 @@ fn word_fits(word: u64)
 {}
 
 impl Default for Msg {
+    ghost is_default = { λ m. m ≡ no_message };
+
     fn default() -> Msg {
         Msg::none()
     }

@@ -5,21 +5,21 @@ use std::test::*;
 
 /// Where a CPU stands, by its latest event.
 #[derive(Clone, Copy, Debug, PartialEq, Eq)]
-enum Standing {
-    Outside,
+enum LockPhase {
+    Idle,
     Waiting(LockId, u64),
-    Inside(LockId),
+    Holding(LockId),
 }
 
-fn actor(event: &Event<u8>) -> CpuId {
+fn cpu_of_event(event: &Event<u8>) -> CpuId {
     match *event {
         Event::Draw { cpu, .. } | Event::Look { cpu, .. } | Event::Free { cpu, .. } => cpu,
     }
 }
 
-fn standing_after(event: &Event<u8>) -> Standing {
+fn lock_phase_after(event: &Event<u8>) -> LockPhase {
     match *event {
-        Event::Draw { lock, ticket, .. } => Standing::Waiting(lock, ticket),
+        Event::Draw { lock, ticket, .. } => LockPhase::Waiting(lock, ticket),
         Event::Look {
             lock,
             ticket,
@@ -27,22 +27,22 @@ fn standing_after(event: &Event<u8>) -> Standing {
             ..
         } => {
             if read == ticket {
-                Standing::Inside(lock)
+                LockPhase::Holding(lock)
             } else {
-                Standing::Waiting(lock, ticket)
+                LockPhase::Waiting(lock, ticket)
             }
         }
-        Event::Free { .. } => Standing::Outside,
+        Event::Free { .. } => LockPhase::Idle,
     }
 }
 
-fn standing_of(before: &[Event<u8>], cpu: CpuId) -> Standing {
+fn lock_phase_of(before: &[Event<u8>], cpu: CpuId) -> LockPhase {
     for event in before.iter().rev() {
-        if actor(event) == cpu {
-            return standing_after(event);
+        if cpu_of_event(event) == cpu {
+            return lock_phase_after(event);
         }
     }
-    Standing::Outside
+    LockPhase::Idle
 }
 
 fn drawn(before: &[Event<u8>], of: LockId) -> usize {
@@ -63,7 +63,7 @@ fn may_follow(before: &[Event<u8>], event: &Event<u8>) -> bool {
     match *event {
         Event::Draw { cpu, lock, ticket } => {
             usize::from(cpu.0) < CPUS
-                && standing_of(before, cpu) == Standing::Outside
+                && lock_phase_of(before, cpu) == LockPhase::Idle
                 && ticket == drawn(before, lock) as u64
         }
         Event::Look {
@@ -72,10 +72,10 @@ fn may_follow(before: &[Event<u8>], event: &Event<u8>) -> bool {
             ticket,
             read,
         } => {
-            standing_of(before, cpu) == Standing::Waiting(lock, ticket)
+            lock_phase_of(before, cpu) == LockPhase::Waiting(lock, ticket)
                 && read == freed(before, lock) as u64
         }
-        Event::Free { cpu, lock, .. } => standing_of(before, cpu) == Standing::Inside(lock),
+        Event::Free { cpu, lock, .. } => lock_phase_of(before, cpu) == LockPhase::Holding(lock),
     }
 }
 

@@ -17,8 +17,9 @@ use Rattle.layer_traits.specs.declared.conditions.CvLeave.TheVariants.{Leave, Wa
 use Rattle.layer_traits.specs.declared.locked.QEdit.TheVariants.{Acquire, Inside, Release}
 use Rattle.layer_traits.specs.declared.locked.Side.{Side}
 use Rattle.layer_traits.specs.declared.locked.Side.TheVariants.{Receivers, Senders}
-use Rattle.layer_traits.specs.declared.talks.Talk.{Talk}
-use Rattle.layer_traits.specs.BufferBlocks.{BufferState, buffer_edited, editor, entered, is_first, is_next, line_of, may_go, may_join, put_in, shut, taken_out}
+use Rattle.layer_traits.specs.declared.call_states.CallState.{CallState}
+use Rattle.layer_traits.specs.BufferBlocks.{BufferState, buffer_edited, thread_of_edit, entered, is_first, is_next}
+use Rattle.layer_traits.specs.BufferBlocks.{line_of, may_go, may_join, put_in, shut, taken_out}
 use Rattle.layer_traits.specs.BufferEffects.{drawn, is_enter, drawn_in}
 use Rattle.layer_traits.specs.BufferProtocol.{BufferLock, BufferSection, buffer_at, buffer_rules, has_tried_in_vain}
 use Rattle.layer_traits.specs.BufferLaw.{buffer_of, side_of}
@@ -30,7 +31,7 @@ use Rattle.layer_traits.proofs.CountLemmas.{same_tid_sym, count_behind, count_ot
 use Rattle.thread_blocks.specs.Queues.{same_tid, is_in, rest}
 use Rattle.thread_blocks.proofs.Members.{same_tid_self, same_tid_true}
 use Rattle.thread_blocks.proofs.Distinct.{out_of_rest}
-use Rattle.fifo_buffer.specs.Stances.{Grip, Stance, TalkFits, holds_at, line_at, lined_at, same_side}
+use Rattle.fifo_buffer.specs.Stances.{Grip, Stance, CallStateFits, holds_at, line_at, lined_at, same_side}
 
 pub not_some : (t u : Tid) → same_tid u t ≡ false → Some u ≢ Some t
 not_some t u other is = let one : u ≡ t = cc in absurd (cc (other, subst (λ v. same_tid u v ≡ true) one (same_tid_self u)))
@@ -106,7 +107,7 @@ pub line_shut : (side : Side) (x : BufferState) → line_of side (shut x) ≡ li
 line_shut Receivers x = refl
 line_shut Senders x = refl
 
-pub line_edit : (t : Tid) (ed : BufferEdit) (side : Side) (x : BufferState) → same_tid (editor ed) t ≡ false
+pub line_edit : (t : Tid) (ed : BufferEdit) (side : Side) (x : BufferState) → same_tid (thread_of_edit ed) t ≡ false
     → count_in t (line_of side (buffer_edited ed x)) ≡ count_in t (line_of side x)
 line_edit t (Enter u at) side x other = go (may_join u (line_of at x))
   where
@@ -189,18 +190,19 @@ module _ (opening : LockId → Option BufferLock) (past : List BufferSection) (s
       drawn_is = λ is. stance.drawn_is is ∙ sym (drawn_apart (Buffer b) side other);
     }
 
-    pub fits_apart : (call : Option Call) (slept waits : Option BufId) (talk : Talk) → TalkFits opening past t call slept waits talk
-        → TalkFits opening (s ∷ past) t call slept waits talk
-    fits_apart None slept waits talk fits = record {
+    pub fits_apart : (call : Option Call) (slept waits : Option BufId) (call_state : CallState) → CallStateFits opening past t call slept waits call_state
+        → CallStateFits opening (s ∷ past) t call slept waits call_state
+    fits_apart None slept waits call_state fits = record {
       stage_is = fits.stage_is;
       stance = stance_apart (record { 0 = 0 }) Senders false false false 0 fits.stance;
       slept_none = fits.slept_none;
       waits_none = fits.waits_none;
     }
-    fits_apart (Some call) slept waits talk fits = record {
+    fits_apart (Some call) slept waits call_state fits = record {
       called = fits.called;
       stance =
-          stance_apart (buffer_of call) (side_of call) (holds_at talk.stage (is_some waits)) (is_some slept) (lined_at talk.stage) talk.position fits.stance;
+          stance_apart (buffer_of call) (side_of call) (holds_at call_state.stage (is_some waits)) (is_some slept)
+          (lined_at call_state.stage) call_state.position fits.stance;
       vain = λ is. vain_apart (Buffer (buffer_of call)) (side_of call) other ∙ fits.vain is;
       joins = fits.joins;
       effect_is = fits.effect_is;

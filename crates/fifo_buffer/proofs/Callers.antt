@@ -1,4 +1,4 @@
--- A thread that runs on a CPU and whose call takes a pace there: its CPU's part and the log before the pace.
+-- A thread that runs on a CPU and whose call takes a section poll there: its CPU's part and the log before the section poll.
 use Rattle.std.proofs.Common.{◌≡◌, ◌<◌, List, length, Option, Some}
 use Rattle.event_log.specs.declared.ids.CpuId.{CpuId}
 use Rattle.event_log.specs.declared.ids.LockId.{LockId}
@@ -11,7 +11,7 @@ use Rattle.layer_traits.specs.BufferProtocol.{BufferLock}
 use Rattle.layer_traits.specs.CvLaw.{Waiting}
 use Rattle.layer_traits.specs.Places.{home_of}
 use Rattle.layer_traits.specs.QueueBlocks.{homes_in}
-use Rattle.fifo_buffer.specs.Paces.{BufferEvent}
+use Rattle.fifo_buffer.specs.SectionPolls.{BufferEvent}
 
 pub record Caller : Type 1 where
   pub opening : LockId → Option (QueueBlock BufferLock)

@@ -1,4 +1,4 @@
--- A poll of a call follows its plan: one pace, or two where the first did nothing beneath.
+-- A poll of a call follows its plan: one section poll, or two where the first did nothing beneath.
 use Rattle.std.proofs.Common.{◌≡◌, Bool, true, false, List, Option, Some, None, is_some, refl, ap, sym, ◌∙◌, subst}
 use Rattle.event_log.specs.declared.ids.BufId.{BufId}
 use Rattle.event_log.specs.declared.ids.CpuId.{CpuId}
@@ -13,11 +13,11 @@ use Rattle.layer_traits.specs.declared.conditions.CvOut.{CvOut}
 use Rattle.layer_traits.specs.declared.locked.QOut.{QOut}
 use Rattle.layer_traits.specs.declared.queue_edits.QueueEdit.{QueueEdit}
 use Rattle.layer_traits.specs.declared.queues.QueueAnswer.{QueueAnswer}
-use Rattle.layer_traits.specs.declared.talks.Stage.{Stage}
-use Rattle.layer_traits.specs.declared.talks.Stage.TheVariants.{Between, Acquires, Enters, Tries, Waits, AcquiresAgain, Signals, SignalsOwn, Releases}
-use Rattle.layer_traits.specs.declared.talks.Talk.{Talk}
-use Rattle.layer_traits.specs.BufferLaw.{Buffering, BufferPlan, buffer_of, chained, chained_now, heard, left_heard}
-use Rattle.layer_traits.specs.BufferLaw.{plan_at, plan_beneath, plan_of, plan_on, section_at, talk_of}
+use Rattle.layer_traits.specs.declared.call_states.Stage.{Stage}
+use Rattle.layer_traits.specs.declared.call_states.Stage.TheVariants.{Idle, Acquires, Enters, Tries, Waits, AcquiresAgain, Signals, SignalsOwn, Releases}
+use Rattle.layer_traits.specs.declared.call_states.CallState.{CallState}
+use Rattle.layer_traits.specs.BufferLaw.{Buffering, BufferPlan, buffer_of, chained, chained_now, recorded, left_recorded}
+use Rattle.layer_traits.specs.BufferLaw.{plan_at, plan_beneath, plan_of, plan_on, section_at, call_state_of}
 use Rattle.layer_traits.specs.BufferProtocol.{buffer_rules}
 use Rattle.layer_traits.specs.Conditions.{CvCall}
 use Rattle.layer_traits.specs.CvLaw.{Waiting, cv_plan_for, left_over, left_waiting}
@@ -27,7 +27,7 @@ use Rattle.layer_traits.specs.Plans.{Follows, Left, Plan, Now, Act, Table, raise
 use Rattle.layer_traits.specs.Scheds.{sched_plan}
 use Rattle.layer_traits.specs.SleepLaw.{due, sleep_plan}
 use Rattle.fifo_buffer.specs.Stances.{called_at, waits_at}
-use Rattle.fifo_buffer.specs.Paces.{BufferOutcome, is_at_once}
+use Rattle.fifo_buffer.specs.SectionPolls.{BufferOutcome, is_at_once}
 use Rattle.fifo_buffer.proofs.Events.{caller_is}
 
 some_of : {A : Type 0} (x : Option A) → is_some x ≡ true → (a : A) × (x ≡ Some a)
@@ -78,33 +78,35 @@ chained_act ActsFor table opening cpu next f (Act lock name react) old new got a
 module _ {B : Type 0} (ActsFor : CpuId → Type 0) (table : Table (QueueEdit (CvCall BufferEdit)) B (QueueAnswer BufferOutcome))
     (opening : LockId → Option B) (cpu : CpuId)
     (homes : List CpuId) (t : Tid) (call : Call) where
-  -- one pace of a thread that neither sleeps for the lock nor waits
-  pub one_follows : (stage : Stage) (talk : Talk) (own : Buffering) (old new : List (Action (QueueEdit (CvCall BufferEdit)))) (got : Left Buffering Reply)
+  -- one section poll of a thread that neither sleeps for the lock nor waits
+  pub one_follows : (stage : Stage) (call_state : CallState) (own : Buffering) (old new : List (Action (QueueEdit (CvCall BufferEdit))))
+      (got : Left Buffering Reply)
       → called_at stage ≡ true
       → slept_for own.cv.lock.slept t ≡ None → slept_for own.cv.waits t ≡ None
-      → Follows ActsFor table opening cpu (plan_of homes cpu t call stage talk own) old new got → Follows ActsFor table opening cpu
-      (plan_at homes cpu t call stage talk own) old new got
-  one_follows Between talk own old new got called slept waits follows = absurd (wrong called)
+      → Follows ActsFor table opening cpu (plan_of homes cpu t call stage call_state own) old new got → Follows ActsFor table opening cpu
+      (plan_at homes cpu t call stage call_state own) old new got
+  one_follows Idle call_state own old new got called slept waits follows = absurd (wrong called)
     where
       wrong : false ≡ true → ⊥
       wrong is = absurd cc
-  one_follows Acquires talk own old new got called slept waits follows =
-      chained_act ActsFor table opening cpu (λ x. plan_of homes cpu t call Enters (talk_of x.talks t) x) (left_heard t call talk own.talks Acquires)
+  one_follows Acquires call_state own old new got called slept waits follows =
+      chained_act ActsFor table opening cpu (λ x. plan_of homes cpu t call Enters (call_state_of x.call_states t) x)
+      (left_recorded t call call_state own.call_states Acquires)
       (plan_beneath homes cpu t call Acquires own.cv) old new got
       (beneath_acts homes cpu t call Acquires own.cv slept waits) follows
-  one_follows Enters talk own old new got called slept waits follows = follows
-  one_follows Tries talk own old new got called slept waits follows = follows
-  one_follows Waits talk own old new got called slept waits follows =
-      chained_act ActsFor table opening cpu (λ x. plan_on homes cpu t call AcquiresAgain (plan_of homes cpu t call Tries) (talk_of x.talks t) x)
-      (left_heard t call talk own.talks Waits) (plan_beneath homes cpu t call Waits own.cv) old new got
+  one_follows Enters call_state own old new got called slept waits follows = follows
+  one_follows Tries call_state own old new got called slept waits follows = follows
+  one_follows Waits call_state own old new got called slept waits follows =
+      chained_act ActsFor table opening cpu (λ x. plan_on homes cpu t call AcquiresAgain (plan_of homes cpu t call Tries) (call_state_of x.call_states t) x)
+      (left_recorded t call call_state own.call_states Waits) (plan_beneath homes cpu t call Waits own.cv) old new got
       (beneath_acts homes cpu t call Waits own.cv slept waits) follows
-  one_follows AcquiresAgain talk own old new got called slept waits follows =
-      chained_act ActsFor table opening cpu (λ x. plan_of homes cpu t call Tries (talk_of x.talks t) x)
-      (left_heard t call talk own.talks AcquiresAgain) (plan_beneath homes cpu t call AcquiresAgain own.cv) old new got
+  one_follows AcquiresAgain call_state own old new got called slept waits follows =
+      chained_act ActsFor table opening cpu (λ x. plan_of homes cpu t call Tries (call_state_of x.call_states t) x)
+      (left_recorded t call call_state own.call_states AcquiresAgain) (plan_beneath homes cpu t call AcquiresAgain own.cv) old new got
       (beneath_acts homes cpu t call AcquiresAgain own.cv slept waits) follows
-  one_follows Signals talk own old new got called slept waits follows = follows
-  one_follows SignalsOwn talk own old new got called slept waits follows = follows
-  one_follows Releases talk own old new got called slept waits follows = follows
+  one_follows Signals call_state own old new got called slept waits follows = follows
+  one_follows SignalsOwn call_state own old new got called slept waits follows = follows
+  one_follows Releases call_state own old new got called slept waits follows = follows
 
   -- the plan beneath, where it answers without an action
   abbrev Answers : Plan (QueueEdit (CvCall BufferEdit)) (QueueAnswer BufferOutcome) (Waiting BufferOut) BufferOutcome → Type 0
@@ -130,7 +132,7 @@ module _ {B : Type 0} (ActsFor : CpuId → Type 0) (table : Table (QueueEdit (Cv
     refl,
   )
 
-  -- two paces in one poll
+  -- two section polls in one poll
   two_chain : (next : Buffering → BufferPlan Reply) (f : Left (Waiting BufferOut) BufferOutcome → Left Buffering Reply)
       (plan : Plan (QueueEdit (CvCall BufferEdit)) (QueueAnswer BufferOutcome) (Waiting BufferOut) BufferOutcome)
       (old mid new : List (Action (QueueEdit (CvCall BufferEdit)))) (one two : Left Buffering Reply) → Answers plan
@@ -149,43 +151,44 @@ module _ {B : Type 0} (ActsFor : CpuId → Type 0) (table : Table (QueueEdit (Cv
       go None some follows = absurd cc
       go (Some o) some follows = follows
 
-  pub two_follows : (stage : Stage) (talk : Talk) (own : Buffering) (old mid new : List (Action (QueueEdit (CvCall BufferEdit))))
+  pub two_follows : (stage : Stage) (call_state : CallState) (own : Buffering) (old mid new : List (Action (QueueEdit (CvCall BufferEdit))))
       (one two : Left Buffering Reply) (handed : Bool)
-      (out : QOut (CvOut BufferOut)) → is_at_once stage handed ≡ true → talk_of one.own.talks t ≡ heard talk stage out
+      (out : QOut (CvOut BufferOut)) → is_at_once stage handed ≡ true → call_state_of one.own.call_states t ≡ recorded call_state stage out
       → (waits_at stage ≡ true → is_some (slept_for own.cv.waits t) ≡ true)
       → (waits_at stage ≡ false → (slept_for own.cv.waits t ≡ None) × (is_some (slept_for own.cv.lock.slept t) ≡ true))
       → slept_for one.own.cv.lock.slept t ≡ None → slept_for one.own.cv.waits t ≡ None
-      → Follows ActsFor table opening cpu (plan_of homes cpu t call stage talk own) old mid one
-      → Follows ActsFor table opening cpu (plan_of homes cpu t call (talk_of one.own.talks t).stage (talk_of one.own.talks t) one.own) mid new two
-      → Follows ActsFor table opening cpu (plan_at homes cpu t call stage talk own) old new two
-  two_follows Between talk own old mid new one two handed out once is waits slept free freed first second = absurd cc
-  two_follows Enters talk own old mid new one two handed out once is waits slept free freed first second = absurd cc
-  two_follows Tries talk own old mid new one two handed out once is waits slept free freed first second = absurd cc
-  two_follows Signals talk own old mid new one two handed out once is waits slept free freed first second = absurd cc
-  two_follows SignalsOwn talk own old mid new one two handed out once is waits slept free freed first second = absurd cc
-  two_follows Releases talk own old mid new one two handed out once is waits slept free freed first second = absurd cc
-  two_follows Acquires talk own old mid new one two handed out once is waits slept free freed first second =
+      → Follows ActsFor table opening cpu (plan_of homes cpu t call stage call_state own) old mid one
+      → Follows ActsFor table opening cpu (plan_of homes cpu t call (call_state_of one.own.call_states t).stage
+      (call_state_of one.own.call_states t) one.own) mid new two
+      → Follows ActsFor table opening cpu (plan_at homes cpu t call stage call_state own) old new two
+  two_follows Idle call_state own old mid new one two handed out once is waits slept free freed first second = absurd cc
+  two_follows Enters call_state own old mid new one two handed out once is waits slept free freed first second = absurd cc
+  two_follows Tries call_state own old mid new one two handed out once is waits slept free freed first second = absurd cc
+  two_follows Signals call_state own old mid new one two handed out once is waits slept free freed first second = absurd cc
+  two_follows SignalsOwn call_state own old mid new one two handed out once is waits slept free freed first second = absurd cc
+  two_follows Releases call_state own old mid new one two handed out once is waits slept free freed first second = absurd cc
+  two_follows Acquires call_state own old mid new one two handed out once is waits slept free freed first second =
       let at = some_of (slept_for own.cv.lock.slept t) (slept refl).1 in
-      let stage_is : (talk_of one.own.talks t).stage ≡ Enters = ap (λ (x : Talk). x.stage) is in
-      two_chain (λ x. plan_of homes cpu t call Enters (talk_of x.talks t) x) (left_heard t call talk own.talks Acquires)
+      let stage_is : (call_state_of one.own.call_states t).stage ≡ Enters = ap (λ (x : CallState). x.stage) is in
+      two_chain (λ x. plan_of homes cpu t call Enters (call_state_of x.call_states t) x) (left_recorded t call call_state own.call_states Acquires)
       (plan_beneath homes cpu t call Acquires own.cv) old mid new one two
       (answers_handed Acquires own.cv at.0 at.1 (slept refl).0) first
-      (subst (λ s. Follows ActsFor table opening cpu (plan_of homes cpu t call s (talk_of one.own.talks t) one.own) mid new two) stage_is second)
-  two_follows AcquiresAgain talk own old mid new one two handed out once is waits slept free freed first second =
+      (subst (λ s. Follows ActsFor table opening cpu (plan_of homes cpu t call s (call_state_of one.own.call_states t) one.own) mid new two) stage_is second)
+  two_follows AcquiresAgain call_state own old mid new one two handed out once is waits slept free freed first second =
       let at = some_of (slept_for own.cv.lock.slept t) (slept refl).1 in
-      let stage_is : (talk_of one.own.talks t).stage ≡ Tries = ap (λ (x : Talk). x.stage) is in
-      two_chain (λ x. plan_of homes cpu t call Tries (talk_of x.talks t) x) (left_heard t call talk own.talks AcquiresAgain)
+      let stage_is : (call_state_of one.own.call_states t).stage ≡ Tries = ap (λ (x : CallState). x.stage) is in
+      two_chain (λ x. plan_of homes cpu t call Tries (call_state_of x.call_states t) x) (left_recorded t call call_state own.call_states AcquiresAgain)
       (plan_beneath homes cpu t call AcquiresAgain own.cv) old mid new one two
       (answers_handed AcquiresAgain own.cv at.0 at.1 (slept refl).0) first
-      (subst (λ s. Follows ActsFor table opening cpu (plan_of homes cpu t call s (talk_of one.own.talks t) one.own) mid new two) stage_is second)
-  two_follows Waits talk own old mid new one two handed out once is waits slept free freed first second =
+      (subst (λ s. Follows ActsFor table opening cpu (plan_of homes cpu t call s (call_state_of one.own.call_states t) one.own) mid new two) stage_is second)
+  two_follows Waits call_state own old mid new one two handed out once is waits slept free freed first second =
       let at = some_of (slept_for own.cv.waits t) (waits refl) in
-      let stage_is : (talk_of one.own.talks t).stage ≡ AcquiresAgain = ap (λ (x : Talk). x.stage) is in
-      two_chain (λ x. plan_on homes cpu t call AcquiresAgain (plan_of homes cpu t call Tries) (talk_of x.talks t) x)
-      (left_heard t call talk own.talks Waits) (plan_beneath homes cpu t call Waits own.cv) old mid new one two
+      let stage_is : (call_state_of one.own.call_states t).stage ≡ AcquiresAgain = ap (λ (x : CallState). x.stage) is in
+      two_chain (λ x. plan_on homes cpu t call AcquiresAgain (plan_of homes cpu t call Tries) (call_state_of x.call_states t) x)
+      (left_recorded t call call_state own.call_states Waits) (plan_beneath homes cpu t call Waits own.cv) old mid new one two
       (answers_woken own.cv at.0 at.1) first
-      (one_follows AcquiresAgain (talk_of one.own.talks t) one.own mid new two refl free freed
-      (subst (λ s. Follows ActsFor table opening cpu (plan_of homes cpu t call s (talk_of one.own.talks t) one.own) mid new two) stage_is second))
+      (one_follows AcquiresAgain (call_state_of one.own.call_states t) one.own mid new two refl free freed
+      (subst (λ s. Follows ActsFor table opening cpu (plan_of homes cpu t call s (call_state_of one.own.call_states t) one.own) mid new two) stage_is second))
 
 -- a plan followed by a holder that acts for fewer CPUs
 pub follows_for : {N B R S A : Type 0} (ActsFor Acts : CpuId → Type 0) → ((d : CpuId) → Acts d → ActsFor d)

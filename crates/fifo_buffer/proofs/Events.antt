@@ -1,4 +1,4 @@
--- What holds of a thread's talk over events, where none of them is of its CPU; and what its stance lets it do.
+-- What holds of a thread's call state over events, where none of them is of its CPU; and what its stance lets it do.
 use Rattle.std.proofs.Common.{◌≡◌, ◌≢◌, ℕ, Bool, true, false, ◌&&◌, List, [], ◌∷◌, ◌++◌, Option, Some, None, refl, ap, sym, ◌∙◌, subst, arith}
 use Rattle.std.proofs.Math.Bool.{and-true}
 use Rattle.event_log.specs.declared.ids.BufId.{BufId}
@@ -17,42 +17,44 @@ use Rattle.layer_traits.specs.declared.locked.Side.TheVariants.{Receivers, Sende
 use Rattle.layer_traits.specs.declared.queue_edits.QueueBlock.{QueueBlock}
 use Rattle.layer_traits.specs.declared.queues.QueueCall.{QueueCall}
 use Rattle.layer_traits.specs.declared.queues.QueueCall.TheVariants.{Push, TakeAll, OnBuffer}
-use Rattle.layer_traits.specs.declared.talks.Stage.{Stage}
-use Rattle.layer_traits.specs.declared.talks.Stage.TheVariants.{Between, Acquires, Enters, Tries, Waits, AcquiresAgain, Signals, SignalsOwn, Releases}
-use Rattle.layer_traits.specs.declared.talks.Talk.{Talk}
+use Rattle.layer_traits.specs.declared.call_states.Stage.{Stage}
+use Rattle.layer_traits.specs.declared.call_states.Stage.TheVariants.{Idle, Acquires, Enters, Tries, Waits, AcquiresAgain, Signals, SignalsOwn, Releases}
+use Rattle.layer_traits.specs.declared.call_states.CallState.{CallState}
 use Rattle.layer_traits.specs.BufferBlocks.{line_of}
 use Rattle.layer_traits.specs.BufferLaw.{buffer_of, section_at, side_of}
-use Rattle.layer_traits.specs.BufferProtocol.{BufferLock, BufferSection, IsDue, buffer_at, buffer_deeds, buffer_rules, is_in_line}
+use Rattle.layer_traits.specs.BufferProtocol.{BufferLock, BufferSection, IsDue, buffer_at, buffer_monitor_rules, buffer_rules, is_in_line}
 use Rattle.layer_traits.specs.Conditions.{CvCall, cv_rules}
 use Rattle.layer_traits.specs.LockLaw.{lock_kernel}
 use Rattle.layer_traits.specs.Locking.{IsOwners, lock_caller, owner_in}
 use Rattle.layer_traits.specs.Places.{count_in, home_of, one_if}
 use Rattle.layer_traits.specs.Protocol.{section}
 use Rattle.layer_traits.specs.QueueBlocks.{homes_in, inner}
-use Rattle.layer_traits.specs.Queues.{QueueAllowed, buffer_sections, event_actor, with_section}
+use Rattle.layer_traits.specs.Queues.{QueueAllowed, buffer_sections, cpu_of_queue_event, with_section}
 use Rattle.layer_traits.proofs.CountLemmas.{not_counted}
 use Rattle.layer_traits.proofs.ListsLemmas.{counted_in}
 use Rattle.thread_blocks.specs.Queues.{same_tid}
 use Rattle.thread_blocks.proofs.Members.{same_tid_true}
-use Rattle.fifo_buffer.specs.Stances.{Grip, InCall, Stance, TalkFits, line_at, same_side}
-use Rattle.fifo_buffer.specs.Paces.{BufferEvent}
+use Rattle.fifo_buffer.specs.Stances.{Grip, InCall, Stance, CallStateFits, line_at, same_side}
+use Rattle.fifo_buffer.specs.SectionPolls.{BufferEvent}
 use Rattle.fifo_buffer.proofs.Apart.{fits_apart, side_self}
 
 module _ (opening : LockId → Option (QueueBlock BufferLock)) where
   -- one event, none of whose callers is this thread
-  pub one_event : (past : List BufferEvent) (e : BufferEvent) (u : Tid) → QueueAllowed (lock_kernel (cv_rules buffer_deeds) opening) past e
+  pub one_event : (past : List BufferEvent) (e : BufferEvent) (u : Tid) → QueueAllowed (lock_kernel (cv_rules buffer_monitor_rules) opening) past e
       → ((t : Tid) → home_of (homes_in opening) t ≡ Some e.cpu → same_tid t u ≡ false)
-      → (of : Option Call) (slept waits : Option BufId) (talk : Talk) → TalkFits (inner opening) (buffer_sections past) u of slept waits talk
-      → TalkFits (inner opening) (buffer_sections (e ∷ past)) u of slept waits talk
-  one_event past e u allowed other of slept waits talk fits = go e.call allowed
+      → (of : Option Call) (slept waits : Option BufId) (call_state : CallState)
+      → CallStateFits (inner opening) (buffer_sections past) u of slept waits call_state
+      → CallStateFits (inner opening) (buffer_sections (e ∷ past)) u of slept waits call_state
+  one_event past e u allowed other of slept waits call_state fits = go e.call allowed
     where
-      go : (call : QueueCall (CvCall BufferEdit)) → QueueAllowed (lock_kernel (cv_rules buffer_deeds) opening) past (record { cpu = e.cpu; call = call })
-          → TalkFits (inner opening) (with_section e.cpu call (buffer_sections past)) u of slept waits talk
+      go : (call : QueueCall (CvCall BufferEdit)) → QueueAllowed (lock_kernel (cv_rules buffer_monitor_rules) opening) past
+          (record { cpu = e.cpu; call = call })
+          → CallStateFits (inner opening) (with_section e.cpu call (buffer_sections past)) u of slept waits call_state
       go (Push d t) may = fits
       go (TakeAll d) may = fits
       go (OnBuffer b call) may =
           fits_apart (inner opening) (buffer_sections past) (section e.cpu (Buffer b) call) u (other (lock_caller buffer_rules call) may.caller.home)
-          may.upper.owners of slept waits talk fits
+          may.upper.owners of slept waits call_state fits
 
   home_apart : (c : CpuId) (e : BufferEvent) (u t : Tid) → home_of (homes_in opening) u ≡ Some c → same_cpu e.cpu c ≡ false
       → home_of (homes_in opening) t ≡ Some e.cpu → same_tid t u ≡ false
@@ -67,18 +69,19 @@ module _ (opening : LockId → Option (QueueBlock BufferLock)) where
           absurd (cc (other, subst (λ d. same_cpu e.cpu d ≡ true) same (same_cpu_self e.cpu)))
 
   -- events of other CPUs
-  pub keeps_fits : (c : CpuId) (u : Tid) → home_of (homes_in opening) u ≡ Some c → (more past : List BufferEvent) → AreOthers event_actor c more
-      → IsLawful (QueueAllowed (lock_kernel (cv_rules buffer_deeds) opening)) (more ++ past)
-      → (of : Option Call) (slept waits : Option BufId) (talk : Talk) → TalkFits (inner opening) (buffer_sections past) u of slept waits talk
-      → TalkFits (inner opening) (buffer_sections (more ++ past)) u of slept waits talk
-  keeps_fits c u home [] past others lawful of slept waits talk fits = fits
-  keeps_fits c u home (e ∷ more) past others lawful of slept waits talk fits =
-      one_event (more ++ past) e u lawful.0 (λ t there. home_apart c e u t home others.0 there) of slept waits talk
-      (keeps_fits c u home more past others.1 lawful.1 of slept waits talk fits)
+  pub keeps_fits : (c : CpuId) (u : Tid) → home_of (homes_in opening) u ≡ Some c → (more past : List BufferEvent) → AreOthers cpu_of_queue_event c more
+      → IsLawful (QueueAllowed (lock_kernel (cv_rules buffer_monitor_rules) opening)) (more ++ past)
+      → (of : Option Call) (slept waits : Option BufId) (call_state : CallState)
+      → CallStateFits (inner opening) (buffer_sections past) u of slept waits call_state
+      → CallStateFits (inner opening) (buffer_sections (more ++ past)) u of slept waits call_state
+  keeps_fits c u home [] past others lawful of slept waits call_state fits = fits
+  keeps_fits c u home (e ∷ more) past others lawful of slept waits call_state fits =
+      one_event (more ++ past) e u lawful.0 (λ t there. home_apart c e u t home others.0 there) of slept waits call_state
+      (keeps_fits c u home more past others.1 lawful.1 of slept waits call_state fits)
 
 -- the thread that calls
-pub caller_is : (t : Tid) (call : Call) (stage : Stage) → lock_caller (cv_rules buffer_deeds) (section_at t call stage) ≡ t
-caller_is t call Between = refl
+pub caller_is : (t : Tid) (call : Call) (stage : Stage) → lock_caller (cv_rules buffer_monitor_rules) (section_at t call stage) ≡ t
+caller_is t call Idle = refl
 caller_is t call Acquires = refl
 caller_is t (Send b m) Enters = refl
 caller_is t (Recv b) Enters = refl
@@ -112,7 +115,7 @@ module _ (O : LockId → Option BufferLock) (past : List BufferSection) (t : Tid
   -- the owner of its buffer's lock is as its section asks
   pub owner_due : (call : Call) (stage : Stage) (position : ℕ) (effect : Option Effect) → InCall O past t call None None stage position effect
       → IsOwners buffer_rules (section_at t call stage) (owner_in (buffer_at O past (Buffer (buffer_of call))))
-  owner_due call Between position effect now = absurd (none now.called)
+  owner_due call Idle position effect now = absurd (none now.called)
     where
       none : false ≡ true → ⊥
       none is = absurd cc
@@ -145,7 +148,7 @@ module _ (O : LockId → Option BufferLock) (past : List BufferSection) (t : Tid
   -- its section is due
   pub due_now : (call : Call) (stage : Stage) (position : ℕ) (effect : Option Effect) → InCall O past t call None None stage position effect
       → IsDue O past (Buffer (buffer_of call)) (section_at t call stage)
-  due_now call Between position effect now = tt
+  due_now call Idle position effect now = tt
   due_now call Acquires position effect now = tt
   due_now (Send b m) Enters position effect now =
       (out_of_line Senders _ (now.stance.line (Buffer b) Senders), out_of_line Receivers _ (now.stance.line (Buffer b) Receivers))

@@ -4,10 +4,10 @@ pub mod Events
 pub mod Callers
 pub mod Polls
 pub mod Pacing
-pub mod Heard
+pub mod Recorded
 pub mod Parts
 pub mod Passes
-pub mod PaceTaken
+pub mod SectionPollTaken
 pub mod Finish
 pub mod First
 pub mod Twice

@@ -14,7 +14,7 @@ use Rattle.layer_traits.specs.BufferEffects.{fresh_lock, opening_locks}
 use Rattle.layer_traits.specs.BufferProtocol.{BufferLock}
 use Rattle.layer_traits.specs.QueueBlocks.{StartsAs, above_of, inner}
 use Rattle.layer_traits.specs.Capacities.{caps_from}
-use Rattle.layer_traits.proofs.CapacityLemmas.{caps_told}
+use Rattle.layer_traits.proofs.CapacityLemmas.{caps_observed}
 use Rattle.fifo_buffer.specs.FifoFits.{BootsSo, caps_in}
 
 -- a lock round a block, with no owner and nobody asleep
@@ -52,7 +52,7 @@ pub caps_are : (opening : LockId → Option (QueueBlock BufferLock)) (caps : Lis
 unfolding caps_in
 caps_are opening caps boots few =
     let capacity : BufferLock → ℕ = λ lock. lock.above.capacity in
-    ap (caps_from capacity 256 0) boots ∙ caps_told capacity fresh_lock (λ n. refl) caps (opening_locks caps) (λ n. refl) 256 few
+    ap (caps_from capacity 256 0) boots ∙ caps_observed capacity fresh_lock (λ n. refl) caps (opening_locks caps) (λ n. refl) 256 few
 
 -- so the machine boots as the layer wants it
 pub boots_well : (opening : LockId → Option (QueueBlock BufferLock)) (caps : List ℕ) → inner opening ≡ opening_locks caps → length caps ≤ 256

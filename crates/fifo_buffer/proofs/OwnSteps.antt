@@ -31,15 +31,15 @@ use Rattle.layer_traits.specs.declared.locked.QOut.{QOut}
 use Rattle.layer_traits.specs.declared.locked.QOut.TheVariants.{Did, Released}
 use Rattle.layer_traits.specs.declared.locked.Side.{Side}
 use Rattle.layer_traits.specs.declared.locked.Side.TheVariants.{Receivers, Senders}
-use Rattle.layer_traits.specs.declared.talks.Stage.{Stage}
-use Rattle.layer_traits.specs.declared.talks.Stage.TheVariants.{Between, Acquires, Enters, Tries, Waits, AcquiresAgain, Signals, SignalsOwn, Releases}
+use Rattle.layer_traits.specs.declared.call_states.Stage.{Stage}
+use Rattle.layer_traits.specs.declared.call_states.Stage.TheVariants.{Idle, Acquires, Enters, Tries, Waits, AcquiresAgain, Signals, SignalsOwn, Releases}
 use Rattle.layer_traits.specs.BufferBlocks.{BufferState, effect_kind, entered, first_item, is_first, is_next, line_of}
 use Rattle.layer_traits.specs.BufferBlocks.{may_go, may_join, drawn_of, put_in, taken_out}
 use Rattle.layer_traits.specs.BufferEffects.{drawn, effect_of, effect_on, is_enter, drawn_in}
 use Rattle.layer_traits.specs.BufferLaw.{IsEffectOf, buffer_of, entry_of, section_at, side_of}
 use Rattle.layer_traits.specs.BufferProtocol.{BufferLock, BufferSection, buffer_at, buffer_rules, has_tried_in_vain, is_next_at}
 use Rattle.layer_traits.specs.Conditions.{CvCall}
-use Rattle.layer_traits.specs.Locking.{asked, lock_edited, lock_out, told_asker}
+use Rattle.layer_traits.specs.Locking.{asked, lock_edited, lock_out, asker_report}
 use Rattle.layer_traits.specs.Places.{count_in, one_if}
 use Rattle.layer_traits.specs.Protocol.{section}
 use Rattle.layer_traits.proofs.CountLemmas.{count_append, not_counted}
@@ -47,24 +47,25 @@ use Rattle.thread_blocks.specs.Queues.{same_tid, is_in, rest}
 use Rattle.thread_blocks.proofs.Members.{same_tid_self}
 use Rattle.thread_blocks.proofs.Distinct.{out_of_rest}
 use Rattle.fifo_buffer.specs.BlockSteps.{kind_counts}
-use Rattle.fifo_buffer.specs.Stances.{Grip, Holds, InCall, IsFreeOf, Stance, TalkFits, done_at, heard_by, line_at, same_side}
-use Rattle.fifo_buffer.specs.Stances.{slept_by, talk_in, waits_by}
+use Rattle.fifo_buffer.specs.Stances.{Grip, Holds, InCall, IsFreeOf, Stance, CallStateFits, done_at, recorded_by, line_at, same_side}
+use Rattle.fifo_buffer.specs.Stances.{slept_by, call_state_in, waits_by}
 use Rattle.fifo_buffer.proofs.Apart.{above_asked, line_shut, side_self}
 
 and_second : (x y : Bool) → (x && y) ≡ true → y ≡ true
 and_second true y e = e
 and_second false y e = absurd cc
 
--- what a section did, where it was told this: the stance and the talk after it, and its effect
+-- what a section did, where it was told this: the stance and the call state after it, and its effect
 pub record Stepped (opening : LockId → Option BufferLock) (past : List BufferSection) (c : CpuId) (t : Tid) (call : Call) (stage : Stage)
     (position : ℕ) (effect : Option Effect) (out : QOut (CvOut BufferOut)) : Type 0 where
-  pub fits : TalkFits opening (section c (Buffer (buffer_of call)) (section_at t call stage) ∷ past) t
-      (heard_by (talk_in stage call position effect) stage out).call
-      (slept_by (buffer_of call) out) (waits_by (buffer_of call) out) (heard_by (talk_in stage call position effect) stage out)
+  pub fits : CallStateFits opening (section c (Buffer (buffer_of call)) (section_at t call stage) ∷ past) t
+      (recorded_by (call_state_in stage call position effect) stage out).call
+      (slept_by (buffer_of call) out) (waits_by (buffer_of call) out) (recorded_by (call_state_in stage call position effect) stage out)
   pub mine : Option Effect
   pub is : effect_of opening past (section c (Buffer (buffer_of call)) (section_at t call stage)) ≡ option_map (entry_of c t (buffer_of call)) mine
-  pub fresh : (f : Effect) → mine ≡ Some f → (effect ≡ None) × ((heard_by (talk_in stage call position effect) stage out).effect ≡ Some f) × IsEffectOf call f
-  pub stays : mine ≡ None → (heard_by (talk_in stage call position effect) stage out).effect ≡ effect
+  pub fresh : (f : Effect) → mine ≡ Some f → (effect ≡ None) × ((recorded_by
+      (call_state_in stage call position effect) stage out).effect ≡ Some f) × IsEffectOf call f
+  pub stays : mine ≡ None → (recorded_by (call_state_in stage call position effect) stage out).effect ≡ effect
 
 module _ (opening : LockId → Option BufferLock) (past : List BufferSection) (c : CpuId) (t : Tid) (b : BufId) (side : Side) (e : CvCall BufferEdit)
     (lock : BufferLock) (is : buffer_at opening past (Buffer b) ≡ Some lock) where
@@ -283,18 +284,18 @@ module _ (opening : LockId → Option BufferLock) (past : List BufferSection) (c
 -- each section of a call, by its stage
 module _ (opening : LockId → Option BufferLock) (past : List BufferSection) (c : CpuId) (t : Tid) (lock : BufferLock) (position : ℕ)
     (effect : Option Effect) where
-  quiet_here : (b : BufId) (e : CvCall BufferEdit) → buffer_at opening past (Buffer b) ≡ Some lock
+  no_effect_here : (b : BufId) (e : CvCall BufferEdit) → buffer_at opening past (Buffer b) ≡ Some lock
       → effect_on c b e (λ side u. drawn opening (Buffer b) side u past) (Some lock) ≡ None → effect_of opening past (section c (Buffer b) e) ≡ None
-  quiet_here b e is none = ap (λ x. effect_on c b e (λ side u. drawn opening (Buffer b) side u past) x) is ∙ none
+  no_effect_here b e is none = ap (λ x. effect_on c b e (λ side u. drawn opening (Buffer b) side u past) x) is ∙ none
 
   asks_step : (call : Call) → buffer_at opening past (Buffer (buffer_of call)) ≡ Some lock → InCall opening past t call None None Acquires position effect
-      → Stepped opening past c t call Acquires position effect (told_asker lock.owner)
+      → Stepped opening past c t call Acquires position effect (asker_report lock.owner)
   asks_step call is now = go lock.owner refl
     where
       none : effect_of opening past (section c (Buffer (buffer_of call)) (Acquire t)) ≡ None
-      none = quiet_here (buffer_of call) (Acquire t) is refl
+      none = no_effect_here (buffer_of call) (Acquire t) is refl
 
-      go : (owner : Option Tid) → lock.owner ≡ owner → Stepped opening past c t call Acquires position effect (told_asker owner)
+      go : (owner : Option Tid) → lock.owner ≡ owner → Stepped opening past c t call Acquires position effect (asker_report owner)
       go None free = record {
         fits = record {
           called = refl;
@@ -328,13 +329,13 @@ module _ (opening : LockId → Option BufferLock) (past : List BufferSection) (c
 
   asks_again_step : (call : Call) → buffer_at opening past (Buffer (buffer_of call)) ≡ Some lock
       → InCall opening past t call None None AcquiresAgain position effect
-      → Stepped opening past c t call AcquiresAgain position effect (told_asker lock.owner)
+      → Stepped opening past c t call AcquiresAgain position effect (asker_report lock.owner)
   asks_again_step call is now = go lock.owner refl
     where
       none : effect_of opening past (section c (Buffer (buffer_of call)) (Acquire t)) ≡ None
-      none = quiet_here (buffer_of call) (Acquire t) is refl
+      none = no_effect_here (buffer_of call) (Acquire t) is refl
 
-      go : (owner : Option Tid) → lock.owner ≡ owner → Stepped opening past c t call AcquiresAgain position effect (told_asker owner)
+      go : (owner : Option Tid) → lock.owner ≡ owner → Stepped opening past c t call AcquiresAgain position effect (asker_report owner)
       go None free = record {
         fits = record {
           called = refl;
@@ -383,7 +384,7 @@ module _ (opening : LockId → Option BufferLock) (past : List BufferSection) (c
       waits_here = tt;
     };
     mine = None;
-    is = quiet_here b (Inside (Edit (Enter t Senders))) is refl;
+    is = no_effect_here b (Inside (Edit (Enter t Senders))) is refl;
     fresh = λ f w. absurd cc;
     stays = λ w. refl;
   }
@@ -398,7 +399,7 @@ module _ (opening : LockId → Option BufferLock) (past : List BufferSection) (c
       waits_here = tt;
     };
     mine = None;
-    is = quiet_here b (Inside (Edit (Enter t Receivers))) is refl;
+    is = no_effect_here b (Inside (Edit (Enter t Receivers))) is refl;
     fresh = λ f w. absurd cc;
     stays = λ w. refl;
   }
@@ -560,7 +561,7 @@ module _ (opening : LockId → Option BufferLock) (past : List BufferSection) (c
       waits_here = (refl, refl);
     };
     mine = None;
-    is = quiet_here (buffer_of call) (Release (Wait t (side_of call))) is refl;
+    is = no_effect_here (buffer_of call) (Release (Wait t (side_of call))) is refl;
     fresh = λ f w. absurd cc;
     stays = λ w. refl;
   }
@@ -580,7 +581,7 @@ module _ (opening : LockId → Option BufferLock) (past : List BufferSection) (c
       waits_here = tt;
     };
     mine = None;
-    is = ap (λ e. effect_of opening past (section c (Buffer (buffer_of call)) e)) same ∙ quiet_here (buffer_of call) (Inside (SignalFront t far)) is refl;
+    is = ap (λ e. effect_of opening past (section c (Buffer (buffer_of call)) e)) same ∙ no_effect_here (buffer_of call) (Inside (SignalFront t far)) is refl;
     fresh = λ f w. absurd cc;
     stays = λ w. refl;
   }
@@ -599,7 +600,7 @@ module _ (opening : LockId → Option BufferLock) (past : List BufferSection) (c
       waits_here = tt;
     };
     mine = None;
-    is = quiet_here (buffer_of call) (Inside (SignalFront t (side_of call))) is refl;
+    is = no_effect_here (buffer_of call) (Inside (SignalFront t (side_of call))) is refl;
     fresh = λ f w. absurd cc;
     stays = λ w. refl;
   }
@@ -616,7 +617,7 @@ module _ (opening : LockId → Option BufferLock) (past : List BufferSection) (c
           waits_none = refl;
         };
         mine = None;
-        is = quiet_here (buffer_of call) (Release (Leave t)) is refl;
+        is = no_effect_here (buffer_of call) (Release (Leave t)) is refl;
         fresh = λ f w. absurd cc;
         stays = λ w. refl;
       }
@@ -625,7 +626,7 @@ module _ (opening : LockId → Option BufferLock) (past : List BufferSection) (c
   pub own_step : (call : Call) (stage : Stage) → t.0 < THREADS → buffer_at opening past (Buffer (buffer_of call)) ≡ Some lock
       → InCall opening past t call None None stage position effect → Stepped opening past c t call stage position effect
       (lock_out buffer_rules (section_at t call stage) lock)
-  own_step call Between small is now = absurd (false_true now.called)
+  own_step call Idle small is now = absurd (false_true now.called)
     where
       false_true : false ≡ true → ⊥
       false_true is = absurd cc

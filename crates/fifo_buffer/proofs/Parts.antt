@@ -21,43 +21,43 @@ use Rattle.layer_traits.specs.declared.queue_edits.QueueBlock.{QueueBlock}
 use Rattle.layer_traits.specs.declared.queues.QueueCall.{QueueCall}
 use Rattle.layer_traits.specs.declared.queues.QueueCall.TheVariants.{Push, TakeAll, OnBuffer}
 use Rattle.layer_traits.specs.declared.scheds.SchedCall.{SchedCall}
-use Rattle.layer_traits.specs.declared.talks.Talk.{Talk}
+use Rattle.layer_traits.specs.declared.call_states.CallState.{CallState}
 use Rattle.layer_traits.specs.BufferBlocks.{effect_kind, first_item, is_next}
 use Rattle.layer_traits.specs.BufferEffects.{effect_of, effect_on, effects_in, entry}
-use Rattle.layer_traits.specs.BufferLaw.{MovesGrow, OthersSeen, entry_cpu, heard, talk_of}
-use Rattle.layer_traits.specs.BufferProtocol.{BufferLock, BufferSection, buffer_deeds}
+use Rattle.layer_traits.specs.BufferLaw.{MovesGrow, OthersSeen, cpu_of_entry, recorded, call_state_of}
+use Rattle.layer_traits.specs.BufferProtocol.{BufferLock, BufferSection, buffer_monitor_rules}
 use Rattle.layer_traits.specs.Conditions.{CvCall, cv_rules}
 use Rattle.layer_traits.specs.CvLaw.{Waiting}
 use Rattle.layer_traits.specs.LockLaw.{lock_kernel, slept_for}
 use Rattle.layer_traits.specs.Places.{home_of}
 use Rattle.layer_traits.specs.Protocol.{section}
 use Rattle.layer_traits.specs.QueueBlocks.{homes_in, inner}
-use Rattle.layer_traits.specs.Queues.{QueueAllowed, buffer_sections, event_actor, moves_in, with_section}
+use Rattle.layer_traits.specs.Queues.{QueueAllowed, buffer_sections, cpu_of_queue_event, moves_in, with_section}
 use Rattle.layer_traits.proofs.CallLemmas.{moves_append, moves_others, moves_over}
 use Rattle.event_log.proofs.Same.{same_cpu_true}
 use Rattle.event_log.proofs.Foreign.{others_both}
 use Rattle.fifo_buffer.specs.FifoFits.{PartFits}
-use Rattle.fifo_buffer.specs.Stances.{TalkFits}
-use Rattle.fifo_buffer.specs.Paces.{BufferEvent, BufferOutcome, CallsFit, Goes, Kept, Midway}
+use Rattle.fifo_buffer.specs.Stances.{CallStateFits}
+use Rattle.fifo_buffer.specs.SectionPolls.{BufferEvent, BufferOutcome, CallsFit, Goes, IsDeferred, Midway}
 use Rattle.fifo_buffer.proofs.Events.{keeps_fits}
 
 -- an effect has its section's CPU
 one_entry : (d cpu : CpuId) (b : BufId) (call : CvCall BufferEdit) (position : Side → Tid → ℕ) (x : Option BufferLock) → same_cpu cpu d ≡ false
-    → AreOthers entry_cpu d (option_to_list (effect_on cpu b call position x))
+    → AreOthers cpu_of_entry d (option_to_list (effect_on cpu b call position x))
 one_entry d cpu b call position None other = tt
 one_entry d cpu b (Acquire t) position (Some lock) other = tt
 one_entry d cpu b (Inside (Edit (Enter t side))) position (Some lock) other = tt
 one_entry d cpu b (Inside (Edit (TryPut t m))) position (Some lock) other = go (is_next Senders t lock.above)
   where
     go : (v : Bool)
-        → AreOthers entry_cpu d (option_to_list (if v then Some
+        → AreOthers cpu_of_entry d (option_to_list (if v then Some
         (entry cpu t (effect_kind Senders lock.above) b m lock.above.effects (position Senders t)) else None))
     go true = (other, tt)
     go false = tt
 one_entry d cpu b (Inside (Edit (TryTake t))) position (Some lock) other = go (is_next Receivers t lock.above)
   where
     go : (v : Bool)
-        → AreOthers entry_cpu d (option_to_list (if v then Some
+        → AreOthers cpu_of_entry d (option_to_list (if v then Some
         (entry cpu t (effect_kind Receivers lock.above) b (first_item lock.above.items) lock.above.effects (position Receivers t)) else None))
     go true = (other, tt)
     go false = tt
@@ -90,97 +90,105 @@ module _ (O : LockId → Option BufferLock) where
       ∙ ap (λ es. effect_by e.cpu e.call (buffer_sections (more ++ past)) ++ es) (effects_append more past)
       ∙ sym (append_assoc (effect_by e.cpu e.call (buffer_sections (more ++ past))) (effects_over more past) (effects_in O (buffer_sections past)))
 
-  pub effects_others : (d : CpuId) (more past : List BufferEvent) → AreOthers event_actor d more → AreOthers entry_cpu d (effects_over more past)
+  pub effects_others : (d : CpuId) (more past : List BufferEvent) → AreOthers cpu_of_queue_event d more → AreOthers cpu_of_entry d (effects_over more past)
   effects_others d [] past others = tt
   effects_others d (e ∷ more) past others =
-      others_both entry_cpu d (effect_by e.cpu e.call (buffer_sections (more ++ past))) (effects_over more past) (go e.call)
+      others_both cpu_of_entry d (effect_by e.cpu e.call (buffer_sections (more ++ past))) (effects_over more past) (go e.call)
       (effects_others d more past others.1)
     where
-      go : (call : QueueCall (CvCall BufferEdit)) → AreOthers entry_cpu d (effect_by e.cpu call (buffer_sections (more ++ past)))
+      go : (call : QueueCall (CvCall BufferEdit)) → AreOthers cpu_of_entry d (effect_by e.cpu call (buffer_sections (more ++ past)))
       go (Push q t) = tt
       go (TakeAll q) = tt
       go (OnBuffer b call) = one_entry d e.cpu b call _ _ others.0
 
-module _ (opening : LockId → Option (QueueBlock BufferLock)) (d : CpuId) (more past : List BufferEvent) (others : AreOthers event_actor d more)
-    (lawful : IsLawful (QueueAllowed (lock_kernel (cv_rules buffer_deeds) opening)) (more ++ past)) where
-  talk_on : (u : Tid) → home_of (homes_in opening) u ≡ Some d → (of : Option Call) (slept waits : Option BufId) (talk : Talk)
-      → TalkFits (inner opening) (buffer_sections past) u of slept waits talk → TalkFits (inner opening) (buffer_sections (more ++ past)) u of slept waits talk
-  talk_on u home = keeps_fits opening d u home more past others lawful
+module _ (opening : LockId → Option (QueueBlock BufferLock)) (d : CpuId) (more past : List BufferEvent) (others : AreOthers cpu_of_queue_event d more)
+    (lawful : IsLawful (QueueAllowed (lock_kernel (cv_rules buffer_monitor_rules) opening)) (more ++ past)) where
+  call_state_on : (u : Tid) → home_of (homes_in opening) u ≡ Some d → (of : Option Call) (slept waits : Option BufId) (call_state : CallState)
+      → CallStateFits (inner opening) (buffer_sections past) u of slept waits call_state
+      → CallStateFits (inner opening) (buffer_sections (more ++ past)) u of slept waits call_state
+  call_state_on u home = keeps_fits opening d u home more past others lawful
 
-  kept_on : (t : Tid) (home : home_of (homes_in opening) t ≡ Some d) (talk : Talk) (outcome : BufferOutcome)
-      → Kept (inner opening) (buffer_sections past) t talk.stage talk outcome
-      → Kept (inner opening) (buffer_sections (more ++ past)) t talk.stage talk outcome
-  kept_on t home talk outcome kept = record {
-    plain = kept.plain;
-    fits = talk_on t home (heard talk talk.stage outcome.out).call None None (heard talk talk.stage outcome.out) kept.fits;
-    effect = kept.effect;
-    done = kept.done;
-    no_wait = kept.no_wait;
-    called = kept.called;
+  deferred_on : (t : Tid) (home : home_of (homes_in opening) t ≡ Some d) (call_state : CallState) (outcome : BufferOutcome)
+      → IsDeferred (inner opening) (buffer_sections past) t call_state.stage call_state outcome
+      → IsDeferred (inner opening) (buffer_sections (more ++ past)) t call_state.stage call_state outcome
+  deferred_on t home call_state outcome deferred = record {
+    plain = deferred.plain;
+    fits = call_state_on t home (recorded call_state call_state.stage outcome.out).call None None
+        (recorded call_state call_state.stage outcome.out) deferred.fits;
+    effect = deferred.effect;
+    done = deferred.done;
+    no_wait = deferred.no_wait;
+    called = deferred.called;
   }
 
-  midway_on : (t : Tid) → home_of (homes_in opening) t ≡ Some d → (call : Call) (talk : Talk) (kept : Option BufferOutcome) (hand : Option Tid)
-      → Midway (inner opening) (buffer_sections past) t call talk kept hand → Midway (inner opening) (buffer_sections (more ++ past)) t call talk kept hand
-  midway_on t home call talk None hand midway = (midway.0, talk_on t home (Some call) None None talk midway.1)
-  midway_on t home call talk (Some outcome) hand midway = kept_on t home talk outcome midway
+  midway_on : (t : Tid) → home_of (homes_in opening) t ≡ Some d → (call : Call) (call_state : CallState) (deferred : Option BufferOutcome) (hand : Option Tid)
+      → Midway (inner opening) (buffer_sections past) t call call_state deferred hand
+      → Midway (inner opening) (buffer_sections (more ++ past)) t call call_state deferred hand
+  midway_on t home call call_state None hand midway = (midway.0, call_state_on t home (Some call) None None call_state midway.1)
+  midway_on t home call call_state (Some outcome) hand midway = deferred_on t home call_state outcome midway
 
   goes_on : (t : Tid) → home_of (homes_in opening) t ≡ Some d
-      → (call : Call) (talk : Talk) (own : Waiting BufferOut) (under_way : Option (SchedCall (CvCall BufferEdit)))
-      → Goes (inner opening) (buffer_sections past) t call talk own under_way → Goes (inner opening) (buffer_sections (more ++ past)) t call talk own under_way
-  goes_on t home call talk own None goes = record {
+      → (call : Call) (call_state : CallState) (own : Waiting BufferOut) (under_way : Option (SchedCall (CvCall BufferEdit)))
+      → Goes (inner opening) (buffer_sections past) t call call_state own under_way
+      → Goes (inner opening) (buffer_sections (more ++ past)) t call call_state own under_way
+  goes_on t home call call_state own None goes = record {
     hand = goes.hand;
-    kept = goes.kept;
-    fits = talk_on t home (Some call) (slept_for own.lock.slept t) (slept_for own.waits t) talk goes.fits;
+    deferred = goes.deferred;
+    fits = call_state_on t home (Some call) (slept_for own.lock.slept t) (slept_for own.waits t) call_state goes.fits;
   }
-  goes_on t home call talk own (Some s) goes = record {
+  goes_on t home call call_state own (Some s) goes = record {
     is = goes.is;
     slept = goes.slept;
     waits = goes.waits;
-    midway = midway_on t home call talk own.lock.sleep.kept own.lock.sleep.threads.hand goes.midway;
+    midway = midway_on t home call call_state own.lock.sleep.deferred own.lock.sleep.threads.hand goes.midway;
   }
 
   -- a part keeps fitting over events of other CPUs
-  pub calls_on : (own : Waiting BufferOut) (talks : List Talk) (under_way : Option (SchedCall (CvCall BufferEdit))) (calling : Option Tid)
-      → CallsFit (homes_in opening) d (inner opening) (buffer_sections past) own talks under_way calling
-      → CallsFit (homes_in opening) d (inner opening) (buffer_sections (more ++ past)) own talks under_way calling
-  calls_on own talks under_way None fits = record {
+  pub calls_on : (own : Waiting BufferOut) (call_states : List CallState) (under_way : Option (SchedCall (CvCall BufferEdit))) (calling : Option Tid)
+      → CallsFit (homes_in opening) d (inner opening) (buffer_sections past) own call_states under_way calling
+      → CallsFit (homes_in opening) d (inner opening) (buffer_sections (more ++ past)) own call_states under_way calling
+  calls_on own call_states under_way None fits = record {
     none = fits.none;
-    kept = fits.kept;
-    fit = λ u home. talk_on u home (talk_of talks u).call (slept_for own.lock.slept u) (slept_for own.waits u) (talk_of talks u) (fits.fit u home);
+    deferred = fits.deferred;
+    fit = λ u home. call_state_on u home (call_state_of call_states u).call (slept_for own.lock.slept u) (slept_for own.waits u)
+        (call_state_of call_states u) (fits.fit u home);
   }
-  calls_on own talks under_way (Some t) fits = record {
+  calls_on own call_states under_way (Some t) fits = record {
     call = fits.call;
     home = fits.home;
     may = record {
       current = fits.may.current;
       called = fits.may.called;
-      goes = goes_on t fits.home fits.call (talk_of talks t) own under_way fits.may.goes;
+      goes = goes_on t fits.home fits.call (call_state_of call_states t) own under_way fits.may.goes;
     };
     others =
-        λ u home other. talk_on u home (talk_of talks u).call (slept_for own.lock.slept u) (slept_for own.waits u) (talk_of talks u) (fits.others u home other);
+        λ u home other. call_state_on u home (call_state_of call_states u).call (slept_for own.lock.slept u) (slept_for own.waits u)
+        (call_state_of call_states u) (fits.others u home other);
   }
 
-  pub part_on : (own : Waiting BufferOut) (talks : List Talk) (under_way : Option (SchedCall (CvCall BufferEdit))) (calling : Option Tid)
-      → PartFits opening d past own talks under_way calling → PartFits opening d (more ++ past) own talks under_way calling
-  part_on own talks under_way calling fits = record {
+  pub part_on : (own : Waiting BufferOut) (call_states : List CallState) (under_way : Option (SchedCall (CvCall BufferEdit))) (calling : Option Tid)
+      → PartFits opening d past own call_states under_way calling → PartFits opening d (more ++ past) own call_states under_way calling
+  part_on own call_states under_way calling fits = record {
     boots = fits.boots;
     sizes = fits.sizes;
-    calls = calls_on own talks under_way calling fits.calls;
+    calls = calls_on own call_states under_way calling fits.calls;
   }
 
 -- the same at a log that grew so
-pub part_grown : (opening : LockId → Option (QueueBlock BufferLock)) (d : CpuId) (more past new : List BufferEvent) → AreOthers event_actor d more
-    → IsLawful (QueueAllowed (lock_kernel (cv_rules buffer_deeds) opening)) new → new ≡ more ++ past
-    → (own : Waiting BufferOut) (talks : List Talk) (under_way : Option (SchedCall (CvCall BufferEdit))) (calling : Option Tid)
-    → PartFits opening d past own talks under_way calling → PartFits opening d new own talks under_way calling
-part_grown opening d more past new others lawful is own talks under_way calling fits =
-    subst (λ log. PartFits opening d log own talks under_way calling) (sym is)
-    (part_on opening d more past others (subst (IsLawful (QueueAllowed (lock_kernel (cv_rules buffer_deeds) opening))) is lawful) own talks under_way
+pub part_grown : (opening : LockId → Option (QueueBlock BufferLock)) (d : CpuId) (more past new : List BufferEvent) → AreOthers cpu_of_queue_event d more
+    → IsLawful (QueueAllowed (lock_kernel (cv_rules buffer_monitor_rules) opening)) new → new ≡ more ++ past
+    → (own : Waiting BufferOut) (call_states : List CallState) (under_way : Option (SchedCall (CvCall BufferEdit))) (calling : Option Tid)
+    → PartFits opening d past own call_states under_way calling → PartFits opening d new own call_states under_way calling
+part_grown opening d more past new others lawful is own call_states under_way calling fits =
+    subst (λ log. PartFits opening d log own call_states under_way calling) (sym is)
+    (part_on opening d more past others (subst (IsLawful (QueueAllowed (lock_kernel
+    (cv_rules buffer_monitor_rules) opening))) is lawful) own call_states under_way
     calling fits)
 
 -- effects of other CPUs alone, and moves of other CPUs alone
 pub seen_grown : (ActsFor Acts : CpuId → Type 0) (O : LockId → Option BufferLock) (others old new : List BufferEvent) → ((d : CpuId) → Acts d → ActsFor d)
-    → AreForeign ActsFor event_actor others → new ≡ others ++ old → OthersSeen Acts (effects_in O (buffer_sections old)) (effects_in O (buffer_sections new))
+    → AreForeign ActsFor cpu_of_queue_event others → new ≡ others ++ old
+    → OthersSeen Acts (effects_in O (buffer_sections old)) (effects_in O (buffer_sections new))
 seen_grown ActsFor Acts O others old new weaker foreign is = record {
   others = effects_over O others old;
   foreign = λ d acts. effects_others O d others old (foreign d (weaker d acts));
@@ -188,26 +196,27 @@ seen_grown ActsFor Acts O others old new weaker foreign is = record {
 }
 
 all_own : (opening : LockId → Option (QueueBlock BufferLock)) (c : CpuId) (mine past : List BufferEvent) → AllByRecursion (λ (e : BufferEvent). e.cpu ≡ c) mine
-    → AllByRecursion (λ s. s.cpu ≡ c) (moves_over (lock_kernel (cv_rules buffer_deeds) opening) mine past)
+    → AllByRecursion (λ s. s.cpu ≡ c) (moves_over (lock_kernel (cv_rules buffer_monitor_rules) opening) mine past)
 all_own opening c [] past own = tt
 all_own opening c (e ∷ mine) past own = (own.0, all_own opening c mine past own.1)
 
 pub moves_grown : (opening : LockId → Option (QueueBlock BufferLock)) (ActsFor Acts : CpuId → Type 0) (c : CpuId) (mine others old new : List BufferEvent)
-    → ((d : CpuId) → Acts d → ActsFor d) → AreForeign ActsFor event_actor others → AllByRecursion (λ (e : BufferEvent). e.cpu ≡ c) mine → new
+    → ((d : CpuId) → Acts d → ActsFor d) → AreForeign ActsFor cpu_of_queue_event others → AllByRecursion (λ (e : BufferEvent). e.cpu ≡ c) mine → new
     ≡ mine ++ (others ++ old)
-    → MovesGrow Acts c (moves_in (lock_kernel (cv_rules buffer_deeds) opening) old) (moves_in (lock_kernel (cv_rules buffer_deeds) opening) new)
+    → MovesGrow Acts c (moves_in (lock_kernel (cv_rules buffer_monitor_rules) opening) old) (moves_in (lock_kernel (cv_rules buffer_monitor_rules) opening) new)
 moves_grown opening ActsFor Acts c mine others old new weaker foreign own is = record {
-  others = moves_over (lock_kernel (cv_rules buffer_deeds) opening) others old;
-  mine = moves_over (lock_kernel (cv_rules buffer_deeds) opening) mine (others ++ old);
-  foreign = λ d acts. moves_others (lock_kernel (cv_rules buffer_deeds) opening) d others old (foreign d (weaker d acts));
+  others = moves_over (lock_kernel (cv_rules buffer_monitor_rules) opening) others old;
+  mine = moves_over (lock_kernel (cv_rules buffer_monitor_rules) opening) mine (others ++ old);
+  foreign = λ d acts. moves_others (lock_kernel (cv_rules buffer_monitor_rules) opening) d others old (foreign d (weaker d acts));
   own = all_own opening c mine (others ++ old) own;
-  is = ap (moves_in (lock_kernel (cv_rules buffer_deeds) opening)) is ∙ moves_append (lock_kernel (cv_rules buffer_deeds) opening) mine (others ++ old)
-      ∙ ap (λ steps. moves_over (lock_kernel (cv_rules buffer_deeds) opening) mine (others ++ old) ++ steps)
-      (moves_append (lock_kernel (cv_rules buffer_deeds) opening) others old);
+  is = ap (moves_in (lock_kernel (cv_rules buffer_monitor_rules) opening)) is
+      ∙ moves_append (lock_kernel (cv_rules buffer_monitor_rules) opening) mine (others ++ old)
+      ∙ ap (λ steps. moves_over (lock_kernel (cv_rules buffer_monitor_rules) opening) mine (others ++ old) ++ steps)
+      (moves_append (lock_kernel (cv_rules buffer_monitor_rules) opening) others old);
 }
 
--- the part of another CPU keeps fitting over a pace
-own_others : (c d : CpuId) → d ≢ c → (mine : List BufferEvent) → AllByRecursion (λ (e : BufferEvent). e.cpu ≡ c) mine → AreOthers event_actor d mine
+-- the part of another CPU keeps fitting over a section poll
+own_others : (c d : CpuId) → d ≢ c → (mine : List BufferEvent) → AllByRecursion (λ (e : BufferEvent). e.cpu ≡ c) mine → AreOthers cpu_of_queue_event d mine
 own_others c d other [] own = tt
 own_others c d other (e ∷ mine) own = (go (same_cpu e.cpu d) refl, own_others c d other mine own.1)
   where
@@ -216,10 +225,10 @@ own_others c d other (e ∷ mine) own = (go (same_cpu e.cpu d) refl, own_others 
     go true is = absurd (other (sym (same_cpu_true e.cpu d is) ∙ own.0))
 
 pub other_part : (opening : LockId → Option (QueueBlock BufferLock)) (c d : CpuId) → d ≢ c → (mine others past new : List BufferEvent)
-    → AllByRecursion (λ (e : BufferEvent). e.cpu ≡ c) mine → AreOthers event_actor d others → new ≡ mine ++ (others ++ past)
-    → IsLawful (QueueAllowed (lock_kernel (cv_rules buffer_deeds) opening)) new
-    → (own : Waiting BufferOut) (talks : List Talk) (under_way : Option (SchedCall (CvCall BufferEdit))) (calling : Option Tid)
-    → PartFits opening d past own talks under_way calling → PartFits opening d new own talks under_way calling
-other_part opening c d apart mine others past new own_events foreign is lawful own talks under_way calling fits =
-    part_grown opening d (mine ++ others) past new (others_both event_actor d mine others (own_others c d apart mine own_events) foreign) lawful
-    (is ∙ sym (append_assoc mine others past)) own talks under_way calling fits
+    → AllByRecursion (λ (e : BufferEvent). e.cpu ≡ c) mine → AreOthers cpu_of_queue_event d others → new ≡ mine ++ (others ++ past)
+    → IsLawful (QueueAllowed (lock_kernel (cv_rules buffer_monitor_rules) opening)) new
+    → (own : Waiting BufferOut) (call_states : List CallState) (under_way : Option (SchedCall (CvCall BufferEdit))) (calling : Option Tid)
+    → PartFits opening d past own call_states under_way calling → PartFits opening d new own call_states under_way calling
+other_part opening c d apart mine others past new own_events foreign is lawful own call_states under_way calling fits =
+    part_grown opening d (mine ++ others) past new (others_both cpu_of_queue_event d mine others (own_others c d apart mine own_events) foreign) lawful
+    (is ∙ sym (append_assoc mine others past)) own call_states under_way calling fits

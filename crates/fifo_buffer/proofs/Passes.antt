@@ -1,4 +1,4 @@
--- A call that is passed on to the scheduler has no effect, and leaves the talks as they fit.
+-- A call that is passed on to the scheduler has no effect, and leaves the call states as they fit.
 use Rattle.std.proofs.Common.{◌≡◌, Bool, true, false, List, [], ◌++◌, Option, Some, None, is_some, if◌then◌else◌, refl, ap, sym, ◌∙◌, subst}
 use Rattle.std.specs.List.{AllByRecursion}
 use Rattle.event_log.specs.declared.ids.CpuId.{CpuId}
@@ -12,24 +12,24 @@ use Rattle.layer_traits.specs.declared.passes.Pass.TheVariants.{Switch, YieldNow
 use Rattle.layer_traits.specs.declared.queue_edits.QueueBlock.{QueueBlock}
 use Rattle.layer_traits.specs.declared.scheds.SchedCall.{SchedCall}
 use Rattle.layer_traits.specs.declared.scheds.SchedCall.TheVariants as sched
-use Rattle.layer_traits.specs.declared.talks.Talk.{Talk}
+use Rattle.layer_traits.specs.declared.call_states.CallState.{CallState}
 use Rattle.layer_traits.specs.BufferEffects.{effects_in}
 use Rattle.layer_traits.specs.BufferLaw.{Calling, MayGoOn, OthersSeen, Passing}
-use Rattle.layer_traits.specs.BufferProtocol.{BufferLock, buffer_deeds}
+use Rattle.layer_traits.specs.BufferProtocol.{BufferLock, buffer_monitor_rules}
 use Rattle.layer_traits.specs.Conditions.{CvCall, cv_rules}
 use Rattle.layer_traits.specs.CvLaw.{Waiting}
 use Rattle.layer_traits.specs.LockLaw.{lock_kernel}
 use Rattle.layer_traits.specs.Passes.{PassPolled}
 use Rattle.layer_traits.specs.Places.{Threads}
 use Rattle.layer_traits.specs.QueueBlocks.{homes_in, inner}
-use Rattle.layer_traits.specs.Queues.{QueueAllowed, buffer_sections, event_actor, moves_in}
+use Rattle.layer_traits.specs.Queues.{QueueAllowed, buffer_sections, cpu_of_queue_event, moves_in}
 use Rattle.layer_traits.specs.Scheds.{SchedPolled, events_of, pass_call}
 use Rattle.layer_traits.specs.SleepLaw.{done_if}
 use Rattle.layer_traits.proofs.CallLemmas.{pass_polled}
 use Rattle.layer_traits.proofs.SleepLemmas.{done_same}
 use Rattle.layer_traits.proofs.Seen.{lawful_rest}
 use Rattle.fifo_buffer.specs.FifoFits.{PartFits}
-use Rattle.fifo_buffer.specs.Paces.{BufferEvent, BufferOutcome, NoSection, doing_at}
+use Rattle.fifo_buffer.specs.SectionPolls.{BufferEvent, BufferOutcome, NoSection, under_way_at}
 use Rattle.fifo_buffer.proofs.Parts.{effects_append, effects_others, effects_over, part_on}
 
 -- its event, where it has one, is no section of a buffer
@@ -69,12 +69,12 @@ pub record PassDone : Type 1 where
   pub new : List BufferEvent
   pub own : Threads
   pub own' : Threads
-  pub polled : SchedPolled (lock_kernel (cv_rules buffer_deeds) opening) ActsFor c (sched.Pass p) (done_if result) old new own own'
+  pub polled : SchedPolled (lock_kernel (cv_rules buffer_monitor_rules) opening) ActsFor c (sched.Pass p) (done_if result) old new own own'
 
 -- the pass of which this is told
 abbrev pub pass_done : (opening : LockId → Option (QueueBlock BufferLock)) {ActsFor : CpuId → Type 0} {c : CpuId} (p : Pass) (result : Option (Unit {0}))
     {old new : List BufferEvent} {own own' : Threads}
-    → SchedPolled (lock_kernel (cv_rules buffer_deeds) opening) ActsFor c (sched.Pass p) (done_if result) old new own own' → PassDone
+    → SchedPolled (lock_kernel (cv_rules buffer_monitor_rules) opening) ActsFor c (sched.Pass p) (done_if result) old new own own' → PassDone
 pass_done opening {ActsFor} {c} p result {old} {new} {own} {own'} polled = record {
   opening = opening;
   ActsFor = ActsFor;
@@ -106,10 +106,10 @@ module _ (pass : PassDone) where
   }
 
   pub pass_moved : (Acts : CpuId → Type 0) → ((d : CpuId) → Acts d → ActsFor d)
-      → PassPolled (homes_in opening) Acts c p result (moves_in (lock_kernel (cv_rules buffer_deeds) opening) old)
-      (moves_in (lock_kernel (cv_rules buffer_deeds) opening) new) own own'
+      → PassPolled (homes_in opening) Acts c p result (moves_in (lock_kernel (cv_rules buffer_monitor_rules) opening) old)
+      (moves_in (lock_kernel (cv_rules buffer_monitor_rules) opening) new) own own'
   pass_moved Acts weaker =
-      let moved = pass_polled (lock_kernel (cv_rules buffer_deeds) opening) ActsFor c p (done_if result) old new own own' polled in
+      let moved = pass_polled (lock_kernel (cv_rules buffer_monitor_rules) opening) ActsFor c p (done_if result) old new own own' polled in
       let same : is_some (done_if {O = BufferOutcome} result) ≡ is_some result = done_same BufferOutcome result in
       record {
         others = moved.others;
@@ -120,33 +120,35 @@ module _ (pass : PassDone) where
       }
 
   -- the part of this CPU, and those of other CPUs
-  pub part_passed : (d : CpuId) → AreOthers event_actor d polled.others
-      → IsLawful (QueueAllowed (lock_kernel (cv_rules buffer_deeds) opening)) (polled.others ++ old)
-      → (cv : Waiting BufferOut) (talks : List Talk) (under_way : Option (SchedCall (CvCall BufferEdit))) (calling : Option Tid)
-      → PartFits opening d old cv talks under_way calling → PartFits opening d new cv talks under_way calling
-  part_passed d others lawful cv talks under_way calling fits =
-      let on = part_on opening d polled.others old others lawful cv talks under_way calling fits in
+  pub part_passed : (d : CpuId) → AreOthers cpu_of_queue_event d polled.others
+      → IsLawful (QueueAllowed (lock_kernel (cv_rules buffer_monitor_rules) opening)) (polled.others ++ old)
+      → (cv : Waiting BufferOut) (call_states : List CallState) (under_way : Option (SchedCall (CvCall BufferEdit))) (calling : Option Tid)
+      → PartFits opening d old cv call_states under_way calling → PartFits opening d new cv call_states under_way calling
+  part_passed d others lawful cv call_states under_way calling fits =
+      let on = part_on opening d polled.others old others lawful cv call_states under_way calling fits in
       record { boots = on.boots; sizes = on.sizes; calls = rw same_sections on.calls }
 
 pub lawful_before : (opening : LockId → Option (QueueBlock BufferLock)) (mine past new : List BufferEvent) → new ≡ mine ++ past
-    → IsLawful (QueueAllowed (lock_kernel (cv_rules buffer_deeds) opening)) new → IsLawful (QueueAllowed (lock_kernel (cv_rules buffer_deeds) opening)) past
+    → IsLawful (QueueAllowed (lock_kernel (cv_rules buffer_monitor_rules) opening)) new
+    → IsLawful (QueueAllowed (lock_kernel (cv_rules buffer_monitor_rules) opening)) past
 lawful_before opening mine past new is lawful =
-    let may = QueueAllowed (lock_kernel (cv_rules buffer_deeds) opening) in
+    let may = QueueAllowed (lock_kernel (cv_rules buffer_monitor_rules) opening) in
     lawful_rest may mine past (subst (IsLawful may) is lawful)
 
 -- what a pass changes of the part: its threads, and which pass is under way
-pub passed_own : (opening : LockId → Option (QueueBlock BufferLock)) (c : CpuId) (past : List BufferEvent) (cv cv' : Waiting BufferOut) (talks : List Talk)
-    (under_way : Option (SchedCall (CvCall BufferEdit))) (calling : Option Tid) (p : Pass) (done : Bool) → MayGoOn (doing_at calling under_way) (Passing p)
-    → cv'.lock.sleep.kept ≡ cv.lock.sleep.kept → cv'.lock.slept ≡ cv.lock.slept → cv'.waits ≡ cv.waits
-    → PartFits opening c past cv talks under_way calling → PartFits opening c past cv' talks (if done then None else Some (sched.Pass p)) calling
-passed_own opening c past cv cv' talks under_way (Some t) p done may kept slept waits fits = absurd (wrong may)
+pub passed_own : (opening : LockId → Option (QueueBlock BufferLock)) (c : CpuId) (past : List BufferEvent) (cv cv' : Waiting BufferOut)
+    (call_states : List CallState)
+    (under_way : Option (SchedCall (CvCall BufferEdit))) (calling : Option Tid) (p : Pass) (done : Bool) → MayGoOn (under_way_at calling under_way) (Passing p)
+    → cv'.lock.sleep.deferred ≡ cv.lock.sleep.deferred → cv'.lock.slept ≡ cv.lock.slept → cv'.waits ≡ cv.waits
+    → PartFits opening c past cv call_states under_way calling → PartFits opening c past cv' call_states (if done then None else Some (sched.Pass p)) calling
+passed_own opening c past cv cv' call_states under_way (Some t) p done may deferred slept waits fits = absurd (wrong may)
   where
     wrong : Calling t ≡ Passing p → ⊥
     wrong is = absurd cc
-passed_own opening c past cv cv' talks under_way None p done may kept slept waits fits = record {
+passed_own opening c past cv cv' call_states under_way None p done may deferred slept waits fits = record {
   boots = fits.boots;
-  sizes = record { slept = rw slept fits.sizes.slept; waits = rw waits fits.sizes.waits; talks_are = fits.sizes.talks_are };
-  calls = record { none = none done; kept = kept ∙ fits.calls.kept; fit = λ u home. rw (slept, waits) (fits.calls.fit u home) };
+  sizes = record { slept = rw slept fits.sizes.slept; waits = rw waits fits.sizes.waits; call_states_are = fits.sizes.call_states_are };
+  calls = record { none = none done; deferred = deferred ∙ fits.calls.deferred; fit = λ u home. rw (slept, waits) (fits.calls.fit u home) };
 }
   where
     none : (b : Bool) → NoSection (if b then None else Some (sched.Pass p))

@@ -22,7 +22,7 @@ use Rattle.layer_traits.specs.declared.queues.QueueCall.{QueueCall}
 use Rattle.layer_traits.specs.declared.queues.QueueCall.TheVariants.{Push, TakeAll, OnBuffer}
 use Rattle.layer_traits.specs.BufferBlocks.{BufferState, counted, entered, is_next, line_of, may_join, drawn_of, put_in, shut, taken_out}
 use Rattle.layer_traits.specs.BufferEffects.{fresh_lock, drawn_in}
-use Rattle.layer_traits.specs.BufferProtocol.{BufferLock, BufferSection, IsDue, buffer_at, buffer_deeds, buffer_rules, is_in_line}
+use Rattle.layer_traits.specs.BufferProtocol.{BufferLock, BufferSection, IsDue, buffer_at, buffer_monitor_rules, buffer_rules, is_in_line}
 use Rattle.layer_traits.specs.Conditions.{CvCall, cv_rules}
 use Rattle.layer_traits.specs.LockLaw.{lock_kernel}
 use Rattle.layer_traits.specs.Locking.{asked, lock_caller, lock_edited}
@@ -35,7 +35,7 @@ use Rattle.fifo_buffer.specs.FifoFits.{BootsSo, caps_in}
 use Rattle.fifo_buffer.specs.OwnedLaws.{found}
 use Rattle.fifo_buffer.specs.Positions.{PositionsAreCounts, enters, entries_of}
 use Rattle.fifo_buffer.specs.Stances.{same_side}
-use Rattle.fifo_buffer.specs.Paces.{BufferEvent}
+use Rattle.fifo_buffer.specs.SectionPolls.{BufferEvent}
 
 -- one more thread entered, or none
 abbrev more : Bool → ℕ → ℕ
@@ -139,12 +139,12 @@ module _ (opening : LockId → Option (QueueBlock BufferLock)) (starts : StartsW
           ∙ ap (count_if (buffer_sections past) call) (sym is)
       go false is = ap (drawn_if (buffer_sections past) call) is ∙ before ∙ ap (count_if (buffer_sections past) call) (sym is)
 
-  counted_all : (past : List BufferEvent) → IsLawful (QueueAllowed (lock_kernel (cv_rules buffer_deeds) opening)) past → Counted (buffer_sections past)
+  counted_all : (past : List BufferEvent) → IsLawful (QueueAllowed (lock_kernel (cv_rules buffer_monitor_rules) opening)) past → Counted (buffer_sections past)
   counted_all [] lawful = none_yet
   counted_all (e ∷ past) lawful = by_call e.call lawful.0 (counted_all past lawful.1)
     where
       by_call : (call : QueueCall (CvCall BufferEdit))
-          → QueueAllowed (lock_kernel (cv_rules buffer_deeds) opening) past (record { cpu = e.cpu; call = call })
+          → QueueAllowed (lock_kernel (cv_rules buffer_monitor_rules) opening) past (record { cpu = e.cpu; call = call })
           → Counted (buffer_sections past) → Counted (with_section e.cpu call (buffer_sections past))
       by_call (Push q t) may before = before
       by_call (TakeAll q) may before = before

@@ -12,10 +12,10 @@ use Rattle.layer_traits.specs.declared.buffer_edits.BufferOut.{BufferOut}
 use Rattle.layer_traits.specs.declared.locked.Side.{Side}
 use Rattle.layer_traits.specs.declared.locked.Side.TheVariants.{Receivers, Senders}
 use Rattle.layer_traits.specs.declared.queue_edits.QueueBlock.{QueueBlock}
-use Rattle.layer_traits.specs.declared.talks.Talk.{Talk}
+use Rattle.layer_traits.specs.declared.call_states.CallState.{CallState}
 use Rattle.layer_traits.specs.BufferEffects.{fresh_lock, opening_locks}
-use Rattle.layer_traits.specs.BufferLaw.{quiet, talk_of}
-use Rattle.layer_traits.specs.BufferProtocol.{BufferLock, buffer_deeds}
+use Rattle.layer_traits.specs.BufferLaw.{no_call, call_state_of}
+use Rattle.layer_traits.specs.BufferProtocol.{BufferLock, buffer_monitor_rules}
 use Rattle.layer_traits.specs.Conditions.{cv_rules}
 use Rattle.layer_traits.specs.CvLaw.{Waiting, waiting_at_start}
 use Rattle.layer_traits.specs.LockLaw.{lock_kernel, slept_for}
@@ -24,8 +24,8 @@ use Rattle.layer_traits.specs.Places.{count_in}
 use Rattle.layer_traits.specs.QueueBlocks.{inner}
 use Rattle.layer_traits.specs.Queues.{buffer_sections, moves_in}
 use Rattle.fifo_buffer.specs.FifoFits.{BootsSo, PartFits, caps_in}
-use Rattle.fifo_buffer.specs.Stances.{IsFreeOf, TalkFits, line_at}
-use Rattle.fifo_buffer.specs.Paces.{BufferEvent, FitsAt}
+use Rattle.fifo_buffer.specs.Stances.{IsFreeOf, CallStateFits, line_at}
+use Rattle.fifo_buffer.specs.SectionPolls.{BufferEvent, FitsAt}
 
 -- what a list of equal items holds anywhere
 pub same_default : {A : Type 0} (n i : ℕ) (a : A) → slice_index_or (replicate n a) i a ≡ a
@@ -35,7 +35,7 @@ same_default (suc n) (suc i) a = same_default n i a
 
 -- no moves, no events
 pub no_events : (opening : LockId → Option (QueueBlock BufferLock)) (past : List BufferEvent)
-    → moves_in (lock_kernel (cv_rules buffer_deeds) opening) past ≡ [] → past ≡ []
+    → moves_in (lock_kernel (cv_rules buffer_monitor_rules) opening) past ≡ [] → past ≡ []
 no_events opening [] none = refl
 no_events opening (e ∷ past) none = absurd cc
 
@@ -70,11 +70,11 @@ line_none : (t : Tid) (side : Side) (caps : List ℕ) (lock : LockId) → count_
 line_none t side caps (Pending d) = refl
 line_none t side caps (Buffer b) = fresh_line t side (slice_get caps b.0)
 
-quiet_fits : (opening : LockId → Option (QueueBlock BufferLock)) → BootsSo opening → (t : Tid) (slept waits : Option BufId) (talk : Talk)
-    → slept ≡ None → waits ≡ None → talk ≡ quiet
-    → TalkFits (inner opening) [] t talk.call slept waits talk
-quiet_fits opening boots t slept waits talk slept_none waits_none is =
-    subst (λ (x : Talk). TalkFits (inner opening) [] t x.call slept waits x) (sym is) (record {
+no_call_fits : (opening : LockId → Option (QueueBlock BufferLock)) → BootsSo opening → (t : Tid) (slept waits : Option BufId) (call_state : CallState)
+    → slept ≡ None → waits ≡ None → call_state ≡ no_call
+    → CallStateFits (inner opening) [] t call_state.call slept waits call_state
+no_call_fits opening boots t slept waits call_state slept_none waits_none is =
+    subst (λ (x : CallState). CallStateFits (inner opening) [] t x.call slept waits x) (sym is) (record {
       stage_is = refl;
       stance = record {
         grip = λ lock. subst (λ locks. IsFreeOf t (locks lock)) (sym boots) (free_at t (caps_in opening) lock);
@@ -86,23 +86,23 @@ quiet_fits opening boots t slept waits talk slept_none waits_none is =
     })
 
 pub start_fits : (opening : LockId → Option (QueueBlock BufferLock)) (homes : List CpuId) (c d : CpuId) (past : List BufferEvent)
-    (own : Waiting BufferOut) (talks : List Talk)
+    (own : Waiting BufferOut) (call_states : List CallState)
     → BootsSo opening → past ≡ []
-    → own ≡ waiting_at_start homes c → talks ≡ replicate THREADS quiet → PartFits opening d past own talks None None
-start_fits opening homes c d past own talks boots none own_is talks_are = record {
+    → own ≡ waiting_at_start homes c → call_states ≡ replicate THREADS no_call → PartFits opening d past own call_states None None
+start_fits opening homes c d past own call_states boots none own_is call_states_are = record {
   boots = boots;
   sizes = record {
     slept = ap (λ (x : Waiting BufferOut). length x.lock.slept) own_is ∙ length-replicate {A = Option BufId} THREADS None;
     waits = ap (λ (x : Waiting BufferOut). length x.waits) own_is ∙ length-replicate {A = Option BufId} THREADS None;
-    talks_are = ap (λ (l : List Talk). length l) talks_are ∙ length-replicate {A = Talk} THREADS quiet;
+    call_states_are = ap (λ (l : List CallState). length l) call_states_are ∙ length-replicate {A = CallState} THREADS no_call;
   };
   calls = record {
     none = tt;
-    kept = ap (λ (x : Waiting BufferOut). x.lock.sleep.kept) own_is;
-    fit = λ u home. subst (λ log. FitsAt (inner opening) (buffer_sections log) own talks u) (sym none)
-        (quiet_fits opening boots u (slept_for own.lock.slept u) (slept_for own.waits u) (talk_of talks u)
+    deferred = ap (λ (x : Waiting BufferOut). x.lock.sleep.deferred) own_is;
+    fit = λ u home. subst (λ log. FitsAt (inner opening) (buffer_sections log) own call_states u) (sym none)
+        (no_call_fits opening boots u (slept_for own.lock.slept u) (slept_for own.waits u) (call_state_of call_states u)
         (ap (λ (x : Waiting BufferOut). slept_for x.lock.slept u) own_is ∙ same_default {A = Option BufId} THREADS u.0 None)
         (ap (λ (x : Waiting BufferOut). slept_for x.waits u) own_is ∙ same_default {A = Option BufId} THREADS u.0 None)
-        (ap (λ (l : List Talk). talk_of l u) talks_are ∙ same_default {A = Talk} THREADS u.0 quiet));
+        (ap (λ (l : List CallState). call_state_of l u) call_states_are ∙ same_default {A = CallState} THREADS u.0 no_call));
   };
 }

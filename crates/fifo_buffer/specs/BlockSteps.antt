@@ -22,7 +22,7 @@ kind_on Receivers = Recv
 kind_on Senders = Send
 
 -- the block after an effect of this kind with this message, of the thread that stands first on this side
-pub record Step (side : Side) (kind : Kind) (t : Tid) (value : Message) (x y : BufferState) : Type 0 where
+pub record BlockStep (side : Side) (kind : Kind) (t : Tid) (value : Message) (x y : BufferState) : Type 0 where
   pub counts : group_of kind ≡ group_of (kind_on side)
   pub leads : is_first t (line_of side x) ≡ true
   pub behind : line_of side y ≡ rest (line_of side x)
@@ -61,10 +61,10 @@ put_items : (closed : Bool) (items : List Message) (m : Message)
 put_items true items m = refl
 put_items false items m = refl
 
--- a put at its pace is a step of the senders: where the buffer is closed nothing is put
-pub put_step : (t : Tid) (m : Message) (x : BufferState) → is_next Senders t x ≡ true → Step Senders (effect_kind Senders x) t m x (put_in m x)
-put_step t m x pace =
-    let both = and_parts (is_first t x.send_line) (may_go Senders x) pace in
+-- a put at its section poll is a step of the senders: where the buffer is closed nothing is put
+pub put_step : (t : Tid) (m : Message) (x : BufferState) → is_next Senders t x ≡ true → BlockStep Senders (effect_kind Senders x) t m x (put_in m x)
+put_step t m x poll_section =
+    let both = and_parts (is_first t x.send_line) (may_go Senders x) poll_section in
     record {
       counts = kind_counts Senders x;
       leads = both.0;
@@ -97,11 +97,11 @@ take_items : (items : List Message) → other_items items ≡ after_effect (if n
 take_items [] = refl
 take_items (m ∷ items) = rw (some_item m items) (sym (drop_one (m ∷ items)))
 
--- a take at its pace is a step of the receivers: where there is no item the buffer is closed, and nothing is taken
+-- a take at its section poll is a step of the receivers: where there is no item the buffer is closed, and nothing is taken
 pub take_step : (t : Tid) (x : BufferState) → is_next Receivers t x ≡ true
-    → Step Receivers (effect_kind Receivers x) t (first_item x.items) x (taken_out x)
-take_step t x pace =
-    let both = and_parts (is_first t x.receive_line) (may_go Receivers x) pace in
+    → BlockStep Receivers (effect_kind Receivers x) t (first_item x.items) x (taken_out x)
+take_step t x poll_section =
+    let both = and_parts (is_first t x.receive_line) (may_go Receivers x) poll_section in
     record {
       counts = kind_counts Receivers x;
       leads = both.0;

@@ -7,7 +7,7 @@ use Rattle.layer_traits.specs.declared.buffer_edits.BufferEdit.{BufferEdit}
 use Rattle.layer_traits.specs.declared.buffer_edits.BufferOut.{BufferOut}
 use Rattle.layer_traits.specs.declared.queue_edits.QueueBlock.{QueueBlock}
 use Rattle.layer_traits.specs.declared.scheds.SchedCall.{SchedCall}
-use Rattle.layer_traits.specs.declared.talks.Talk.{Talk}
+use Rattle.layer_traits.specs.declared.call_states.CallState.{CallState}
 use Rattle.layer_traits.specs.BufferEffects.{opening_locks}
 use Rattle.layer_traits.specs.BufferProtocol.{BufferLock}
 use Rattle.layer_traits.specs.Conditions.{CvCall}
@@ -15,7 +15,7 @@ use Rattle.layer_traits.specs.CvLaw.{Waiting}
 use Rattle.layer_traits.specs.QueueBlocks.{homes_in, inner}
 use Rattle.layer_traits.specs.Queues.{buffer_sections}
 use Rattle.layer_traits.specs.Capacities.{caps_from}
-use Rattle.fifo_buffer.specs.Paces.{BufferEvent, CallsFit, Sizes}
+use Rattle.fifo_buffer.specs.SectionPolls.{BufferEvent, CallsFit, Sizes}
 
 -- the capacities of the buffers: a buffer's number is less than 256
 unfoldable pub caps_in : (LockId → Option (QueueBlock BufferLock)) → List ℕ
@@ -25,9 +25,9 @@ caps_in opening = caps_from (λ (lock : BufferLock). lock.above.capacity) 256 0 
 abbrev pub BootsSo : (LockId → Option (QueueBlock BufferLock)) → Type 0
 BootsSo opening = inner opening ≡ opening_locks (caps_in opening)
 
--- the lists by thread have their sizes, and each talk fits what was done
+-- the lists by thread have their sizes, and each call state fits what was done
 pub record PartFits (opening : LockId → Option (QueueBlock BufferLock)) (c : CpuId) (past : List BufferEvent) (own : Waiting BufferOut)
-    (talks : List Talk) (under_way : Option (SchedCall (CvCall BufferEdit))) (calling : Option Tid) : Type 0 where
+    (call_states : List CallState) (under_way : Option (SchedCall (CvCall BufferEdit))) (calling : Option Tid) : Type 0 where
   pub boots : BootsSo opening
-  pub sizes : Sizes own talks
-  pub calls : CallsFit (homes_in opening) c (inner opening) (buffer_sections past) own talks under_way calling
+  pub sizes : Sizes own call_states
+  pub calls : CallsFit (homes_in opening) c (inner opening) (buffer_sections past) own call_states under_way calling

@@ -10,42 +10,43 @@ use Rattle.event_log.specs.declared.ids.Tid.{Tid}
 use Rattle.event_log.specs.History.{IsLawful, same_lock}
 use Rattle.layer_traits.specs.declared.buffer_edits.BufferEdit.{BufferEdit}
 use Rattle.layer_traits.specs.declared.buffer_edits.BufferOut.{BufferOut}
-use Rattle.layer_traits.specs.declared.moves.Line.{Line}
+use Rattle.layer_traits.specs.declared.moves.WaitList.{WaitList}
 use Rattle.layer_traits.specs.declared.queue_edits.QueueBlock.{QueueBlock}
 use Rattle.layer_traits.specs.declared.scheds.SchedCall.{SchedCall}
 use Rattle.layer_traits.specs.declared.scheds.SchedCall.TheVariants as sched
-use Rattle.layer_traits.specs.declared.talks.Talk.{Talk}
+use Rattle.layer_traits.specs.declared.call_states.CallState.{CallState}
 use Rattle.layer_traits.specs.BufferEffects.{MayTakeEffect, effects_in, fresh_lock, opening_locks}
-use Rattle.layer_traits.specs.BufferProtocol.{BufferLock, BufferSection, buffer_deeds}
+use Rattle.layer_traits.specs.BufferProtocol.{BufferLock, BufferSection, buffer_monitor_rules}
 use Rattle.layer_traits.specs.Conditions.{CvCall, cv_rules}
 use Rattle.layer_traits.specs.CvLaw.{Waiting}
-use Rattle.layer_traits.specs.IpcLaw.{LinesAgree}
+use Rattle.layer_traits.specs.IpcLaw.{WaitListsAgree}
 use Rattle.layer_traits.specs.ListsAgree.{is_at}
 use Rattle.layer_traits.specs.LockLaw.{LocksAgree, lock_kernel}
-use Rattle.layer_traits.specs.Locking.{line_in, lock_after, lock_edited}
-use Rattle.layer_traits.specs.Places.{Asleep, At, count_in, one_if, berth_of, where_is}
+use Rattle.layer_traits.specs.Locking.{wait_list_in, lock_after, lock_edited}
+use Rattle.layer_traits.specs.Places.{Asleep, At, count_in, one_if, wait_channel_of, where_is}
 use Rattle.layer_traits.specs.QueueBlocks.{homes_in, inner}
 use Rattle.layer_traits.specs.Queues.{QueueAllowed, buffer_sections, moves_in}
-use Rattle.layer_traits.proofs.ListsLemmas.{berth_here}
+use Rattle.layer_traits.proofs.ListsLemmas.{wait_channel_here}
 use Rattle.fifo_buffer.specs.FifoFits.{BootsSo, PartFits, caps_in}
 use Rattle.fifo_buffer.specs.Tallies.{effects_lawful}
-use Rattle.fifo_buffer.specs.Paces.{BufferEvent, doing_at}
+use Rattle.fifo_buffer.specs.SectionPolls.{BufferEvent, under_way_at}
 
 -- each effect may come after those before it
 pub fifo_lawful : (opening : LockId → Option (QueueBlock BufferLock)) (past : List BufferEvent) → BootsSo opening
-    → IsLawful (QueueAllowed (lock_kernel (cv_rules buffer_deeds) opening)) past → IsLawful (MayTakeEffect (caps_in opening))
+    → IsLawful (QueueAllowed (lock_kernel (cv_rules buffer_monitor_rules) opening)) past → IsLawful (MayTakeEffect (caps_in opening))
     (effects_in (inner opening) (buffer_sections past))
 fifo_lawful opening past boots lawful = effects_lawful opening (caps_in opening) boots past lawful
 
 -- a lock that is there after some sections was there at the start
 none_after : (s : BufferSection) (x : Option BufferLock) (b : Bool) → x ≡ None
-    → (if b then option_map (lock_edited (cv_rules buffer_deeds) s.edit) x else x) ≡ None
-none_after s x true none = ap (option_map (lock_edited (cv_rules buffer_deeds) s.edit)) none
+    → (if b then option_map (lock_edited (cv_rules buffer_monitor_rules) s.edit) x else x) ≡ None
+none_after s x true none = ap (option_map (lock_edited (cv_rules buffer_monitor_rules) s.edit)) none
 none_after s x false none = none
 
-was_there : (O : LockId → Option BufferLock) (past : List BufferSection) (lock : LockId) → O lock ≡ None → lock_after (cv_rules buffer_deeds) O lock past ≡ None
+was_there : (O : LockId → Option BufferLock) (past : List BufferSection) (lock : LockId) → O lock ≡ None
+    → lock_after (cv_rules buffer_monitor_rules) O lock past ≡ None
 was_there O [] lock none = none
-was_there O (s ∷ past) lock none = none_after s (lock_after (cv_rules buffer_deeds) O lock past) (same_lock lock s.lock) (was_there O past lock none)
+was_there O (s ∷ past) lock none = none_after s (lock_after (cv_rules buffer_monitor_rules) O lock past) (same_lock lock s.lock) (was_there O past lock none)
 
 -- only the buffers of the capacities have locks
 only_buffers : (caps : List ℕ) (lock : LockId) → (opening_locks caps lock ≡ None) ⊎ ((b : BufId) × (lock ≡ Buffer b) × (b.0 < length caps))
@@ -58,33 +59,34 @@ only_buffers caps (Buffer b) = go (slice_get caps b.0) refl
     go (Some n) is = inr (b, refl, slice_get_within caps b.0 n is)
 
 -- the waiting lists of the buffers agree with the places
-pub fifo_lines : (opening : LockId → Option (QueueBlock BufferLock)) (past : List BufferEvent) → BootsSo opening
-    → LocksAgree (cv_rules buffer_deeds) opening past
-    → LinesAgree (length (caps_in opening)) (homes_in opening) (moves_in (lock_kernel (cv_rules buffer_deeds) opening) past)
-    (λ b line. line_in line (lock_after (cv_rules buffer_deeds) (inner opening) (Buffer b) (buffer_sections past)))
-fifo_lines opening past boots agree = record {
+pub fifo_wait_lists : (opening : LockId → Option (QueueBlock BufferLock)) (past : List BufferEvent) → BootsSo opening
+    → LocksAgree (cv_rules buffer_monitor_rules) opening past
+    → WaitListsAgree (length (caps_in opening)) (homes_in opening) (moves_in (lock_kernel (cv_rules buffer_monitor_rules) opening) past)
+    (λ b line. wait_list_in line (lock_after (cv_rules buffer_monitor_rules) (inner opening) (Buffer b) (buffer_sections past)))
+fifo_wait_lists opening past boots agree = record {
   once = λ b line t there. agree (Buffer b) line t;
   known = λ t lock line is. go t lock line is (only_buffers (caps_in opening) lock);
 }
   where
-    go : (t : Tid) (lock : LockId) (line : Line)
-        → where_is (homes_in opening) (moves_in (lock_kernel (cv_rules buffer_deeds) opening) past) t ≡ Asleep (At lock line)
+    go : (t : Tid) (lock : LockId) (line : WaitList)
+        → where_is (homes_in opening) (moves_in (lock_kernel (cv_rules buffer_monitor_rules) opening) past) t ≡ Asleep (At lock line)
         → (opening_locks (caps_in opening) lock ≡ None) ⊎ ((b : BufId) × (lock ≡ Buffer b) × (b.0 < length (caps_in opening)))
         → (b : BufId) × (lock ≡ Buffer b) × (b.0 < length (caps_in opening))
     go t lock line is (inr found) = found
     go t lock line is (inl none) =
-        let gone : lock_after (cv_rules buffer_deeds) (inner opening) lock (buffer_sections past) ≡ None
+        let gone : lock_after (cv_rules buffer_monitor_rules) (inner opening) lock (buffer_sections past) ≡ None
         = was_there (inner opening) (buffer_sections past) lock (ap (λ locks. locks lock) boots ∙ none) in
         let count : 0 ≡ 1
-        = sym (ap (λ x. count_in t (line_in line x)) gone) ∙ agree lock line t ∙ ap (λ w. one_if (is_at lock line (berth_of w))) is ∙ ap one_if
-        (berth_here lock line) in
+        = sym (ap (λ x. count_in t (wait_list_in line x)) gone) ∙ agree lock line t ∙ ap (λ w. one_if (is_at lock line (wait_channel_of w))) is ∙ ap one_if
+        (wait_channel_here lock line) in
         absurd (omega (arith, count))
 
 -- a CPU that is at nothing has no call under way beneath
-pub none_under : (opening : LockId → Option (QueueBlock BufferLock)) (c : CpuId) (past : List BufferEvent) (own : Waiting BufferOut) (talks : List Talk)
-    (under_way : Option (SchedCall (CvCall BufferEdit))) (calling : Option Tid) → PartFits opening c past own talks under_way calling
-    → doing_at calling under_way ≡ None → under_way ≡ None
-none_under opening c past own talks None calling fits nothing = refl
-none_under opening c past own talks (Some (sched.Pass p)) None fits nothing = absurd cc
-none_under opening c past own talks (Some (sched.OnBuffer b e)) None fits nothing = absurd fits.calls.none
-none_under opening c past own talks (Some s) (Some t) fits nothing = absurd cc
+pub none_under : (opening : LockId → Option (QueueBlock BufferLock)) (c : CpuId) (past : List BufferEvent) (own : Waiting BufferOut)
+    (call_states : List CallState)
+    (under_way : Option (SchedCall (CvCall BufferEdit))) (calling : Option Tid) → PartFits opening c past own call_states under_way calling
+    → under_way_at calling under_way ≡ None → under_way ≡ None
+none_under opening c past own call_states None calling fits nothing = refl
+none_under opening c past own call_states (Some (sched.Pass p)) None fits nothing = absurd cc
+none_under opening c past own call_states (Some (sched.OnBuffer b e)) None fits nothing = absurd fits.calls.none
+none_under opening c past own call_states (Some s) (Some t) fits nothing = absurd cc

@@ -1,5 +1,5 @@
 pub mod Stances
-pub mod Paces
+pub mod SectionPolls
 pub mod FifoFits
 pub mod BlockSteps
 pub mod Tallies

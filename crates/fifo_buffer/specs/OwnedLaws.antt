@@ -16,27 +16,27 @@ use Rattle.event_log.specs.Messages.{Message}
 use Rattle.event_log.specs.Runs.{is_closed}
 use Rattle.event_log.specs.Sections.{sections_in}
 use Rattle.layer_traits.specs.declared.buffer_edits.BufferEdit.{BufferEdit}
-use Rattle.layer_traits.specs.declared.moves.Line.{Line}
+use Rattle.layer_traits.specs.declared.moves.WaitList.{WaitList}
 use Rattle.layer_traits.specs.declared.queue_edits.QueueBlock.{QueueBlock}
 use Rattle.layer_traits.specs.declared.queues.QueueCall.{QueueCall}
 use Rattle.layer_traits.specs.declared.queues.QueueCall.TheVariants.{Push, TakeAll, OnBuffer}
 use Rattle.layer_traits.specs.Acted.{BufferActs, ItemsAre}
 use Rattle.layer_traits.specs.BufferEffects.{contents_of, drawn, effect_of, effects_in, fresh_lock}
-use Rattle.layer_traits.specs.BufferProtocol.{BufferLock, BufferSection, buffer_at, buffer_deeds}
+use Rattle.layer_traits.specs.BufferProtocol.{BufferLock, BufferSection, buffer_at, buffer_monitor_rules}
 use Rattle.layer_traits.specs.Conditions.{CvCall, cv_rules}
 use Rattle.layer_traits.specs.LockLaw.{lock_kernel}
-use Rattle.layer_traits.specs.Locking.{line_in, lock_after, lock_edited, owner_in}
-use Rattle.layer_traits.specs.Owned.{IsShown}
+use Rattle.layer_traits.specs.Locking.{wait_list_in, lock_after, lock_edited, owner_in}
+use Rattle.layer_traits.specs.Owned.{IsObserved}
 use Rattle.layer_traits.specs.Protocol.{section}
 use Rattle.layer_traits.specs.QueueBlocks.{StartsWell, above_of, inner}
 use Rattle.layer_traits.specs.QueueRules.{AreProper}
 use Rattle.layer_traits.specs.Queues.{IsKnownEvent, QueueAllowed, buffer_sections, event_of, with_section}
-use Rattle.layer_traits.specs.Told.{IsTold}
+use Rattle.layer_traits.specs.Observed.{IsObservedAs}
 use Rattle.layer_traits.proofs.ActedLemmas.{lock_is}
-use Rattle.layer_traits.proofs.OwnedLemmas.{shown_under, told_shown, viewed_shown}
+use Rattle.layer_traits.proofs.OwnedLemmas.{shown_under, observed_as, viewed_shown}
 use Rattle.fifo_buffer.specs.FifoFits.{BootsSo, caps_in}
 use Rattle.fifo_buffer.specs.Tallies.{all_tallied, effect_position}
-use Rattle.fifo_buffer.specs.Paces.{BufferEvent}
+use Rattle.fifo_buffer.specs.SectionPolls.{BufferEvent}
 
 -- the items of a lock's buffer, whether it is closed, its owner, and its waiting lists
 abbrev pub items_in : BufferLock → List Message
@@ -48,25 +48,25 @@ closed_of lock = lock.above.closed
 abbrev pub owner_of : BufferLock → Option Tid
 owner_of lock = lock.owner
 
-abbrev pub lines_of : BufferLock → Line → List Tid
-lines_of lock line = line_in line (Some lock)
+abbrev pub wait_lists_of : BufferLock → WaitList → List Tid
+wait_lists_of lock line = wait_list_in line (Some lock)
 
 -- the lock of a buffer after these events
-abbrev pub lock_of : (LockId → Option (QueueBlock BufferLock)) → List BufferEvent → BufId → Option BufferLock
-lock_of opening past b = lock_after (cv_rules buffer_deeds) (inner opening) (Buffer b) (buffer_sections past)
+abbrev pub buffer_lock_of : (LockId → Option (QueueBlock BufferLock)) → List BufferEvent → BufId → Option BufferLock
+buffer_lock_of opening past b = lock_after (cv_rules buffer_monitor_rules) (inner opening) (Buffer b) (buffer_sections past)
 
 -- a lock that was there at the start is there after some sections
 some_after : (s : BufferSection) (x : Option BufferLock) (b : Bool) → IsSome x
-    → IsSome (if b then option_map (lock_edited (cv_rules buffer_deeds) s.edit) x else x)
+    → IsSome (if b then option_map (lock_edited (cv_rules buffer_monitor_rules) s.edit) x else x)
 some_after s x false some = some
 some_after s None true some = absurd cc
 some_after s (Some lock) true some = refl
 
 stays_there : (O : LockId → Option BufferLock) (past : List BufferSection) (lock : LockId) → IsSome (O lock)
-    → IsSome (lock_after (cv_rules buffer_deeds) O lock past)
+    → IsSome (lock_after (cv_rules buffer_monitor_rules) O lock past)
 stays_there O [] lock some = some
 stays_there O (s ∷ past) lock some =
-    some_after s (lock_after (cv_rules buffer_deeds) O lock past) (same_lock lock s.lock) (stays_there O past lock some)
+    some_after s (lock_after (cv_rules buffer_monitor_rules) O lock past) (same_lock lock s.lock) (stays_there O past lock some)
 
 module _ (opening : LockId → Option (QueueBlock BufferLock)) (boots : BootsSo opening) (b : BufId) (within : b.0 < length (caps_in opening)) where
   -- a buffer of the capacities has a lock, at the start
@@ -83,31 +83,31 @@ module _ (opening : LockId → Option (QueueBlock BufferLock)) (boots : BootsSo 
       go (Some block) some = refl
 
   -- and after any events
-  pub found : (past : List BufferEvent) → (lock : BufferLock) × (lock_of opening past b ≡ Some lock)
-  found past = go (lock_of opening past b) refl (stays_there (inner opening) (buffer_sections past) (Buffer b) inner_there)
+  pub found : (past : List BufferEvent) → (lock : BufferLock) × (buffer_lock_of opening past b ≡ Some lock)
+  found past = go (buffer_lock_of opening past b) refl (stays_there (inner opening) (buffer_sections past) (Buffer b) inner_there)
     where
-      go : (o : Option BufferLock) → lock_of opening past b ≡ o → IsSome o → (lock : BufferLock) × (lock_of opening past b ≡ Some lock)
+      go : (o : Option BufferLock) → buffer_lock_of opening past b ≡ o → IsSome o → (lock : BufferLock) × (buffer_lock_of opening past b ≡ Some lock)
       go None is some = absurd cc
       go (Some lock) is some = (lock, is)
 
   -- its items are those that the effects leave
-  pub items_told : (past : List BufferEvent) → IsLawful (QueueAllowed (lock_kernel (cv_rules buffer_deeds) opening)) past
-      → option_map items_in (lock_of opening past b)
+  pub items_read : (past : List BufferEvent) → IsLawful (QueueAllowed (lock_kernel (cv_rules buffer_monitor_rules) opening)) past
+      → option_map items_in (buffer_lock_of opening past b)
       ≡ Some (items_of (contents_of (caps_in opening) (effects_in (inner opening) (buffer_sections past))) b.0)
-  items_told past lawful =
+  items_read past lawful =
       let lock = found past in
       ap (option_map items_in) lock.1 ∙ ap Some (sym (all_tallied opening (caps_in opening) boots past lawful b lock.0 lock.1).items)
 
   -- and it is closed where one of them closed it
-  pub closed_told : (past : List BufferEvent) → IsLawful (QueueAllowed (lock_kernel (cv_rules buffer_deeds) opening)) past
-      → option_map closed_of (lock_of opening past b) ≡ Some (is_closed (effects_in (inner opening) (buffer_sections past)) b.0)
-  closed_told past lawful =
+  pub closed_read : (past : List BufferEvent) → IsLawful (QueueAllowed (lock_kernel (cv_rules buffer_monitor_rules) opening)) past
+      → option_map closed_of (buffer_lock_of opening past b) ≡ Some (is_closed (effects_in (inner opening) (buffer_sections past)) b.0)
+  closed_read past lawful =
       let lock = found past in
       ap (option_map closed_of) lock.1 ∙ ap Some (sym (all_tallied opening (caps_in opening) boots past lawful b lock.0 lock.1).closed)
 
   -- and where they are those of the actions' sections, they are what these leave in its lock
   pub items_acted : (past : List BufferEvent) (acts : BufferActs) → StartsWell opening → AreProper (sections_in acts)
-      → past ≡ map event_of (sections_in acts) → IsLawful (QueueAllowed (lock_kernel (cv_rules buffer_deeds) opening)) past
+      → past ≡ map event_of (sections_in acts) → IsLawful (QueueAllowed (lock_kernel (cv_rules buffer_monitor_rules) opening)) past
       → ItemsAre opening acts b (items_of (contents_of (caps_in opening) (effects_in (inner opening) (buffer_sections past))) b.0)
       (slice_index (caps_in opening) b.0) (is_closed (effects_in (inner opening) (buffer_sections past)) b.0)
   items_acted past acts starts proper past_is lawful =
@@ -121,34 +121,34 @@ module _ (opening : LockId → Option (QueueBlock BufferLock)) (boots : BootsSo 
         shut = tally.closed;
       }
 
-  pub owner_told : (past : List BufferEvent) → option_map owner_of (lock_of opening past b) ≡ Some (owner_in (lock_of opening past b))
-  owner_told past =
+  pub owner_read : (past : List BufferEvent) → option_map owner_of (buffer_lock_of opening past b) ≡ Some (owner_in (buffer_lock_of opening past b))
+  owner_read past =
       let lock = found past in
       ap (option_map owner_of) lock.1 ∙ ap (λ o. Some (owner_in o)) (sym lock.1)
 
-  pub lines_told : (past : List BufferEvent)
-      → option_map lines_of (lock_of opening past b) ≡ Some (λ (line : Line). line_in line (lock_of opening past b))
-  lines_told past =
+  pub wait_lists_read : (past : List BufferEvent)
+      → option_map wait_lists_of (buffer_lock_of opening past b) ≡ Some (λ (line : WaitList). wait_list_in line (buffer_lock_of opening past b))
+  wait_lists_read past =
       let lock = found past in
-      ap (option_map lines_of) lock.1 ∙ ap (λ o. Some (λ (line : Line). line_in line o)) (sym lock.1)
+      ap (option_map wait_lists_of) lock.1 ∙ ap (λ o. Some (λ (line : WaitList). wait_list_in line o)) (sym lock.1)
 
 -- what the conditions tell of a lock, the buffers tell of a view of it
 module _ {P Q : Type 0} (below : Q → P) (FitsP : P → Type 0) (FitsQ : Q → Type 0) (cpu_below : P → CpuId)
     (IsInside : CpuId → Type 0) (fits : (q : Q) → FitsQ q → FitsP (below q)) where
-  pub lock_told : {A : Type 0} (lock : Option BufferLock) (view : BufferLock → A) (tells : P → Option BufferLock) (home : Option BufferLock) (x : A)
-      → option_map view lock ≡ Some x → IsShown FitsP cpu_below IsInside tells home lock
-      → IsTold FitsQ (λ q. cpu_below (below q)) IsInside (λ q. option_map view (tells (below q))) (option_map view home) x
-  lock_told lock view tells home x is shown =
-      told_shown FitsQ (λ q. cpu_below (below q)) IsInside (λ q. option_map view (tells (below q))) (option_map view home) (option_map view lock) x is
+  pub lock_read : {A : Type 0} (lock : Option BufferLock) (view : BufferLock → A) (tells : P → Option BufferLock) (home : Option BufferLock) (x : A)
+      → option_map view lock ≡ Some x → IsObserved FitsP cpu_below IsInside tells home lock
+      → IsObservedAs FitsQ (λ q. cpu_below (below q)) IsInside (λ q. option_map view (tells (below q))) (option_map view home) x
+  lock_read lock view tells home x is shown =
+      observed_as FitsQ (λ q. cpu_below (below q)) IsInside (λ q. option_map view (tells (below q))) (option_map view home) (option_map view lock) x is
       (viewed_shown view FitsQ (λ q. cpu_below (below q)) IsInside (λ q. tells (below q)) home lock (option_map view lock) refl
       (shown_under below FitsP FitsQ cpu_below (λ q. cpu_below (below q)) IsInside IsInside tells home lock fits (λ q fit. refl) (λ c is. is) shown))
 
   -- and of a pending queue what they tell
-  pub queue_told : (tells : P → Option (List Tid)) (home : Option (List Tid)) (queue : List Tid)
-      → IsShown FitsP cpu_below IsInside tells home (Some queue)
-      → IsTold FitsQ (λ q. cpu_below (below q)) IsInside (λ q. tells (below q)) home queue
-  queue_told tells home queue shown =
-      told_shown FitsQ (λ q. cpu_below (below q)) IsInside (λ q. tells (below q)) home (Some queue) queue refl
+  pub queue_read : (tells : P → Option (List Tid)) (home : Option (List Tid)) (queue : List Tid)
+      → IsObserved FitsP cpu_below IsInside tells home (Some queue)
+      → IsObservedAs FitsQ (λ q. cpu_below (below q)) IsInside (λ q. tells (below q)) home queue
+  queue_read tells home queue shown =
+      observed_as FitsQ (λ q. cpu_below (below q)) IsInside (λ q. tells (below q)) home (Some queue) queue refl
       (shown_under below FitsP FitsQ cpu_below (λ q. cpu_below (below q)) IsInside IsInside tells home (Some queue) fits (λ q fit. refl) (λ c is. is)
       shown)
 

@@ -11,14 +11,14 @@ use Rattle.layer_traits.specs.declared.locked.QEdit.TheVariants.{Acquire, Inside
 use Rattle.layer_traits.specs.declared.locked.Side.{Side}
 use Rattle.layer_traits.specs.declared.queue_edits.QueueBlock.{QueueBlock}
 use Rattle.layer_traits.specs.BufferEffects.{drawn_in}
-use Rattle.layer_traits.specs.BufferProtocol.{BufferLock, BufferSection, buffer_at, buffer_deeds}
+use Rattle.layer_traits.specs.BufferProtocol.{BufferLock, BufferSection, buffer_at, buffer_monitor_rules}
 use Rattle.layer_traits.specs.Conditions.{CvCall, cv_rules}
 use Rattle.layer_traits.specs.LockLaw.{lock_kernel}
 use Rattle.layer_traits.specs.QueueBlocks.{StartsWell, inner}
 use Rattle.layer_traits.specs.Queues.{QueueAllowed, buffer_sections}
 use Rattle.fifo_buffer.specs.FifoFits.{BootsSo, caps_in}
 use Rattle.fifo_buffer.specs.Stances.{same_side}
-use Rattle.fifo_buffer.specs.Paces.{BufferEvent}
+use Rattle.fifo_buffer.specs.SectionPolls.{BufferEvent}
 
 -- whether a call enters this side's line
 abbrev pub enters : Side → CvCall BufferEdit → Bool
@@ -37,6 +37,6 @@ entries_of side lock past = how_many (λ s. same_lock lock s.lock && enters side
 -- after lawful events a line's counter, which is the position of the next thread that enters, is the number of threads that entered it
 abbrev pub PositionsAreCounts : Type 0
 PositionsAreCounts = (opening : LockId → Option (QueueBlock BufferLock)) (past : List BufferEvent) → StartsWell opening → BootsSo opening
-    → IsLawful (QueueAllowed (lock_kernel (cv_rules buffer_deeds) opening)) past → (b : BufId) (side : Side) → b.0 < length (caps_in opening)
+    → IsLawful (QueueAllowed (lock_kernel (cv_rules buffer_monitor_rules) opening)) past → (b : BufId) (side : Side) → b.0 < length (caps_in opening)
     → drawn_in side (buffer_at (inner opening) (buffer_sections past) (Buffer b))
     ≡ entries_of side (Buffer b) (buffer_sections past) % 2 ^ 64

@@ -16,12 +16,12 @@ use Rattle.layer_traits.specs.declared.locked.QOut.{QOut}
 use Rattle.layer_traits.specs.declared.locked.QOut.TheVariants.{Acquired, Queued, Did, Released}
 use Rattle.layer_traits.specs.declared.locked.Side.{Side}
 use Rattle.layer_traits.specs.declared.locked.Side.TheVariants.{Receivers, Senders}
-use Rattle.layer_traits.specs.declared.talks.Stage.{Stage}
-use Rattle.layer_traits.specs.declared.talks.Stage.TheVariants.{Between, Acquires, Enters, Tries, Waits, AcquiresAgain, Signals, SignalsOwn, Releases}
-use Rattle.layer_traits.specs.declared.talks.Talk.{Talk}
+use Rattle.layer_traits.specs.declared.call_states.Stage.{Stage}
+use Rattle.layer_traits.specs.declared.call_states.Stage.TheVariants.{Idle, Acquires, Enters, Tries, Waits, AcquiresAgain, Signals, SignalsOwn, Releases}
+use Rattle.layer_traits.specs.declared.call_states.CallState.{CallState}
 use Rattle.layer_traits.specs.BufferBlocks.{line_of}
 use Rattle.layer_traits.specs.BufferEffects.{drawn}
-use Rattle.layer_traits.specs.BufferLaw.{buffer_of, heard, side_of}
+use Rattle.layer_traits.specs.BufferLaw.{buffer_of, recorded, side_of}
 use Rattle.layer_traits.specs.BufferProtocol.{BufferLock, BufferSection, buffer_at, has_tried_in_vain}
 use Rattle.layer_traits.specs.Places.{count_in, one_if}
 use Rattle.thread_blocks.specs.Queues.{is_in}
@@ -57,7 +57,7 @@ Grip t false false lock = IsFreeOf t lock
 
 -- what a stage says of its thread: whether it holds its buffer's lock, given whether it waits; and whether it stands in its line
 abbrev pub holds_at : Stage → Bool → Bool
-holds_at Between waits = false
+holds_at Idle waits = false
 holds_at Acquires waits = false
 holds_at Enters waits = true
 holds_at Tries waits = true
@@ -68,7 +68,7 @@ holds_at SignalsOwn waits = true
 holds_at Releases waits = true
 
 abbrev pub lined_at : Stage → Bool
-lined_at Between = false
+lined_at Idle = false
 lined_at Acquires = false
 lined_at Enters = false
 lined_at Tries = true
@@ -80,7 +80,7 @@ lined_at Releases = false
 
 -- whether a thread may sleep for its lock there, whether it may wait, and whether its effect is done
 abbrev pub asks_at : Stage → Bool
-asks_at Between = false
+asks_at Idle = false
 asks_at Acquires = true
 asks_at Enters = false
 asks_at Tries = false
@@ -91,7 +91,7 @@ asks_at SignalsOwn = false
 asks_at Releases = false
 
 abbrev pub waits_at : Stage → Bool
-waits_at Between = false
+waits_at Idle = false
 waits_at Acquires = false
 waits_at Enters = false
 waits_at Tries = false
@@ -102,7 +102,7 @@ waits_at SignalsOwn = false
 waits_at Releases = false
 
 abbrev pub done_at : Stage → Bool
-done_at Between = true
+done_at Idle = true
 done_at Acquires = false
 done_at Enters = false
 done_at Tries = false
@@ -114,7 +114,7 @@ done_at Releases = true
 
 -- whether a stage is one of a call
 abbrev pub called_at : Stage → Bool
-called_at Between = false
+called_at Idle = false
 called_at Acquires = true
 called_at Enters = true
 called_at Tries = true
@@ -154,22 +154,22 @@ module _ (opening : LockId → Option BufferLock) (past : List BufferSection) (t
 
   -- a thread between calls
   pub record AtRest (slept waits : Option BufId) (stage : Stage) : Type 0 where
-    pub stage_is : stage ≡ Between
+    pub stage_is : stage ≡ Idle
     pub stance : Stance (record { 0 = 0 }) Senders false false false 0
     pub slept_none : slept ≡ None
     pub waits_none : waits ≡ None
 
-  -- a thread's talk, by its call
-  abbrev pub TalkFits : Option Call → Option BufId → Option BufId → Talk → Type 0
-  TalkFits None slept waits talk = AtRest slept waits talk.stage
-  TalkFits (Some call) slept waits talk = InCall call slept waits talk.stage talk.position talk.effect
+  -- a thread's call state, by its call
+  abbrev pub CallStateFits : Option Call → Option BufId → Option BufId → CallState → Type 0
+  CallStateFits None slept waits call_state = AtRest slept waits call_state.stage
+  CallStateFits (Some call) slept waits call_state = InCall call slept waits call_state.stage call_state.position call_state.effect
 
-  abbrev pub ThreadFits : Option BufId → Option BufId → Talk → Type 0
-  ThreadFits slept waits talk = TalkFits talk.call slept waits talk
+  abbrev pub ThreadFits : Option BufId → Option BufId → CallState → Type 0
+  ThreadFits slept waits call_state = CallStateFits call_state.call slept waits call_state
 
--- a talk within a call
-abbrev pub talk_in : Stage → Call → ℕ → Option Effect → Talk
-talk_in stage call position effect = record { stage = stage; call = Some call; position = position; effect = effect }
+-- a call state within a call
+abbrev pub call_state_in : Stage → Call → ℕ → Option Effect → CallState
+call_state_in stage call position effect = record { stage = stage; call = Some call; position = position; effect = effect }
 
 -- what a section's answer leaves of the marks of its caller: whether it sleeps for the lock, and whether it waits
 abbrev pub slept_by : BufId → QOut (CvOut BufferOut) → Option BufId
@@ -178,27 +178,27 @@ slept_by b Queued = Some b
 slept_by b (Did out) = None
 slept_by b (Released out) = None
 
-abbrev pub waits_told : BufId → CvOut BufferOut → Option BufId
-waits_told b (answer.Did out) = None
-waits_told b (answer.Signalled side front) = None
-waits_told b answer.Left = None
-waits_told b (answer.Waited side) = Some b
+abbrev pub waits_reported : BufId → CvOut BufferOut → Option BufId
+waits_reported b (answer.Did out) = None
+waits_reported b (answer.Signalled side front) = None
+waits_reported b answer.Left = None
+waits_reported b (answer.Waited side) = Some b
 
 abbrev pub waits_by : BufId → QOut (CvOut BufferOut) → Option BufId
 waits_by b Acquired = None
 waits_by b Queued = None
 waits_by b (Did out) = None
-waits_by b (Released out) = waits_told b out
+waits_by b (Released out) = waits_reported b out
 
--- and of its talk: whoever sleeps or waits has not heard yet
-abbrev pub heard_in : Talk → Stage → CvOut BufferOut → Talk
-heard_in talk stage (answer.Did out) = heard talk stage (Released (answer.Did out))
-heard_in talk stage (answer.Signalled side front) = heard talk stage (Released (answer.Signalled side front))
-heard_in talk stage answer.Left = heard talk stage (Released answer.Left)
-heard_in talk stage (answer.Waited side) = talk
+-- and of its call state: whoever sleeps or waits has not heard yet
+abbrev pub recorded_in : CallState → Stage → CvOut BufferOut → CallState
+recorded_in call_state stage (answer.Did out) = recorded call_state stage (Released (answer.Did out))
+recorded_in call_state stage (answer.Signalled side front) = recorded call_state stage (Released (answer.Signalled side front))
+recorded_in call_state stage answer.Left = recorded call_state stage (Released answer.Left)
+recorded_in call_state stage (answer.Waited side) = call_state
 
-abbrev pub heard_by : Talk → Stage → QOut (CvOut BufferOut) → Talk
-heard_by talk stage Acquired = heard talk stage Acquired
-heard_by talk stage Queued = talk
-heard_by talk stage (Did out) = heard talk stage (Did out)
-heard_by talk stage (Released out) = heard_in talk stage out
+abbrev pub recorded_by : CallState → Stage → QOut (CvOut BufferOut) → CallState
+recorded_by call_state stage Acquired = recorded call_state stage Acquired
+recorded_by call_state stage Queued = call_state
+recorded_by call_state stage (Did out) = recorded call_state stage (Did out)
+recorded_by call_state stage (Released out) = recorded_in call_state stage out

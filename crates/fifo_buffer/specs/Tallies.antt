@@ -33,7 +33,7 @@ use Rattle.layer_traits.specs.BufferBlocks.{BufferState, effect_kind, empty_bloc
 use Rattle.layer_traits.specs.BufferBlocks.{line_of, may_join, drawn_of, put_in, shut, taken_out}
 use Rattle.layer_traits.specs.BufferEffects.{MayTakeEffect, contents_of, drawn, effect_of, effect_on, effects_in, entry}
 use Rattle.layer_traits.specs.BufferEffects.{fresh_lock, is_enter, opening_locks, drawn_in}
-use Rattle.layer_traits.specs.BufferProtocol.{BufferLock, BufferSection, IsDue, buffer_at, buffer_deeds, buffer_rules, is_in_line}
+use Rattle.layer_traits.specs.BufferProtocol.{BufferLock, BufferSection, IsDue, buffer_at, buffer_monitor_rules, buffer_rules, is_in_line}
 use Rattle.layer_traits.specs.Conditions.{CvCall, cv_rules}
 use Rattle.layer_traits.specs.LockLaw.{lock_kernel}
 use Rattle.layer_traits.specs.Locking.{asked, lock_edited}
@@ -43,9 +43,9 @@ use Rattle.layer_traits.specs.Queues.{QueueAllowed, buffer_sections, with_sectio
 use Rattle.layer_traits.proofs.ItemLemmas.{one_more}
 use Rattle.thread_blocks.specs.Queues.{same_tid, is_in, rest}
 use Rattle.thread_blocks.proofs.Members.{same_tid_self, same_tid_true}
-use Rattle.fifo_buffer.specs.BlockSteps.{Step, kind_on, put_step, take_step}
+use Rattle.fifo_buffer.specs.BlockSteps.{BlockStep, kind_on, put_step, take_step}
 use Rattle.fifo_buffer.specs.Stances.{same_side}
-use Rattle.fifo_buffer.specs.Paces.{BufferEvent}
+use Rattle.fifo_buffer.specs.SectionPolls.{BufferEvent}
 
 -- the threads of a line have drawn the positions n, n + 1 and so on, modulo 2^64
 abbrev pub IsNumbered : (Tid → ℕ) → ℕ → List Tid → Type 0
@@ -227,7 +227,7 @@ module _ (caps : List ℕ) (b : ℕ) (es : List Entry) where
 
   -- the effect of a step may come, and the block after it tells the effects with it
   step_may : (cpu : CpuId) (at : BufId) → at.0 ≡ b → (side : Side) (kind : Kind) (u : Tid) (value : Message) (x y : BufferState)
-      → Step side kind u value x y → (p : Side → Tid → ℕ) → Tally caps b es p x → MayTakeEffect caps es (entry cpu u kind at value x.effects (p side u))
+      → BlockStep side kind u value x y → (p : Side → Tid → ℕ) → Tally caps b es p x → MayTakeEffect caps es (entry cpu u kind at value x.effects (p side u))
   step_may cpu at here side kind u value x y step p tally = rw here (record {
     known = tally.known;
     allowed = rw (tally.closed, tally.capacity, tally.items) step.allowed;
@@ -247,7 +247,7 @@ module _ (caps : List ℕ) (b : ℕ) (es : List Entry) where
       ∙ ap (after_effect kind items) is_value
 
   step_tally : (e : Entry) → e.buffer.0 ≡ b → (side : Side) (kind : Kind) → e.kind ≡ kind → (u : Tid) (value : Message) → e.value ≡ value
-      → (x y : BufferState) → Step side kind u value x y
+      → (x y : BufferState) → BlockStep side kind u value x y
       → (p q : Side → Tid → ℕ) → ((at : Side) (t : Tid) → q at t ≡ p at t) → Tally caps b es p x → Tally caps b (e ∷ es) q y
   step_tally e here side kind is_kind u value is_value x y step p q same tally = record {
     known = tally.known;
@@ -354,17 +354,17 @@ module _ (caps : List ℕ) (b : ℕ) (es : List Entry) where
   put_here : (cpu : CpuId) (at : BufId) → at.0 ≡ b → (u : Tid) (m : Message) (p q : Side → Tid → ℕ) (lock : BufferLock)
       → ((side : Side) (t : Tid) → q side t ≡ p side t)
       → Tally caps b es p lock.above → (v : Bool) → is_next Senders u lock.above ≡ v → StepHere cpu at (Inside (Edit (TryPut u m))) p q lock
-  put_here cpu at here u m p q lock same tally false pace =
+  put_here cpu at here u m p q lock same tally false poll_section =
       nothing_here cpu at (Inside (Edit (TryPut u m))) p q lock
-      (ap (λ (w : Bool). if w then Some (entry cpu u (effect_kind Senders lock.above) at m lock.above.effects (p Senders u)) else None) pace)
-      (sym (ap (λ (w : Bool). if w then put_in m lock.above else lock.above) pace)) same tally
-  put_here cpu at here u m p q lock same tally true pace =
+      (ap (λ (w : Bool). if w then Some (entry cpu u (effect_kind Senders lock.above) at m lock.above.effects (p Senders u)) else None) poll_section)
+      (sym (ap (λ (w : Bool). if w then put_in m lock.above else lock.above) poll_section)) same tally
+  put_here cpu at here u m p q lock same tally true poll_section =
       let it : Entry = entry cpu u (effect_kind Senders lock.above) at m lock.above.effects (p Senders u) in
-      let step = put_step u m lock.above pace in
+      let step = put_step u m lock.above poll_section in
       let done : effect_on cpu at (Inside (Edit (TryPut u m))) p (Some lock) ≡ Some it
-      = ap (λ (w : Bool). if w then Some (entry cpu u (effect_kind Senders lock.above) at m lock.above.effects (p Senders u)) else None) pace in
+      = ap (λ (w : Bool). if w then Some (entry cpu u (effect_kind Senders lock.above) at m lock.above.effects (p Senders u)) else None) poll_section in
       let after : put_in m lock.above ≡ (lock_edited buffer_rules (Inside (Edit (TryPut u m))) lock).above
-      = sym (ap (λ (w : Bool). if w then put_in m lock.above else lock.above) pace) in (
+      = sym (ap (λ (w : Bool). if w then put_in m lock.above else lock.above) poll_section) in (
         λ e is. subst (MayTakeEffect caps es) (one it e (sym done ∙ is))
             (step_may cpu at here Senders (effect_kind Senders lock.above) u m lock.above (put_in m lock.above) step p tally),
         subst (λ o. Tally caps b (option_to_list o ++ es) q (lock_edited buffer_rules (Inside (Edit (TryPut u m))) lock).above) (sym done)
@@ -377,19 +377,19 @@ module _ (caps : List ℕ) (b : ℕ) (es : List Entry) where
 
   take_here : (cpu : CpuId) (at : BufId) → at.0 ≡ b → (u : Tid) (p q : Side → Tid → ℕ) (lock : BufferLock) → ((side : Side) (t : Tid) → q side t ≡ p side t)
       → Tally caps b es p lock.above → (v : Bool) → is_next Receivers u lock.above ≡ v → StepHere cpu at (Inside (Edit (TryTake u))) p q lock
-  take_here cpu at here u p q lock same tally false pace =
+  take_here cpu at here u p q lock same tally false poll_section =
       nothing_here cpu at (Inside (Edit (TryTake u))) p q lock
       (ap (λ (w : Bool). if w then Some (entry cpu u (effect_kind Receivers lock.above) at (first_item lock.above.items) lock.above.effects
-      (p Receivers u)) else None) pace)
-      (sym (ap (λ (w : Bool). if w then taken_out lock.above else lock.above) pace)) same tally
-  take_here cpu at here u p q lock same tally true pace =
+      (p Receivers u)) else None) poll_section)
+      (sym (ap (λ (w : Bool). if w then taken_out lock.above else lock.above) poll_section)) same tally
+  take_here cpu at here u p q lock same tally true poll_section =
       let it : Entry = entry cpu u (effect_kind Receivers lock.above) at (first_item lock.above.items) lock.above.effects (p Receivers u) in
-      let step = take_step u lock.above pace in
+      let step = take_step u lock.above poll_section in
       let done : effect_on cpu at (Inside (Edit (TryTake u))) p (Some lock) ≡ Some it
       = ap (λ (w : Bool). if w then Some (entry cpu u (effect_kind Receivers lock.above) at (first_item lock.above.items) lock.above.effects
-      (p Receivers u)) else None) pace in
+      (p Receivers u)) else None) poll_section in
       let after : taken_out lock.above ≡ (lock_edited buffer_rules (Inside (Edit (TryTake u))) lock).above
-      = sym (ap (λ (w : Bool). if w then taken_out lock.above else lock.above) pace) in (
+      = sym (ap (λ (w : Bool). if w then taken_out lock.above else lock.above) poll_section) in (
         λ e is. subst (MayTakeEffect caps es) (one it e (sym done ∙ is))
             (step_may cpu at here Receivers (effect_kind Receivers lock.above) u (first_item lock.above.items) lock.above (taken_out lock.above) step p tally),
         subst (λ o. Tally caps b (option_to_list o ++ es) q (lock_edited buffer_rules (Inside (Edit (TryTake u))) lock).above) (sym done)
@@ -481,8 +481,8 @@ module _ (O : LockId → Option BufferLock) (caps : List ℕ) (past : List Buffe
   abbrev es : List Entry
   es = effects_in O past
 
-  drawn_quiet : (side : Side) (t : Tid) → is_enter side t call ≡ false → After d side t ≡ Before d side t
-  drawn_quiet side t none =
+  drawn_same : (side : Side) (t : Tid) → is_enter side t call ≡ false → After d side t ≡ Before d side t
+  drawn_same side t none =
       ap (λ v. if v then drawn_in side (buffer_at O past (Buffer d)) else Before d side t)
       (and_right (same_lock (Buffer d) (Buffer d)) (is_enter side t call) none)
 
@@ -500,12 +500,12 @@ here_step : (O : LockId → Option BufferLock) (caps : List ℕ) (past : List Bu
     → StepHere caps d.0 (effects_in O past) cpu d call (Before O caps past cpu d call d) (After O caps past cpu d call d) lock
 here_step O caps past cpu d (Acquire u) lock at due tally =
     nothing_here caps d.0 (effects_in O past) cpu d (Acquire u) (Before O caps past cpu d (Acquire u) d) (After O caps past cpu d (Acquire u) d) lock refl
-    (above_same caps d.0 (effects_in O past) u lock.owner lock) (λ side t. drawn_quiet O caps past cpu d (Acquire u) side t refl) tally
+    (above_same caps d.0 (effects_in O past) u lock.owner lock) (λ side t. drawn_same O caps past cpu d (Acquire u) side t refl) tally
 here_step O caps past cpu d (Inside (Edit (Enter u side))) lock at due tally =
     enter_here caps d.0 (effects_in O past) cpu d u side (Before O caps past cpu d (Inside (Edit (Enter u side))) d)
     (After O caps past cpu d (Inside (Edit (Enter u side))) d) lock
     nowhere (drawn_enter O caps past cpu d (Inside (Edit (Enter u side))) side u lock at (enter_self u side))
-    (λ to t other. drawn_quiet O caps past cpu d (Inside (Edit (Enter u side))) to t (enter_other u t side to other)) tally
+    (λ to t other. drawn_same O caps past cpu d (Inside (Edit (Enter u side))) to t (enter_other u t side to other)) tally
   where
     nowhere : (to : Side) → is_in u (line_of to lock.above) ≡ false
     nowhere Receivers = sym (ap (is_in_line Receivers u) at) ∙ due.1
@@ -513,22 +513,22 @@ here_step O caps past cpu d (Inside (Edit (Enter u side))) lock at due tally =
 here_step O caps past cpu d (Inside (Edit (TryPut u m))) lock at due tally =
     put_here caps d.0 (effects_in O past) cpu d refl u m (Before O caps past cpu d (Inside (Edit (TryPut u m))) d)
     (After O caps past cpu d (Inside (Edit (TryPut u m))) d) lock
-    (λ side t. drawn_quiet O caps past cpu d (Inside (Edit (TryPut u m))) side t refl) tally (is_next Senders u lock.above) refl
+    (λ side t. drawn_same O caps past cpu d (Inside (Edit (TryPut u m))) side t refl) tally (is_next Senders u lock.above) refl
 here_step O caps past cpu d (Inside (Edit (TryTake u))) lock at due tally =
     take_here caps d.0 (effects_in O past) cpu d refl u (Before O caps past cpu d (Inside (Edit (TryTake u))) d)
     (After O caps past cpu d (Inside (Edit (TryTake u))) d) lock
-    (λ side t. drawn_quiet O caps past cpu d (Inside (Edit (TryTake u))) side t refl) tally (is_next Receivers u lock.above) refl
+    (λ side t. drawn_same O caps past cpu d (Inside (Edit (TryTake u))) side t refl) tally (is_next Receivers u lock.above) refl
 here_step O caps past cpu d (Inside (Edit (Shut u))) lock at due tally =
     shut_here caps d.0 (effects_in O past) cpu d refl u (Before O caps past cpu d (Inside (Edit (Shut u))) d)
     (After O caps past cpu d (Inside (Edit (Shut u))) d) lock
-    (λ side t. drawn_quiet O caps past cpu d (Inside (Edit (Shut u))) side t refl) tally
+    (λ side t. drawn_same O caps past cpu d (Inside (Edit (Shut u))) side t refl) tally
 here_step O caps past cpu d (Inside (SignalFront u side)) lock at due tally =
     nothing_here caps d.0 (effects_in O past) cpu d (Inside (SignalFront u side)) (Before O caps past cpu d (Inside (SignalFront u side)) d)
     (After O caps past cpu d (Inside (SignalFront u side)) d) lock refl refl
-    (λ to t. drawn_quiet O caps past cpu d (Inside (SignalFront u side)) to t refl) tally
+    (λ to t. drawn_same O caps past cpu d (Inside (SignalFront u side)) to t refl) tally
 here_step O caps past cpu d (Release leave) lock at due tally =
     nothing_here caps d.0 (effects_in O past) cpu d (Release leave) (Before O caps past cpu d (Release leave) d)
-    (After O caps past cpu d (Release leave) d) lock refl refl (λ to t. drawn_quiet O caps past cpu d (Release leave) to t refl) tally
+    (After O caps past cpu d (Release leave) d) lock refl refl (λ to t. drawn_same O caps past cpu d (Release leave) to t refl) tally
 
 abbrev Tallied : (LockId → Option BufferLock) → List ℕ → List BufferSection → Type 0
 Tallied O caps past = (b : BufId) (lock : BufferLock) → buffer_at O past (Buffer b) ≡ Some lock
@@ -616,12 +616,13 @@ start_tallied caps b (Some n) lock is at p =
     start_numbers Senders = tt
 
 module _ (opening : LockId → Option (QueueBlock BufferLock)) (caps : List ℕ) (boots : inner opening ≡ opening_locks caps) where
-  pub all_tallied : (past : List BufferEvent) → IsLawful (QueueAllowed (lock_kernel (cv_rules buffer_deeds) opening)) past
+  pub all_tallied : (past : List BufferEvent) → IsLawful (QueueAllowed (lock_kernel (cv_rules buffer_monitor_rules) opening)) past
       → Tallied (inner opening) caps (buffer_sections past)
   all_tallied [] lawful = λ b lock at. start_tallied caps b (slice_get caps b.0) lock refl (sym (ap (λ locks. locks (Buffer b)) boots) ∙ at) (λ side t. 0)
   all_tallied (e ∷ past) lawful = go e.call lawful.0 (all_tallied past lawful.1)
     where
-      go : (call : QueueCall (CvCall BufferEdit)) → QueueAllowed (lock_kernel (cv_rules buffer_deeds) opening) past (record { cpu = e.cpu; call = call })
+      go : (call : QueueCall (CvCall BufferEdit)) → QueueAllowed (lock_kernel (cv_rules buffer_monitor_rules) opening) past
+          (record { cpu = e.cpu; call = call })
           → Tallied (inner opening) caps (buffer_sections past) → Tallied (inner opening) caps (with_section e.cpu call (buffer_sections past))
       go (Push q t) may tallied = tallied
       go (TakeAll q) may tallied = tallied
@@ -632,12 +633,13 @@ module _ (opening : LockId → Option (QueueBlock BufferLock)) (caps : List ℕ)
   with_effect None past may lawful = lawful
   with_effect (Some e) past may lawful = (may e refl, lawful)
 
-  pub effects_lawful : (past : List BufferEvent) → IsLawful (QueueAllowed (lock_kernel (cv_rules buffer_deeds) opening)) past
+  pub effects_lawful : (past : List BufferEvent) → IsLawful (QueueAllowed (lock_kernel (cv_rules buffer_monitor_rules) opening)) past
       → IsLawful (MayTakeEffect caps) (effects_in (inner opening) (buffer_sections past))
   effects_lawful [] lawful = tt
   effects_lawful (e ∷ past) lawful = go e.call lawful.0 (effects_lawful past lawful.1) (all_tallied past lawful.1)
     where
-      go : (call : QueueCall (CvCall BufferEdit)) → QueueAllowed (lock_kernel (cv_rules buffer_deeds) opening) past (record { cpu = e.cpu; call = call })
+      go : (call : QueueCall (CvCall BufferEdit)) → QueueAllowed (lock_kernel (cv_rules buffer_monitor_rules) opening) past
+          (record { cpu = e.cpu; call = call })
           → IsLawful (MayTakeEffect caps) (effects_in (inner opening) (buffer_sections past)) → Tallied (inner opening) caps (buffer_sections past)
           → IsLawful (MayTakeEffect caps) (effects_in (inner opening) (with_section e.cpu call (buffer_sections past)))
       go (Push q t) may done tallied = done

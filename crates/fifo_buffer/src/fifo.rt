@@ -4,7 +4,7 @@ ghost use Rattle.std.specs.Prelude.{◌≡◌, ◌≢◌, ◌+◌, ◌<◌, ◌�
 ghost use Rattle.event_log.specs.declared.ids.CpuId.{CpuId};
 ghost use Rattle.event_log.specs.declared.ids.LockId.TheVariants.{Buffer};
 ghost use Rattle.event_log.specs.declared.ids.TheConstants.{THREADS};
-ghost use Rattle.layer_traits.specs.BufferLaw.{buffer_of, buffering, going, plan_of, replied, talk_of};
+ghost use Rattle.layer_traits.specs.BufferLaw.{buffer_of, buffering, going, plan_of, replied, call_state_of};
 ghost use Rattle.layer_traits.specs.BufferProtocol.{buffer_rules};
 ghost use Rattle.layer_traits.specs.Locking.{lock_moves, lock_rules};
 ghost use Rattle.layer_traits.specs.LockLaw.{slept_for};
@@ -12,45 +12,45 @@ ghost use Rattle.layer_traits.specs.Plans.{Follows, table_of};
 ghost use Rattle.layer_traits.specs.QueueBlocks.{homes_in, inner};
 ghost use Rattle.layer_traits.specs.QueueRules.{queue_rules};
 ghost use Rattle.layer_traits.specs.Queues.{buffer_sections};
-ghost use Rattle.fifo_buffer.specs.Paces.{MayPace, Sizes, Paced, calling_after, reply_at};
+ghost use Rattle.fifo_buffer.specs.SectionPolls.{MayPollSection, Sizes, SectionPolled, calling_after, reply_at};
 
-use crate::sections::{answers_at_once, buffer_in, lay, reply, section};
-use crate::talk_table::Talks;
+use crate::call_state_table::CallStates;
+use crate::sections::{answers_at_once, buffer_in, load_message, reply, section};
 use arrayvec::ArrayVec;
 use event_log::{BufId, CAPACITY, CpuId, Msg, Tid};
 use layer_traits::{
-    BufferEdit, BufferLayer, Call, CvLayer, Effect, Line, OwnedBuffers, OwnedConds, Pass, Reply,
-    Stage, Tray,
+    BufferEdit, BufferLayer, Call, CvLayer, Effect, OwnedBuffers, OwnedConds, Pass, Payload, Reply,
+    Stage, WaitList,
 };
 
 /// One CPU's part of first-in first-out blocking bounded buffers (Anderson and Dahlin), over a part
 /// `C` of conditions: it keeps of each thread how far its message call has come, and whose call is
-/// under way. It owns the tray in which its CPU's layers hand messages and taken threads on.
+/// under way. It owns the payload in which its CPU's layers hand messages and taken threads on.
 #[derive(Drop)]
 pub struct Fifo<C> {
     lower: C,
-    talks: Talks,
+    call_states: CallStates,
     calling: Option<Tid>,
-    tray: Tray,
+    payload: Payload,
 }
 
 impl<C: CvLayer<BufferEdit>> Fifo<C> {
     /// Polls the section of `call` by `t` at this stage, and tells whether it ended.
-    fn pace(&mut self, m: &mut C::Machine, t: Tid, call: &Call, stage: Stage) -> bool
+    fn poll_section(&mut self, m: &mut C::Machine, t: Tid, call: &Call, stage: Stage) -> bool
         requires known { t.0 < THREADS }
-        requires stage { stage ≡ (going (talk_of self.old.talks.talks t) call.now).stage }
+        requires stage { stage ≡ (going (call_state_of self.old.call_states.call_states t) call.now).stage }
         requires fits { C.Fits self.old.lower m.old }
         requires buffer { IsSome (C.opening m.old (Buffer (buffer_of call.now))) }
         requires room { 0 < C.room m.old }
-        requires sizes { Sizes (C.own self.old.lower) self.old.talks.talks }
-        requires may { MayPace (inner (C.opening m.old)) (buffer_sections (C.seen m.old)) t call.now (going (talk_of self.old.talks.talks t) call.now)
+        requires sizes { Sizes (C.own self.old.lower) self.old.call_states.call_states }
+        requires may { MayPollSection (inner (C.opening m.old)) (buffer_sections (C.seen m.old)) t call.now (going (call_state_of self.old.call_states.call_states t) call.now)
             (C.own self.old.lower)
             (C.under_way self.old.lower) }
-        ensures paced { Paced (homes_in (C.opening m.old)) (λ c. C.ActsFor m.old c) (inner (C.opening m.old)) (C.cpu_of self.old.lower) t call.now
-            (going (talk_of self.old.talks.talks t) call.now) (C.seen m.old) (C.seen m.new) (C.own self.old.lower) (C.own self.new.lower)
+        ensures section_polled { SectionPolled (homes_in (C.opening m.old)) (λ c. C.ActsFor m.old c) (inner (C.opening m.old)) (C.cpu_of self.old.lower) t call.now
+            (going (call_state_of self.old.call_states.call_states t) call.now) (C.seen m.old) (C.seen m.new) (C.own self.old.lower) (C.own self.new.lower)
             (C.under_way self.new.lower) result
-            (talk_of self.new.talks.talks t) }
-        ensures talks { self.new.talks.talks ≡ slice_set self.old.talks.talks t.0 (talk_of self.new.talks.talks t) }
+            (call_state_of self.new.call_states.call_states t) }
+        ensures call_states { self.new.call_states.call_states ≡ slice_set self.old.call_states.call_states t.0 (call_state_of self.new.call_states.call_states t) }
         ensures calling { self.new.calling ≡ self.old.calling }
         ensures woken { IsSome (slept_for (C.own self.old.lower).waits t) → m.new ≡ m.old }
         ensures handed { IsSome (slept_for (C.own self.old.lower).lock.slept t) → m.new ≡ m.old }
@@ -64,33 +64,34 @@ impl<C: CvLayer<BufferEdit>> Fifo<C> {
         ensures follows { C.IsStepwise
             → Follows (C.ActsFor m.old) (table_of (queue_rules (lock_rules buffer_rules) (lock_moves buffer_rules))) (C.opening m.old)
             (C.cpu_of self.old.lower)
-            (plan_of (homes_in (C.opening m.old)) (C.cpu_of self.old.lower) t call.now (going (talk_of self.old.talks.talks t) call.now).stage
-            (going (talk_of self.old.talks.talks t) call.now)
-            (buffering (C.own self.old.lower) self.old.talks.talks))
+            (plan_of (homes_in (C.opening m.old)) (C.cpu_of self.old.lower) t call.now (going (call_state_of self.old.call_states.call_states t) call.now).stage
+            (going (call_state_of self.old.call_states.call_states t) call.now)
+            (buffering (C.own self.old.lower) self.old.call_states.call_states))
             (C.acts m.old) (C.acts m.new)
             (record {
-              own = buffering (C.own self.new.lower) self.new.talks.talks;
-              answer = if result then replied call.now (going (talk_of self.old.talks.talks t) call.now)
-                  (going (talk_of self.old.talks.talks t) call.now).stage else None;
+              own = buffering (C.own self.new.lower) self.new.call_states.call_states;
+              answer = if result then replied call.now (going (call_state_of self.old.call_states.call_states t) call.now)
+                  (going (call_state_of self.old.call_states.call_states t) call.now).stage else None;
             }) }
     {
-        lay(&mut self.tray.message, call, stage);
+        load_message(&mut self.payload.message, call, stage);
         let edit = section(t, call, stage);
-        let answer = self.lower.poll(m, buffer_in(call), edit, &mut self.tray);
-        self.talks.hear(t, call, &answer, &self.tray.message)
+        let answer = self.lower.poll(m, buffer_in(call), edit, &mut self.payload);
+        self.call_states
+            .record_answer(t, call, &answer, &self.payload.message)
     }
 
-    /// The reply of `call` after a pace at this stage, which ended its section or not; and notes
+    /// The reply of `call` after a section poll at this stage, which ended its section or not; and notes
     /// whether the call is still under way.
-    fn told(&mut self, t: Tid, call: &Call, stage: Stage, done: bool) -> Option<Reply>
+    fn complete(&mut self, t: Tid, call: &Call, stage: Stage, done: bool) -> Option<Reply>
         requires known { t.0 < THREADS }
-        ensures answer { result ≡ (if done then reply_at call.now stage (talk_of self.old.talks.talks t).effect else None) }
+        ensures answer { result ≡ (if done then reply_at call.now stage (call_state_of self.old.call_states.call_states t).effect else None) }
         ensures calling { self.new.calling ≡ calling_after t (C.own self.old.lower).lock.sleep.threads.current result }
         ensures lower { self.new.lower ≡ self.old.lower }
-        ensures talks { self.new.talks.talks ≡ self.old.talks.talks }
+        ensures call_states { self.new.call_states.call_states ≡ self.old.call_states.call_states }
     {
         let answer = if done {
-            reply(call, stage, self.talks.effect_here(t))
+            reply(call, stage, self.call_states.effect_here(t))
         } else {
             None
         };
@@ -105,18 +106,18 @@ impl<C: CvLayer<BufferEdit>> Fifo<C> {
 impl<C: CvLayer<BufferEdit>> BufferLayer for Fifo<C> {
     ghost use Rattle.std.proofs.Common.{ap};
     ghost use Rattle.event_log.specs.declared.ids.LockId.TheVariants.{Buffer};
-    ghost use Rattle.layer_traits.proofs.ActedLemmas.{moves_told};
+    ghost use Rattle.layer_traits.proofs.ActedLemmas.{moves_read};
     ghost use Rattle.layer_traits.specs.BufferEffects.{effects_in};
     ghost use Rattle.layer_traits.specs.BufferLaw.{buffering};
-    ghost use Rattle.layer_traits.specs.BufferProtocol.{buffer_deeds};
+    ghost use Rattle.layer_traits.specs.BufferProtocol.{buffer_monitor_rules};
     ghost use Rattle.layer_traits.specs.Conditions.{cv_rules};
     ghost use Rattle.layer_traits.specs.LockLaw.{lock_kernel};
-    ghost use Rattle.layer_traits.specs.Locking.{line_in, lock_after};
+    ghost use Rattle.layer_traits.specs.Locking.{wait_list_in, lock_after};
     ghost use Rattle.layer_traits.specs.QueueBlocks.{inner};
     ghost use Rattle.layer_traits.specs.Queues.{buffer_sections, moves_in};
     ghost use Rattle.fifo_buffer.specs.FifoFits.{BootsSo, PartFits, caps_in};
-    ghost use Rattle.fifo_buffer.specs.FifoLaws.{fifo_lawful, fifo_lines, none_under};
-    ghost use Rattle.fifo_buffer.specs.Paces.{doing_at};
+    ghost use Rattle.fifo_buffer.specs.FifoLaws.{fifo_lawful, fifo_wait_lists, none_under};
+    ghost use Rattle.fifo_buffer.specs.SectionPolls.{under_way_at};
 
     type Machine = C::Machine;
 
@@ -126,9 +127,9 @@ impl<C: CvLayer<BufferEdit>> BufferLayer for Fifo<C> {
 
     ghost seen = { λ m. effects_in (inner (C.opening m)) (buffer_sections (C.seen m)) };
 
-    ghost moves = { λ m. moves_in (lock_kernel (cv_rules buffer_deeds) (C.opening m)) (C.seen m) };
+    ghost moves = { λ m. moves_in (lock_kernel (cv_rules buffer_monitor_rules) (C.opening m)) (C.seen m) };
 
-    ghost lines = { λ m b line. line_in line (lock_after (cv_rules buffer_deeds) (inner (C.opening m)) (Buffer b) (buffer_sections (C.seen m))) };
+    ghost wait_lists = { λ m b line. wait_list_in line (lock_after (cv_rules buffer_monitor_rules) (inner (C.opening m)) (Buffer b) (buffer_sections (C.seen m))) };
 
     ghost ActsFor = { λ m c. C.ActsFor m c × BootsSo (C.opening m) };
 
@@ -140,14 +141,14 @@ impl<C: CvLayer<BufferEdit>> BufferLayer for Fifo<C> {
 
     ghost cpu_of = { λ p. C.cpu_of p.lower };
 
-    ghost own = { λ p. buffering (C.own p.lower) p.talks.talks };
+    ghost own = { λ p. buffering (C.own p.lower) p.call_states.call_states };
 
     ghost is_inside = { λ p. C.is_inside p.lower };
 
-    ghost doing = { λ p. doing_at p.calling (C.under_way p.lower) };
+    ghost under_way = { λ p. under_way_at p.calling (C.under_way p.lower) };
 
     ghost Fits = { λ p m. C.Fits p.lower m
-        × PartFits (C.opening m) (C.cpu_of p.lower) (C.seen m) (C.own p.lower) p.talks.talks (C.under_way p.lower) p.calling };
+        × PartFits (C.opening m) (C.cpu_of p.lower) (C.seen m) (C.own p.lower) p.call_states.call_states (C.under_way p.lower) p.calling };
 
     ghost IsWhole = { ⊥ };
 
@@ -158,9 +159,9 @@ impl<C: CvLayer<BufferEdit>> BufferLayer for Fifo<C> {
     fn part(cpu: CpuId, homes: &[CpuId], buffers: u8) -> Self {
         Fifo {
             lower: C::part(cpu, homes, buffers),
-            talks: Talks::new(),
+            call_states: CallStates::new(),
             calling: None,
-            tray: Tray::new(),
+            payload: Payload::new(),
         }
     }
 
@@ -186,12 +187,12 @@ impl<C: CvLayer<BufferEdit>> BufferLayer for Fifo<C> {
 
     #[inline(always)]
     fn effect(&self, t: Tid) -> Option<Effect> {
-        self.talks.effect(t)
+        self.call_states.effect(t)
     }
 
     #[inline(always)]
     fn effect_here(&self, t: Tid) -> &Option<Effect> {
-        self.talks.effect_here(t)
+        self.call_states.effect_here(t)
     }
 
     #[inline(always)]
@@ -200,20 +201,20 @@ impl<C: CvLayer<BufferEdit>> BufferLayer for Fifo<C> {
     }
 
     fn poll(&mut self, m: &mut C::Machine, t: Tid, call: &Call) -> Option<Reply> {
-        let stage = self.talks.next_stage(t, call);
+        let stage = self.call_states.next_stage(t, call);
         let at_once = answers_at_once(stage, self.lower.at_once());
-        let done = self.pace(m, t, call, stage);
+        let done = self.poll_section(m, t, call, stage);
         if done && at_once {
-            let next = self.talks.next_stage(t, call);
-            let last = self.pace(m, t, call, next);
-            return self.told(t, call, next, last);
+            let next = self.call_states.next_stage(t, call);
+            let last = self.poll_section(m, t, call, next);
+            return self.complete(t, call, next, last);
         }
-        self.told(t, call, stage, done)
+        self.complete(t, call, stage, done)
     }
 
     #[inline(always)]
     fn pass(&mut self, m: &mut C::Machine, call: Pass) -> Option<()> {
-        self.lower.pass(m, call, &mut self.tray)
+        self.lower.pass(m, call, &mut self.payload)
     }
 
     ghost own_cpu = { λ p m fits. (C.own_cpu p.lower m fits.0, fits.1.boots) };
@@ -222,9 +223,9 @@ impl<C: CvLayer<BufferEdit>> BufferLayer for Fifo<C> {
 
     ghost stands = { λ p m fits. C.stands p.lower m fits.0 };
 
-    ghost moved = { λ m c acts. C.moving m c acts.0 };
+    ghost moves_legal = { λ m c acts. C.moves_legal m c acts.0 };
 
-    ghost lists = { λ p m fits. fifo_lines (C.opening m) (C.seen m) fits.1.boots (C.lists p.lower m fits.0) };
+    ghost lists = { λ p m fits. fifo_wait_lists (C.opening m) (C.seen m) fits.1.boots (C.lists p.lower m fits.0) };
 
     ghost opens = { λ m c acts. C.opens m c acts.0 };
 
@@ -232,13 +233,13 @@ impl<C: CvLayer<BufferEdit>> BufferLayer for Fifo<C> {
 
     ghost seen_is = { λ step m. ap (λ seen. effects_in (inner (C.opening m)) (buffer_sections seen)) (C.seen_is step m) };
 
-    ghost moves_are = { λ step m c acts. moves_told (C.opening m) (C.acts m) (C.opens m c acts.0) (C.proper step m c acts.0) (C.seen m) (C.seen_is step m)
-        (C.moving m c acts.0) };
+    ghost moves_are = { λ step m c acts. moves_read (C.opening m) (C.acts m) (C.opens m c acts.0) (C.proper step m c acts.0) (C.seen m) (C.seen_is step m)
+        (C.moves_legal m c acts.0) };
 
     ghost busy = { λ p m fits. C.busy p.lower m fits.0 };
 
-    ghost rests = { λ p m fits nothing. C.idle p.lower m fits.0
-        (none_under (C.opening m) (C.cpu_of p.lower) (C.seen m) (C.own p.lower) p.talks.talks (C.under_way p.lower) p.calling fits.1 nothing) };
+    ghost idle = { λ p m fits nothing. C.idle p.lower m fits.0
+        (none_under (C.opening m) (C.cpu_of p.lower) (C.seen m) (C.own p.lower) p.call_states.call_states (C.under_way p.lower) p.calling fits.1 nothing) };
 }
 
 impl<C: OwnedConds<BufferEdit>> OwnedBuffers for Fifo<C> {
@@ -248,19 +249,19 @@ impl<C: OwnedConds<BufferEdit>> OwnedBuffers for Fifo<C> {
     ghost use Rattle.event_log.specs.Runs.{is_closed};
     ghost use Rattle.layer_traits.proofs.ActedLemmas.{owner_by_acts};
     ghost use Rattle.layer_traits.specs.BufferEffects.{contents_of, effects_in};
-    ghost use Rattle.layer_traits.specs.BufferProtocol.{buffer_deeds};
+    ghost use Rattle.layer_traits.specs.BufferProtocol.{buffer_monitor_rules};
     ghost use Rattle.layer_traits.specs.Conditions.{cv_rules};
     ghost use Rattle.layer_traits.specs.LockLaw.{lock_kernel};
-    ghost use Rattle.layer_traits.specs.Locking.{line_in, owner_in};
+    ghost use Rattle.layer_traits.specs.Locking.{wait_list_in, owner_in};
     ghost use Rattle.layer_traits.specs.Places.{pending_by};
     ghost use Rattle.layer_traits.specs.Plans.{is_in_section};
     ghost use Rattle.layer_traits.specs.QueueBlocks.{inner};
     ghost use Rattle.layer_traits.specs.Queues.{buffer_sections, moves_in};
     ghost use Rattle.fifo_buffer.specs.FifoFits.{caps_in};
-    ghost use Rattle.fifo_buffer.specs.OwnedLaws.{block_there, closed_of, closed_told, effects_known, items_acted, items_in, items_told, lines_of};
-    ghost use Rattle.fifo_buffer.specs.OwnedLaws.{lines_told, lock_of, lock_told, owner_of, owner_told, queue_told};
+    ghost use Rattle.fifo_buffer.specs.OwnedLaws.{block_there, closed_of, closed_read, effects_known, items_acted, items_in, items_read, wait_lists_of};
+    ghost use Rattle.fifo_buffer.specs.OwnedLaws.{wait_lists_read, buffer_lock_of, lock_read, owner_of, owner_read, queue_read};
 
-    ghost owner = { λ m b. owner_in (lock_of (C.opening m) (C.seen m) b) };
+    ghost owner = { λ m b. owner_in (buffer_lock_of (C.opening m) (C.seen m) b) };
 
     ghost items_at = { λ m b. option_map items_in (C.lock_at m b) };
 
@@ -274,9 +275,9 @@ impl<C: OwnedConds<BufferEdit>> OwnedBuffers for Fifo<C> {
 
     ghost owner_with = { λ p b. option_map owner_of (C.lock_with p.lower b) };
 
-    ghost lines_at = { λ m b. option_map lines_of (C.lock_at m b) };
+    ghost wait_lists_at = { λ m b. option_map wait_lists_of (C.lock_at m b) };
 
-    ghost lines_with = { λ p b. option_map lines_of (C.lock_with p.lower b) };
+    ghost wait_lists_with = { λ p b. option_map wait_lists_of (C.lock_with p.lower b) };
 
     ghost queue_at = { λ m d. C.queue_at m d };
 
@@ -331,13 +332,13 @@ impl<C: OwnedConds<BufferEdit>> OwnedBuffers for Fifo<C> {
     }
 
     #[inline(always)]
-    fn line_in(m: &C::Machine, b: BufId, t: Tid) -> Option<Line> {
-        C::line_in(m, b, t)
+    fn wait_list_in(m: &C::Machine, b: BufId, t: Tid) -> Option<WaitList> {
+        C::wait_list_in(m, b, t)
     }
 
     #[inline(always)]
-    fn line_here(&self, b: BufId, t: Tid) -> Option<Line> {
-        self.lower.line_here(b, t)
+    fn wait_list_here(&self, b: BufId, t: Tid) -> Option<WaitList> {
+        self.lower.wait_list_here(b, t)
     }
 
     #[inline(always)]
@@ -352,24 +353,24 @@ impl<C: OwnedConds<BufferEdit>> OwnedBuffers for Fifo<C> {
 
     ghost known = { λ m c acts. effects_known (inner (C.opening m)) (C.seen m) (C.known m c acts.0) };
 
-    ghost items = { λ m c b acts within. lock_told (λ (p : Self). p.lower) (λ p. C.Fits p m) (λ (p : Self). Self.Fits p m)
+    ghost items = { λ m c b acts within. lock_read (λ (p : Self). p.lower) (λ p. C.Fits p m) (λ (p : Self). Self.Fits p m)
         (λ p. C.cpu_of p) (λ d. C.IsStepwise × (is_in_section (phase d (C.acts m)) ≡ true)) (λ p fits. fits.0)
-        (lock_of (C.opening m) (C.seen m) b) items_in (λ p. C.lock_with p b) (C.lock_at m b)
+        (buffer_lock_of (C.opening m) (C.seen m) b) items_in (λ p. C.lock_with p b) (C.lock_at m b)
         (items_of (contents_of (caps_in (C.opening m)) (effects_in (inner (C.opening m)) (buffer_sections (C.seen m)))) b.0)
-        (items_told (C.opening m) acts.1 b within (C.seen m) (C.lawful m c acts.0))
+        (items_read (C.opening m) acts.1 b within (C.seen m) (C.lawful m c acts.0))
         (C.shown m c b acts.0 (block_there (C.opening m) acts.1 b within)) };
 
-    ghost closed = { λ m c b acts within. lock_told (λ (p : Self). p.lower) (λ p. C.Fits p m) (λ (p : Self). Self.Fits p m)
+    ghost closed = { λ m c b acts within. lock_read (λ (p : Self). p.lower) (λ p. C.Fits p m) (λ (p : Self). Self.Fits p m)
         (λ p. C.cpu_of p) (λ d. C.IsStepwise × (is_in_section (phase d (C.acts m)) ≡ true)) (λ p fits. fits.0)
-        (lock_of (C.opening m) (C.seen m) b) closed_of (λ p. C.lock_with p b) (C.lock_at m b)
+        (buffer_lock_of (C.opening m) (C.seen m) b) closed_of (λ p. C.lock_with p b) (C.lock_at m b)
         (is_closed (effects_in (inner (C.opening m)) (buffer_sections (C.seen m))) b.0)
-        (closed_told (C.opening m) acts.1 b within (C.seen m) (C.lawful m c acts.0))
+        (closed_read (C.opening m) acts.1 b within (C.seen m) (C.lawful m c acts.0))
         (C.shown m c b acts.0 (block_there (C.opening m) acts.1 b within)) };
 
-    ghost owners = { λ m c b acts within. lock_told (λ (p : Self). p.lower) (λ p. C.Fits p m) (λ (p : Self). Self.Fits p m)
+    ghost owners = { λ m c b acts within. lock_read (λ (p : Self). p.lower) (λ p. C.Fits p m) (λ (p : Self). Self.Fits p m)
         (λ p. C.cpu_of p) (λ d. C.IsStepwise × (is_in_section (phase d (C.acts m)) ≡ true)) (λ p fits. fits.0)
-        (lock_of (C.opening m) (C.seen m) b) owner_of (λ p. C.lock_with p b) (C.lock_at m b)
-        (owner_in (lock_of (C.opening m) (C.seen m) b)) (owner_told (C.opening m) acts.1 b within (C.seen m))
+        (buffer_lock_of (C.opening m) (C.seen m) b) owner_of (λ p. C.lock_with p b) (C.lock_at m b)
+        (owner_in (buffer_lock_of (C.opening m) (C.seen m) b)) (owner_read (C.opening m) acts.1 b within (C.seen m))
         (C.shown m c b acts.0 (block_there (C.opening m) acts.1 b within)) };
 
     ghost owner_is = { λ step m c b acts. owner_by_acts (C.opening m) (C.acts m) (C.opens m c acts.0) (C.proper step m c acts.0) (C.seen m)
@@ -378,14 +379,14 @@ impl<C: OwnedConds<BufferEdit>> OwnedBuffers for Fifo<C> {
     ghost items_are = { λ step m c b acts within. items_acted (C.opening m) acts.1 b within (C.seen m) (C.acts m) (C.opens m c acts.0)
         (C.proper step m c acts.0) (C.seen_is step m) (C.lawful m c acts.0) };
 
-    ghost beds = { λ m c b acts within. lock_told (λ (p : Self). p.lower) (λ p. C.Fits p m) (λ (p : Self). Self.Fits p m)
+    ghost waiters_law = { λ m c b acts within. lock_read (λ (p : Self). p.lower) (λ p. C.Fits p m) (λ (p : Self). Self.Fits p m)
         (λ p. C.cpu_of p) (λ d. C.IsStepwise × (is_in_section (phase d (C.acts m)) ≡ true)) (λ p fits. fits.0)
-        (lock_of (C.opening m) (C.seen m) b) lines_of (λ p. C.lock_with p b) (C.lock_at m b)
-        (λ line. line_in line (lock_of (C.opening m) (C.seen m) b)) (lines_told (C.opening m) acts.1 b within (C.seen m))
+        (buffer_lock_of (C.opening m) (C.seen m) b) wait_lists_of (λ p. C.lock_with p b) (C.lock_at m b)
+        (λ line. wait_list_in line (buffer_lock_of (C.opening m) (C.seen m) b)) (wait_lists_read (C.opening m) acts.1 b within (C.seen m))
         (C.shown m c b acts.0 (block_there (C.opening m) acts.1 b within)) };
 
-    ghost queues = { λ m c d acts there. queue_told (λ (p : Self). p.lower) (λ p. C.Fits p m)
+    ghost queues = { λ m c d acts there. queue_read (λ (p : Self). p.lower) (λ p. C.Fits p m)
         (λ (p : Self). Self.Fits p m) (λ p. C.cpu_of p) (λ d. C.IsStepwise × (is_in_section (phase d (C.acts m)) ≡ true)) (λ p fits. fits.0)
-        (λ p. C.queue_with p d) (C.queue_at m d) (pending_by (moves_in (lock_kernel (cv_rules buffer_deeds) (C.opening m)) (C.seen m)) d)
+        (λ p. C.queue_with p d) (C.queue_at m d) (pending_by (moves_in (lock_kernel (cv_rules buffer_monitor_rules) (C.opening m)) (C.seen m)) d)
         (C.queues m c d acts.0 there) };
 }

@@ -3,10 +3,10 @@
 #![tactic(auto)]
 
 mod blocks;
+mod call_state_table;
 mod fifo;
 mod laws;
 mod sections;
-mod talk_table;
 
 pub use blocks::empty_blocks;
 pub use fifo::Fifo;

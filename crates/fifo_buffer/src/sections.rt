@@ -1,15 +1,15 @@
 //! The sections of a message call, stage by stage.
 
 ghost use Rattle.std.specs.Prelude.{◌≡◌};
-ghost use Rattle.layer_traits.specs.BufferLaw.{buffer_of, first_of, going, heard, other_side, enlisted, reply_by, section_at, side_of, told_by, tried, try_of};
-ghost use Rattle.layer_traits.specs.Trays.{buffer_brought, buffer_carried, cv_brought, cv_carried, lock_brought, lock_carried};
+ghost use Rattle.layer_traits.specs.BufferLaw.{buffer_of, first_of, going, recorded, other_side, enlisted, reply_by, section_at, side_of, reported_by, tried, try_of};
+ghost use Rattle.layer_traits.specs.Payloads.{buffer_brought, buffer_carried, cv_brought, cv_carried, lock_brought, lock_carried};
 ghost use Rattle.event_log.specs.declared.ids.Tid.{Tid};
-ghost use Rattle.fifo_buffer.specs.Paces.{is_at_once, reply_at};
+ghost use Rattle.fifo_buffer.specs.SectionPolls.{is_at_once, reply_at};
 
 use event_log::{BufId, Kind, Msg, Tid};
 use layer_traits::{
-    BufferEdit, BufferOut, Call, CvEdit, CvLeave, CvOut, Effect, Meant, QEdit, QOut, Reply, Side,
-    Stage, Talk,
+    BufferEdit, BufferOut, Call, CallState, CvEdit, CvLeave, CvOut, Effect, Ghost, QEdit, QOut,
+    Reply, Side, Stage,
 };
 
 /// The buffer of a call.
@@ -62,7 +62,7 @@ fn next_try(t: Tid, call: &Call) -> BufferEdit
     ensures { result ≡ try_of t call.now }
 {
     match call {
-        Call::Send(_, message) => BufferEdit::TryPut(t, Meant::of(message)),
+        Call::Send(_, message) => BufferEdit::TryPut(t, Ghost::of(message)),
         Call::Recv(_) => BufferEdit::TryTake(t),
         Call::Close(_) => BufferEdit::Shut(t),
     }
@@ -89,7 +89,7 @@ fn answer_by(call: &Call, kind: Kind, value: &Msg) -> Reply
 /// Lays down the message that the section of `call` at this stage puts, if it puts one: a send's,
 /// where it tries.
 #[inline(always)]
-pub fn lay(message: &mut Msg, call: &Call, stage: Stage)
+pub fn load_message(message: &mut Msg, call: &Call, stage: Stage)
     ensures { (t : Tid) → lock_carried (cv_carried buffer_carried) (section_at t call.now stage) message.new }
 {
     if stage == Stage::Tries {
@@ -105,7 +105,7 @@ pub fn section(t: Tid, call: &Call, stage: Stage) -> QEdit<CvEdit<BufferEdit>, C
     ensures { result ≡ section_at t call.now stage }
 {
     match stage {
-        Stage::Between | Stage::Acquires | Stage::AcquiresAgain => QEdit::Acquire(t),
+        Stage::Idle | Stage::Acquires | Stage::AcquiresAgain => QEdit::Acquire(t),
         Stage::Enters => QEdit::Inside(CvEdit::Edit(first_edit(t, call))),
         Stage::Tries => QEdit::Inside(CvEdit::Edit(next_try(t, call))),
         Stage::Waits => QEdit::Release(CvLeave::Wait(t, own_side(call))),
@@ -117,31 +117,31 @@ pub fn section(t: Tid, call: &Call, stage: Stage) -> QEdit<CvEdit<BufferEdit>, C
 
 /// Begins `call` where its thread is between calls.
 #[inline(always)]
-pub fn begin(talk: &mut Talk, call: &Call)
-    ensures { talk.new ≡ going talk.old call.now }
+pub fn begin(call_state: &mut CallState, call: &Call)
+    ensures { call_state.new ≡ going call_state.old call.now }
 {
-    if talk.stage == Stage::Between {
-        talk.stage = Stage::Acquires;
-        talk.call = Some(*call);
-        talk.position = 0;
-        talk.effect = None;
+    if call_state.stage == Stage::Idle {
+        call_state.stage = Stage::Acquires;
+        call_state.call = Some(*call);
+        call_state.position = 0;
+        call_state.effect = None;
     }
 }
 
 /// Keeps what a thread that entered its line was told: its position; or what one that closed the
 /// buffer was told: its effect.
 #[inline(always)]
-fn hear_entry(talk: &mut Talk, out: &QOut<CvOut<BufferOut>>)
-    ensures { talk.new ≡ enlisted talk.old (told_by out.now) }
+fn record_entry(call_state: &mut CallState, out: &QOut<CvOut<BufferOut>>)
+    ensures { call_state.new ≡ enlisted call_state.old (reported_by out.now) }
 {
     match out {
         QOut::Did(CvOut::Did(BufferOut::Entered(position))) => {
-            talk.stage = Stage::Tries;
-            talk.position = *position;
+            call_state.stage = Stage::Tries;
+            call_state.position = *position;
         }
         QOut::Did(CvOut::Did(BufferOut::WasShut(op, pos))) => {
-            talk.stage = Stage::Signals;
-            talk.effect = Some(Effect {
+            call_state.stage = Stage::Signals;
+            call_state.effect = Some(Effect {
                 kind: Kind::Close,
                 value: Msg::none(),
                 op: *op,
@@ -157,45 +157,45 @@ fn hear_entry(talk: &mut Talk, out: &QOut<CvOut<BufferOut>>)
 /// Keeps what a thread that tried was told: its effect, with the message that the answer brought, or
 /// that it has to wait.
 #[inline(always)]
-fn hear_try(talk: &mut Talk, out: &QOut<CvOut<BufferOut>>, message: &Msg)
+fn record_try(call_state: &mut CallState, out: &QOut<CvOut<BufferOut>>, message: &Msg)
     requires { lock_brought (cv_brought buffer_brought) out.now message.now }
-    ensures { talk.new ≡ tried talk.old (told_by out.now) }
+    ensures { call_state.new ≡ tried call_state.old (reported_by out.now) }
 {
     match out {
         QOut::Did(CvOut::Did(BufferOut::Done(kind, op, _))) => {
-            talk.stage = Stage::Signals;
-            talk.effect = Some(Effect {
+            call_state.stage = Stage::Signals;
+            call_state.effect = Some(Effect {
                 kind: *kind,
                 value: *message,
                 op: *op,
-                pos: talk.position,
+                pos: call_state.position,
             });
         }
         QOut::Did(_) | QOut::Acquired | QOut::Queued | QOut::Released(_) => {
-            talk.stage = Stage::Waits
+            call_state.stage = Stage::Waits
         }
     }
 }
 
-/// Keeps what the section of the talk's stage answered, with the message that the answer brought:
-/// the talk is at the next stage then.
+/// Keeps what the section of the call state's stage answered, with the message that the answer brought:
+/// the call state is at the next stage then.
 #[inline(always)]
-pub fn hear_section(talk: &mut Talk, out: &QOut<CvOut<BufferOut>>, message: &Msg)
+pub fn record_section(call_state: &mut CallState, out: &QOut<CvOut<BufferOut>>, message: &Msg)
     requires { lock_brought (cv_brought buffer_brought) out.now message.now }
-    ensures { talk.new ≡ heard talk.old talk.old.stage out.now }
+    ensures { call_state.new ≡ recorded call_state.old call_state.old.stage out.now }
 {
-    match talk.stage {
-        Stage::Between => {}
-        Stage::Acquires => talk.stage = Stage::Enters,
-        Stage::Enters => hear_entry(talk, out),
-        Stage::Tries => hear_try(talk, out, message),
-        Stage::Waits => talk.stage = Stage::AcquiresAgain,
-        Stage::AcquiresAgain => talk.stage = Stage::Tries,
-        Stage::Signals => talk.stage = Stage::SignalsOwn,
-        Stage::SignalsOwn => talk.stage = Stage::Releases,
+    match call_state.stage {
+        Stage::Idle => {}
+        Stage::Acquires => call_state.stage = Stage::Enters,
+        Stage::Enters => record_entry(call_state, out),
+        Stage::Tries => record_try(call_state, out, message),
+        Stage::Waits => call_state.stage = Stage::AcquiresAgain,
+        Stage::AcquiresAgain => call_state.stage = Stage::Tries,
+        Stage::Signals => call_state.stage = Stage::SignalsOwn,
+        Stage::SignalsOwn => call_state.stage = Stage::Releases,
         Stage::Releases => {
-            talk.stage = Stage::Between;
-            talk.call = None;
+            call_state.stage = Stage::Idle;
+            call_state.call = None;
         }
     }
 }
@@ -211,7 +211,7 @@ pub fn reply(call: &Call, stage: Stage, effect: &Option<Effect>) -> Option<Reply
             Some(effect) => Some(answer_by(call, effect.kind, &effect.value)),
             None => None,
         },
-        Stage::Between
+        Stage::Idle
         | Stage::Acquires
         | Stage::Enters
         | Stage::Tries
@@ -231,7 +231,7 @@ pub fn answers_at_once(stage: Stage, handed: bool) -> bool
     match stage {
         Stage::Acquires | Stage::AcquiresAgain => handed,
         Stage::Waits => true,
-        Stage::Between
+        Stage::Idle
         | Stage::Enters
         | Stage::Tries
         | Stage::Signals

@@ -25,7 +25,7 @@ use Rattle.guest.specs.declared.refusals.GuestFault.TheVariants.{BadNumber, BadT
 use Rattle.guest.specs.Instructions.{IsSource, IsWithin}
 use Rattle.guest.specs.Language.{or_fault, register_in, word_in, buffer_in, words_in, target_in, pieces_in, line_in}
 use Rattle.guest.specs.Language.{one_piece, two_pieces, three_pieces, four_pieces}
-use Rattle.guest.specs.Spelling.{name_of, pieces_of, line_of}
+use Rattle.guest.specs.Spelling.{name_of, pieces_of, instruction_line}
 
 -- which side of a choice was taken
 chosen : {A : Type 0} (b : Bool) (x y r : A) → (if b then x else y) ≡ r → ((b ≡ true) × (x ≡ r)) ⊎ ((b ≡ false) × (y ≡ r))
@@ -67,9 +67,9 @@ three_bound (Ok x) (Ok y) (Err e) make i h = absurd (cc)
 three_bound (Ok x) (Err e) rc make i h = absurd (cc)
 three_bound (Err e) rb rc make i h = absurd (cc)
 
-kept : {A : Type 0} (fault : GuestFault) (o : Option A) (x : A) → or_fault fault o ≡ Ok x → o ≡ Some x
-kept fault None x h = absurd (cc)
-kept fault (Some y) x h = (cc)
+or_fault_is : {A : Type 0} (fault : GuestFault) (o : Option A) (x : A) → or_fault fault o ≡ Ok x → o ≡ Some x
+or_fault_is fault None x h = absurd (cc)
+or_fault_is fault (Some y) x h = (cc)
 
 -- one name of the chain of the registers' names
 name_or : (piece : List ℕ) (q r : Register) (rest : Result Register GuestFault) → (rest ≡ Ok r → piece ≡ name_of r)
@@ -89,7 +89,7 @@ register_spelled piece r =
 word_spelled : (piece : List ℕ) (n : ℕ) → word_in piece ≡ Ok n → (piece ≡ decimal n) × (n < 2 ^ 64)
 unfolding word_in
 word_spelled piece n h =
-    let read = kept BadNumber (number_to 18446744073709551615 piece) n h in
+    let read = or_fault_is BadNumber (number_to 18446744073709551615 piece) n h in
     let fits = (number_to-Some 18446744073709551615 piece n read).within in
     (number_to-spelling 18446744073709551615 piece n (lit< tt) read, omega arith)
 
@@ -132,7 +132,7 @@ unfolding target_in
 target_spelled count piece k some most h =
     elim (chosen (is_number piece) _ _ _ h) [
       | inl p ↦
-          let read = kept BadTarget (number_to (count - 1) piece) k p.1 in
+          let read = or_fault_is BadTarget (number_to (count - 1) piece) k p.1 in
           let spelled = number_spelled (count - 1) piece k (omega arith) read in
           let below : k < count = (let fits = spelled.1 in omega arith) in
           (spelled.0, below)
@@ -282,8 +282,8 @@ pieces_spelled count (word ∷ a ∷ b ∷ c ∷ []) i some most h = four_spelle
 pieces_spelled count (word ∷ a ∷ b ∷ c ∷ d ∷ more) i some most h = absurd (cc)
 
 -- a line that reads as an instruction is its line
-pub line_in-only : (count : ℕ) (text : List ℕ) (i : Instruction) → 0 < count → count ≤ 2 ^ 64 → line_in count text ≡ Ok i → text ≡ line_of i
-unfolding line_in line_of
+pub line_in-only : (count : ℕ) (text : List ℕ) (i : Instruction) → 0 < count → count ≤ 2 ^ 64 → line_in count text ≡ Ok i → text ≡ instruction_line i
+unfolding line_in instruction_line
 line_in-only count text i some most h =
     sym (join_with_byte-slice_split 32 text) ∙ ap (join_with_byte 32) (pieces_spelled count (slice_split (λ byte. byte == 32) text) i some most h).0
 
@@ -462,6 +462,6 @@ split_again count Yield most within = one_split _ (five_no_space 121 105 101 108
 split_again count Exit most within = one_split _ (four_no_space 101 120 105 116 refl refl refl refl)
 
 -- the line of an instruction within the limits reads as it
-pub line_in-line_of : (count : ℕ) (i : Instruction) → count ≤ 2 ^ 64 → IsWithin count i → line_in count (line_of i) ≡ Ok i
-unfolding line_in line_of
-line_in-line_of count i most within = ap (pieces_in count) (split_again count i most within) ∙ pieces_again count i most within
+pub line_in-instruction_line : (count : ℕ) (i : Instruction) → count ≤ 2 ^ 64 → IsWithin count i → line_in count (instruction_line i) ≡ Ok i
+unfolding line_in instruction_line
+line_in-instruction_line count i most within = ap (pieces_in count) (split_again count i most within) ∙ pieces_again count i most within

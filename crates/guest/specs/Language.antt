@@ -120,10 +120,10 @@ program_in lines =
 
 -- what an error says of what is meant: that fault, but nothing where memory was refused
 abbrev pub Fails : {Y : Type 0} → GuestError → Result Y GuestError → Type 0
-Fails NoMemory meant = Unit {0}
-Fails (At line fault) meant = meant ≡ Err (At line fault)
+Fails NoMemory ghost_of = Unit {0}
+Fails (At line fault) ghost_of = ghost_of ≡ Err (At line fault)
 
 -- a call gives the value that is meant, as it is viewed, or the fault; want of memory aside
 abbrev pub Gives : {X Y : Type 0} → (X → Y) → Result X GuestError → Result Y GuestError → Type 0
-Gives view (Ok x) meant = meant ≡ Ok (view x)
-Gives view (Err e) meant = Fails e meant
+Gives view (Ok x) ghost_of = ghost_of ≡ Ok (view x)
+Gives view (Err e) ghost_of = Fails e ghost_of

@@ -41,10 +41,10 @@ pieces_of Yield = codes "yield" ∷ []
 pieces_of Exit = codes "exit" ∷ []
 
 -- the line of an instruction: its pieces with one space (32) between
-unfoldable pub line_of : Instruction → List ℕ
-line_of i = join_with_byte 32 (pieces_of i)
+unfoldable pub instruction_line : Instruction → List ℕ
+instruction_line i = join_with_byte 32 (pieces_of i)
 
 -- each instruction within the limits of a program of so many lines has one line that reads as it
 pub record HasOneLine (count : ℕ) (i : Instruction) : Type 0 where
-  pub read_back : IsWithin count i → line_in count (line_of i) ≡ Ok i
-  pub only : (text : List ℕ) → line_in count text ≡ Ok i → text ≡ line_of i
+  pub read_back : IsWithin count i → line_in count (instruction_line i) ≡ Ok i
+  pub only : (text : List ℕ) → line_in count text ≡ Ok i → text ≡ instruction_line i

@@ -1,4 +1,4 @@
 mod Opened
 mod Rows
-mod Talks
+mod CallStates
 mod Towers

@@ -12,7 +12,7 @@ use Rattle.layer_traits.specs.QueueBlocks.{StartsWell, inner}
 use Rattle.layer_traits.specs.Renaming.{viewed}
 use Rattle.layer_traits.proofs.KernelRenaming.{inner_viewed, starts_viewed}
 use Rattle.queuing_lock.specs.declared.edits.QBlock.{QBlock}
-use Rattle.queuing_lock.specs.Nested.{lock_of, unowned}
+use Rattle.queuing_lock.specs.Nested.{nested_lock_of, unowned}
 use Rattle.sleep_wakeup.specs.declared.edits.SleepBlock.{SleepBlock}
 use Rattle.sleep_wakeup.specs.Nested.{state_of}
 use Rattle.sleep_wakeup.specs.Nested as nested
@@ -21,20 +21,20 @@ module _ (opening : LockId → Option (QueueBlock (SleepBlock (QBlock BufferStat
     (locks : List (QBlock BufferState)) (blocks : List (SleepBlock (QBlock BufferState)))
     (starts : StartsWell opening) (buffers_are : buffers ≡ map empty_block caps) (locks_are : locks ≡ map unowned buffers)
     (blocks_are : blocks ≡ map nested.resting locks) (at : (b : BufId) → inner opening (Buffer b) ≡ slice_get blocks b.0) where
-  made : (o : Option BufferState) → option_map lock_of (option_map state_of (option_map nested.resting (option_map unowned o))) ≡ option_map resting o
+  made : (o : Option BufferState) → option_map nested_lock_of (option_map state_of (option_map nested.resting (option_map unowned o))) ≡ option_map resting o
   made None = refl
   made (Some block) = refl
 
   -- a buffer's lock has its block at rest
-  at_rest : (b : BufId) → inner (viewed lock_of (viewed state_of opening)) (Buffer b) ≡ option_map resting (slice_get buffers b.0)
+  at_rest : (b : BufId) → inner (viewed nested_lock_of (viewed state_of opening)) (Buffer b) ≡ option_map resting (slice_get buffers b.0)
   at_rest b =
       let stands : inner opening (Buffer b) ≡ option_map nested.resting (option_map unowned (slice_get buffers b.0))
       = at b ∙ ap (λ l. slice_get l b.0) (blocks_are ∙ ap (map nested.resting) locks_are)
       ∙ slice_get-map nested.resting (map unowned buffers) b.0 ∙ ap (option_map nested.resting) (slice_get-map unowned buffers b.0) in
-      inner_viewed lock_of (viewed state_of opening) (Buffer b) ∙ ap (option_map lock_of) (inner_viewed state_of opening (Buffer b))
-      ∙ ap (λ o. option_map lock_of (option_map state_of o)) stands ∙ made (slice_get buffers b.0)
+      inner_viewed nested_lock_of (viewed state_of opening) (Buffer b) ∙ ap (option_map nested_lock_of) (inner_viewed state_of opening (Buffer b))
+      ∙ ap (λ o. option_map nested_lock_of (option_map state_of o)) stands ∙ made (slice_get buffers b.0)
 
   -- the locks of buffers open as they must
-  pub tower_locks : inner (viewed lock_of (viewed state_of opening)) ≡ opening_locks caps
-  tower_locks = boots_at (viewed lock_of (viewed state_of opening)) caps buffers
-      (starts_viewed lock_of (viewed state_of opening) (starts_viewed state_of opening starts)).kinds at_rest buffers_are
+  pub tower_locks : inner (viewed nested_lock_of (viewed state_of opening)) ≡ opening_locks caps
+  tower_locks = boots_at (viewed nested_lock_of (viewed state_of opening)) caps buffers
+      (starts_viewed nested_lock_of (viewed state_of opening) (starts_viewed state_of opening starts)).kinds at_rest buffers_are

@@ -6,9 +6,9 @@ use Rattle.event_log.specs.declared.ids.CpuId.{CpuId}
 use Rattle.event_log.specs.declared.ids.Tid.{Tid}
 use Rattle.layer_traits.specs.declared.calls.Place.{Place}
 use Rattle.layer_traits.specs.declared.calls.Place.TheVariants as place
-use Rattle.layer_traits.specs.declared.moves.Line.{Line}
-use Rattle.layer_traits.specs.declared.moves.Line.TheVariants.{Sleepers, Receivers, Senders}
-use Rattle.layer_traits.specs.Owned.{line_among}
+use Rattle.layer_traits.specs.declared.moves.WaitList.{WaitList}
+use Rattle.layer_traits.specs.declared.moves.WaitList.TheVariants.{Sleepers, Receivers, Senders}
+use Rattle.layer_traits.specs.Owned.{wait_list_among}
 use Rattle.layer_traits.specs.Places.{Threads, is_thread}
 use Rattle.thread_blocks.specs.Queues.{is_in}
 
@@ -31,15 +31,15 @@ said None = false
 said (Some told) = told
 
 -- whether the machine or the part tells that a thread stands in a pending queue
-abbrev pub pends_told : Tid → Option (List Tid) → Option (List Tid) → Bool
-pends_told t home here = said (option_map (is_in t) home) || said (option_map (is_in t) here)
+abbrev pub pends_read : Tid → Option (List Tid) → Option (List Tid) → Bool
+pends_read t home here = said (option_map (is_in t) home) || said (option_map (is_in t) here)
 
 -- the line of a buffer in which a thread stands, as the machine or the part tells it
-abbrev pub line_told : Tid → Option (Line → List Tid) → Option (Line → List Tid) → Option Line
-line_told t home here = option_or (option_and_then (line_among t) home) (option_and_then (line_among t) here)
+abbrev pub wait_list_read : Tid → Option (WaitList → List Tid) → Option (WaitList → List Tid) → Option WaitList
+wait_list_read t home here = option_or (option_and_then (wait_list_among t) home) (option_and_then (wait_list_among t) here)
 
 -- the place of a thread that sleeps in this line of a buffer
-abbrev pub asleep_at : BufId → Line → Place
+abbrev pub asleep_at : BufId → WaitList → Place
 asleep_at b Sleepers = place.LockSleeper b
 asleep_at b Receivers = place.WaitRecv b
 asleep_at b Senders = place.WaitSend b
@@ -47,7 +47,7 @@ asleep_at b Senders = place.WaitSend b
 -- a part can tell nothing of where a thread stands: it is none of the CPU's own, and neither the machine nor the part tells that it stands
 -- in the pending queue of its home or in a line of a buffer
 pub record IsSilentOf (t : Tid) (own : Threads) (home : Option CpuId) (buffers : ℕ) (queue_at queue_with : CpuId → Option (List Tid))
-    (lines_at lines_with : BufId → Option (Line → List Tid)) : Type 0 where
+    (wait_lists_at wait_lists_with : BufId → Option (WaitList → List Tid)) : Type 0 where
   pub away : IsAway t own
-  pub pends : (d : CpuId) → home ≡ Some d → pends_told t (queue_at d) (queue_with d) ≡ false
-  pub lines : (b : BufId) → b.0 < buffers → line_told t (lines_at b) (lines_with b) ≡ None
+  pub pends : (d : CpuId) → home ≡ Some d → pends_read t (queue_at d) (queue_with d) ≡ false
+  pub wait_lists : (b : BufId) → b.0 < buffers → wait_list_read t (wait_lists_at b) (wait_lists_with b) ≡ None

@@ -5,22 +5,22 @@ ghost use Rattle.event_log.specs.declared.ids.LockId.TheVariants.{Pending};
 ghost use Rattle.event_log.specs.declared.ids.TheConstants.{CPUS};
 ghost use Rattle.layer_traits.specs.declared.passes.Pass.TheVariants.{Drain};
 ghost use Rattle.layer_traits.specs.BufferEffects.{opening_locks};
-ghost use Rattle.layer_traits.specs.BufferLaw.{Calling, MayGoOn, MayTalk, Passing, buffer_of, talk_of};
+ghost use Rattle.layer_traits.specs.BufferLaw.{Calling, MayGoOn, MayPollCall, Passing, buffer_of, call_state_of};
 ghost use Rattle.layer_traits.specs.QueueBlocks.{homes_in, inner};
 
 use crate::OpensBuffers;
 use event_log::{BufId, CpuId, Kind, Msg, NoMemory, Tid};
-use layer_traits::{BufferLayer, Call, Effect, Line, OwnedBuffers, Pass, Reply};
+use layer_traits::{BufferLayer, Call, Effect, OwnedBuffers, Pass, Reply, WaitList};
 use std::alloc::Global;
 
 /// The next ready thread runs, if nobody does and nobody stands in the hand.
 fn switch<B: BufferLayer>(part: &mut B, m: &mut B::Machine) -> bool
     requires fits { B.Fits part.old m.old }
-    requires idle { B.doing part.old ≡ None }
+    requires idle { B.under_way part.old ≡ None }
     requires room { 0 < B.room m.old }
     ensures fits { B.Fits part.new m.new }
-    ensures idle { result ≡ true → B.doing part.new ≡ None }
-    ensures talks { (B.own part.new).talks ≡ (B.own part.old).talks }
+    ensures idle { result ≡ true → B.under_way part.new ≡ None }
+    ensures call_states { (B.own part.new).call_states ≡ (B.own part.old).call_states }
     ensures cpu { B.cpu_of part.new ≡ B.cpu_of part.old }
     ensures opening { B.opening m.new ≡ B.opening m.old }
     ensures caps { B.caps m.new ≡ B.caps m.old }
@@ -37,12 +37,12 @@ fn switch<B: BufferLayer>(part: &mut B, m: &mut B::Machine) -> bool
 /// One poll of a drain, if nobody runs, is ready or stands in the hand.
 fn drain_poll<B: BufferLayer>(part: &mut B, m: &mut B::Machine) -> Option<()>
     requires fits { B.Fits part.old m.old }
-    requires goes_on { MayGoOn (B.doing part.old) (Passing Drain) }
+    requires goes_on { MayGoOn (B.under_way part.old) (Passing Drain) }
     requires room { 0 < B.room m.old }
     ensures fits { B.Fits part.new m.new }
-    ensures goes_on { MayGoOn (B.doing part.new) (Passing Drain) }
-    ensures idle { IsSome result → B.doing part.new ≡ None }
-    ensures talks { (B.own part.new).talks ≡ (B.own part.old).talks }
+    ensures goes_on { MayGoOn (B.under_way part.new) (Passing Drain) }
+    ensures idle { IsSome result → B.under_way part.new ≡ None }
+    ensures call_states { (B.own part.new).call_states ≡ (B.own part.old).call_states }
     ensures cpu { B.cpu_of part.new ≡ B.cpu_of part.old }
     ensures caps { B.caps m.new ≡ B.caps m.old }
     ensures room { B.room m.old ≤ B.room m.new + 1 }
@@ -58,11 +58,11 @@ fn drain_poll<B: BufferLayer>(part: &mut B, m: &mut B::Machine) -> Option<()>
 /// Who is pending becomes ready in three polls, of which the third ends it.
 fn drain<B: BufferLayer>(part: &mut B, m: &mut B::Machine) -> bool
     requires fits { B.Fits part.old m.old }
-    requires idle { B.doing part.old ≡ None }
+    requires idle { B.under_way part.old ≡ None }
     requires room { 3 ≤ B.room m.old }
     ensures fits { B.Fits part.new m.new }
-    ensures idle { result ≡ true → B.doing part.new ≡ None }
-    ensures talks { (B.own part.new).talks ≡ (B.own part.old).talks }
+    ensures idle { result ≡ true → B.under_way part.new ≡ None }
+    ensures call_states { (B.own part.new).call_states ≡ (B.own part.old).call_states }
     ensures cpu { B.cpu_of part.new ≡ B.cpu_of part.old }
     ensures caps { B.caps m.new ≡ B.caps m.old }
     ensures room { B.room m.old ≤ B.room m.new + 3 }
@@ -89,17 +89,17 @@ fn polls<B: BufferLayer>(
     requires fits { B.Fits part.old m.old }
     requires buffer { (buffer_of call.now).0 < length (B.caps m.old) }
     requires room { count ≤ B.room m.old }
-    requires hand { (B.own part.old).cv.lock.sleep.threads.current ≡ Some t → B.doing part.old ≡ None
+    requires hand { (B.own part.old).cv.lock.sleep.threads.current ≡ Some t → B.under_way part.old ≡ None
         → (B.own part.old).cv.lock.sleep.threads.hand ≡ None }
-    requires same { MayTalk (talk_of (B.own part.old).talks t) call.now }
-    requires goes_on { MayGoOn (B.doing part.old) (Calling t) }
-    requires idle { (B.own part.old).cv.lock.sleep.threads.current ≡ None → B.doing part.old ≡ None }
+    requires same { MayPollCall (call_state_of (B.own part.old).call_states t) call.now }
+    requires goes_on { MayGoOn (B.under_way part.old) (Calling t) }
+    requires idle { (B.own part.old).cv.lock.sleep.threads.current ≡ None → B.under_way part.old ≡ None }
     ensures fits { B.Fits part.new m.new }
-    ensures hand { (B.own part.new).cv.lock.sleep.threads.current ≡ Some t → B.doing part.new ≡ None
+    ensures hand { (B.own part.new).cv.lock.sleep.threads.current ≡ Some t → B.under_way part.new ≡ None
         → (B.own part.new).cv.lock.sleep.threads.hand ≡ None }
-    ensures same { MayTalk (talk_of (B.own part.new).talks t) call.now }
-    ensures goes_on { MayGoOn (B.doing part.new) (Calling t) }
-    ensures idle { (B.own part.new).cv.lock.sleep.threads.current ≡ None → B.doing part.new ≡ None }
+    ensures same { MayPollCall (call_state_of (B.own part.new).call_states t) call.now }
+    ensures goes_on { MayGoOn (B.under_way part.new) (Calling t) }
+    ensures idle { (B.own part.new).cv.lock.sleep.threads.current ≡ None → B.under_way part.new ≡ None }
     ensures cpu { B.cpu_of part.new ≡ B.cpu_of part.old }
     ensures opening { B.opening m.new ≡ B.opening m.old }
     ensures caps { B.caps m.new ≡ B.caps m.old }
@@ -125,13 +125,13 @@ fn last<B: BufferLayer>(part: &mut B, m: &mut B::Machine, t: Tid, call: &Call) -
     requires fits { B.Fits part.old m.old }
     requires buffer { (buffer_of call.now).0 < length (B.caps m.old) }
     requires room { 0 < B.room m.old }
-    requires hand { (B.own part.old).cv.lock.sleep.threads.current ≡ Some t → B.doing part.old ≡ None
+    requires hand { (B.own part.old).cv.lock.sleep.threads.current ≡ Some t → B.under_way part.old ≡ None
         → (B.own part.old).cv.lock.sleep.threads.hand ≡ None }
-    requires same { MayTalk (talk_of (B.own part.old).talks t) call.now }
-    requires goes_on { MayGoOn (B.doing part.old) (Calling t) }
+    requires same { MayPollCall (call_state_of (B.own part.old).call_states t) call.now }
+    requires goes_on { MayGoOn (B.under_way part.old) (Calling t) }
     ensures fits { B.Fits part.new m.new }
-    ensures idle { IsSome result → B.doing part.new ≡ None }
-    ensures free { IsSome result → (next : _) → MayTalk (talk_of (B.own part.new).talks t) next }
+    ensures idle { IsSome result → B.under_way part.new ≡ None }
+    ensures free { IsSome result → (next : _) → MayPollCall (call_state_of (B.own part.new).call_states t) next }
     ensures cpu { B.cpu_of part.new ≡ B.cpu_of part.old }
     ensures caps { B.caps m.new ≡ B.caps m.old }
     ensures room { B.room m.old ≤ B.room m.new + 1 }
@@ -156,11 +156,11 @@ fn takes<B: BufferLayer>(
     requires fits { B.Fits part.old m.old }
     requires buffer { (buffer_of call.now).0 < length (B.caps m.old) }
     requires room { before < B.room m.old }
-    requires start { B.doing part.old ≡ None }
-    requires same { MayTalk (talk_of (B.own part.old).talks t) call.now }
+    requires start { B.under_way part.old ≡ None }
+    requires same { MayPollCall (call_state_of (B.own part.old).call_states t) call.now }
     ensures fits { B.Fits part.new m.new }
-    ensures idle { IsSome result → B.doing part.new ≡ None }
-    ensures free { IsSome result → (next : _) → MayTalk (talk_of (B.own part.new).talks t) next }
+    ensures idle { IsSome result → B.under_way part.new ≡ None }
+    ensures free { IsSome result → (next : _) → MayPollCall (call_state_of (B.own part.new).call_states t) next }
     ensures cpu { B.cpu_of part.new ≡ B.cpu_of part.old }
     ensures caps { B.caps m.new ≡ B.caps m.old }
     ensures room { B.room m.old ≤ B.room m.new + before + 1 }
@@ -184,11 +184,11 @@ fn waits<B: BufferLayer>(
     requires fits { B.Fits part.old m.old }
     requires buffer { (buffer_of call.now).0 < length (B.caps m.old) }
     requires room { count ≤ B.room m.old }
-    requires start { B.doing part.old ≡ None }
-    requires same { MayTalk (talk_of (B.own part.old).talks t) call.now }
+    requires start { B.under_way part.old ≡ None }
+    requires same { MayPollCall (call_state_of (B.own part.old).call_states t) call.now }
     ensures fits { B.Fits part.new m.new }
-    ensures idle { result ≡ true → B.doing part.new ≡ None }
-    ensures same { MayTalk (talk_of (B.own part.new).talks t) call.now }
+    ensures idle { result ≡ true → B.under_way part.new ≡ None }
+    ensures same { MayPollCall (call_state_of (B.own part.new).call_states t) call.now }
     ensures cpu { B.cpu_of part.new ≡ B.cpu_of part.old }
     ensures caps { B.caps m.new ≡ B.caps m.old }
     ensures room { B.room m.old ≤ B.room m.new + count }
@@ -226,8 +226,8 @@ fn alone<B: OwnedBuffers>(part: &mut B, m: &mut B::Machine) -> bool
     requires acts { B.ActsFor m.old (record { 0 = 0 }) }
     requires buffer { 0 < length (B.caps m.old) }
     requires room { 40 ≤ B.room m.old }
-    requires start { B.doing part.old ≡ None }
-    requires free { (next : _) → MayTalk (talk_of (B.own part.old).talks (record { 0 = 0 })) next }
+    requires start { B.under_way part.old ≡ None }
+    requires free { (next : _) → MayPollCall (call_state_of (B.own part.old).call_states (record { 0 = 0 })) next }
 {
     let send = Call::Send(BufId(0), Msg::one(7));
     if !switch(part, m) || part.hand().is_some() || !polls(part, m, Tid(0), &send, 8) {
@@ -257,11 +257,11 @@ fn closes<B: BufferLayer>(part: &mut B, m: &mut B::Machine) -> bool
     requires fits { B.Fits part.old m.old }
     requires buffer { 0 < length (B.caps m.old) }
     requires room { 15 ≤ B.room m.old }
-    requires start { B.doing part.old ≡ None }
-    requires free { (next : _) → MayTalk (talk_of (B.own part.old).talks (record { 0 = 0 })) next }
+    requires start { B.under_way part.old ≡ None }
+    requires free { (next : _) → MayPollCall (call_state_of (B.own part.old).call_states (record { 0 = 0 })) next }
     ensures fits { B.Fits part.new m.new }
-    ensures idle { result ≡ true → B.doing part.new ≡ None }
-    ensures free { result ≡ true → (next : _) → MayTalk (talk_of (B.own part.new).talks (record { 0 = 0 })) next }
+    ensures idle { result ≡ true → B.under_way part.new ≡ None }
+    ensures free { result ≡ true → (next : _) → MayPollCall (call_state_of (B.own part.new).call_states (record { 0 = 0 })) next }
     ensures caps { B.caps m.new ≡ B.caps m.old }
     ensures room { B.room m.old ≤ B.room m.new + 15 }
     ensures acts { (c : _) → B.ActsFor m.old c → B.ActsFor m.new c }
@@ -295,8 +295,8 @@ fn drains<B: OwnedBuffers>(part: &mut B, m: &mut B::Machine) -> bool
     requires acts { B.ActsFor m.old (record { 0 = 0 }) }
     requires buffer { 0 < length (B.caps m.old) }
     requires room { 100 ≤ B.room m.old }
-    requires start { B.doing part.old ≡ None }
-    requires free { (next : _) → MayTalk (talk_of (B.own part.old).talks (record { 0 = 0 })) next }
+    requires start { B.under_way part.old ≡ None }
+    requires free { (next : _) → MayPollCall (call_state_of (B.own part.old).call_states (record { 0 = 0 })) next }
 {
     if !switch(part, m) {
         return false;
@@ -332,10 +332,10 @@ fn goes_on<B: BufferLayer>(
     requires first { (buffer_of waiting.now).0 < length (B.caps m.old) }
     requires second { (buffer_of waking.now).0 < length (B.caps m.old) }
     requires room { before + 40 ≤ B.room m.old }
-    requires home_start { B.doing home.old ≡ None }
-    requires away_start { B.doing away.old ≡ None }
-    requires home_same { MayTalk (talk_of (B.own home.old).talks (record { 0 = 0 })) waiting.now }
-    requires away_same { MayTalk (talk_of (B.own away.old).talks (record { 0 = 1 })) waking.now }
+    requires home_start { B.under_way home.old ≡ None }
+    requires away_start { B.under_way away.old ≡ None }
+    requires home_same { MayPollCall (call_state_of (B.own home.old).call_states (record { 0 = 0 })) waiting.now }
+    requires away_same { MayPollCall (call_state_of (B.own away.old).call_states (record { 0 = 1 })) waking.now }
     ensures acts { (c : _) → B.ActsFor m.old c → B.ActsFor m.new c }
     ensures caps { B.caps m.new ≡ B.caps m.old }
 {
@@ -361,16 +361,16 @@ fn receiver_waits<B: OwnedBuffers>(home: &mut B, away: &mut B, m: &mut B::Machin
     requires acts { B.ActsFor m.old (record { 0 = 0 }) }
     requires buffer { 0 < length (B.caps m.old) }
     requires room { 100 ≤ B.room m.old }
-    requires home_start { B.doing home.old ≡ None }
-    requires away_start { B.doing away.old ≡ None }
-    requires home_free { (next : _) → MayTalk (talk_of (B.own home.old).talks (record { 0 = 0 })) next }
-    requires away_free { (next : _) → MayTalk (talk_of (B.own away.old).talks (record { 0 = 1 })) next }
+    requires home_start { B.under_way home.old ≡ None }
+    requires away_start { B.under_way away.old ≡ None }
+    requires home_free { (next : _) → MayPollCall (call_state_of (B.own home.old).call_states (record { 0 = 0 })) next }
+    requires away_free { (next : _) → MayPollCall (call_state_of (B.own away.old).call_states (record { 0 = 1 })) next }
 {
     let recv = Call::Recv(BufId(0));
     if !switch(home, m) || !switch(away, m) || !waits(home, m, Tid(0), &recv, 12) {
         return false;
     }
-    if B::line_in(m, BufId(0), Tid(0)) != Some(Line::Receivers) || !holds::<B>(m, None) {
+    if B::wait_list_in(m, BufId(0), Tid(0)) != Some(WaitList::Receivers) || !holds::<B>(m, None) {
         return false;
     }
     let send = Call::Send(BufId(0), two_words());
@@ -386,10 +386,10 @@ fn sender_waits<B: OwnedBuffers>(home: &mut B, away: &mut B, m: &mut B::Machine)
     requires acts { B.ActsFor m.old (record { 0 = 0 }) }
     requires buffer { 0 < length (B.caps m.old) }
     requires room { 100 ≤ B.room m.old }
-    requires home_start { B.doing home.old ≡ None }
-    requires away_start { B.doing away.old ≡ None }
-    requires home_free { (next : _) → MayTalk (talk_of (B.own home.old).talks (record { 0 = 0 })) next }
-    requires away_free { (next : _) → MayTalk (talk_of (B.own away.old).talks (record { 0 = 1 })) next }
+    requires home_start { B.under_way home.old ≡ None }
+    requires away_start { B.under_way away.old ≡ None }
+    requires home_free { (next : _) → MayPollCall (call_state_of (B.own home.old).call_states (record { 0 = 0 })) next }
+    requires away_free { (next : _) → MayPollCall (call_state_of (B.own away.old).call_states (record { 0 = 1 })) next }
 {
     if !switch(home, m) || !switch(away, m) {
         return false;
@@ -401,7 +401,7 @@ fn sender_waits<B: OwnedBuffers>(home: &mut B, away: &mut B, m: &mut B::Machine)
     if !waits(home, m, Tid(0), &send, 12) || !holds::<B>(m, Some(Msg::one(1))) {
         return false;
     }
-    if B::line_in(m, BufId(0), Tid(0)) != Some(Line::Senders) {
+    if B::wait_list_in(m, BufId(0), Tid(0)) != Some(WaitList::Senders) {
         return false;
     }
     let (got, sent) = goes_on(home, away, m, &send, &Call::Recv(BufId(0)), 20);
@@ -419,10 +419,10 @@ fn receiver_learns<B: OwnedBuffers>(home: &mut B, away: &mut B, m: &mut B::Machi
     requires acts { B.ActsFor m.old (record { 0 = 0 }) }
     requires buffer { 0 < length (B.caps m.old) }
     requires room { 100 ≤ B.room m.old }
-    requires home_start { B.doing home.old ≡ None }
-    requires away_start { B.doing away.old ≡ None }
-    requires home_free { (next : _) → MayTalk (talk_of (B.own home.old).talks (record { 0 = 0 })) next }
-    requires away_free { (next : _) → MayTalk (talk_of (B.own away.old).talks (record { 0 = 1 })) next }
+    requires home_start { B.under_way home.old ≡ None }
+    requires away_start { B.under_way away.old ≡ None }
+    requires home_free { (next : _) → MayPollCall (call_state_of (B.own home.old).call_states (record { 0 = 0 })) next }
+    requires away_free { (next : _) → MayPollCall (call_state_of (B.own away.old).call_states (record { 0 = 1 })) next }
 {
     let recv = Call::Recv(BufId(0));
     if !switch(home, m) || !switch(away, m) || !waits(home, m, Tid(0), &recv, 12) {
@@ -437,14 +437,14 @@ fn receiver_learns<B: OwnedBuffers>(home: &mut B, away: &mut B, m: &mut B::Machi
 
 /// While a section of `part` holds the buffer's block the part tells of it and the machine does not;
 /// afterwards the machine does.
-fn told_in_hand<B: OwnedBuffers>(part: &mut B, m: &mut B::Machine) -> bool
+fn read_in_hand<B: OwnedBuffers>(part: &mut B, m: &mut B::Machine) -> bool
     requires fits { B.Fits part.old m.old }
     requires acts { B.ActsFor m.old (record { 0 = 0 }) }
     requires buffer { 0 < length (B.caps m.old) }
     requires queue { IsSome (B.opening m.old (Pending (record { 0 = 1 }))) }
     requires room { 10 ≤ B.room m.old }
-    requires start { B.doing part.old ≡ None }
-    requires free { (next : _) → MayTalk (talk_of (B.own part.old).talks (record { 0 = 0 })) next }
+    requires start { B.under_way part.old ≡ None }
+    requires free { (next : _) → MayPollCall (call_state_of (B.own part.old).call_states (record { 0 = 0 })) next }
 {
     let recv = Call::Recv(BufId(0));
     if !switch(part, m) || part.hand().is_some() || !polls(part, m, Tid(0), &recv, 1) {
@@ -459,7 +459,7 @@ fn told_in_hand<B: OwnedBuffers>(part: &mut B, m: &mut B::Machine) -> bool
     if B::closed_in(m, BufId(0)).is_some() || part.closed_here(BufId(0)) != Some(false) {
         return false;
     }
-    if part.owner_here(BufId(0)) != Some(None) || part.line_here(BufId(0), Tid(0)).is_some() {
+    if part.owner_here(BufId(0)) != Some(None) || part.wait_list_here(BufId(0), Tid(0)).is_some() {
         return false;
     }
     let Some(items) = part.items_here(BufId(0)) else {
@@ -478,7 +478,7 @@ fn told_in_hand<B: OwnedBuffers>(part: &mut B, m: &mut B::Machine) -> bool
 fn ends<B: OwnedBuffers>(part: &mut B, m: &mut B::Machine) -> bool
     requires fits { B.Fits part.old m.old }
     requires room { 10 ≤ B.room m.old }
-    requires start { B.doing part.old ≡ None }
+    requires start { B.under_way part.old ≡ None }
 {
     if !part.is_ready(Tid(0)) || part.has_ended(Tid(0)) || !switch(part, m) {
         return false;
@@ -516,8 +516,8 @@ fn part<B: OpensBuffers>(m: &B::Machine, cpu: CpuId) -> B
     requires locks { inner (B.opening m.now) ≡ opening_locks (B.caps m.now) }
     ensures fits { B.Fits result m.now }
     ensures cpu { B.cpu_of result ≡ cpu }
-    ensures start { B.doing result ≡ None }
-    ensures free { (t next : _) → MayTalk (talk_of (B.own result).talks t) next }
+    ensures start { B.under_way result ≡ None }
+    ensures free { (t next : _) → MayPollCall (call_state_of (B.own result).call_states t) next }
 {
     let _ = m;
     B::part(cpu, &[CpuId(0), CpuId(1)], 1)
@@ -537,7 +537,7 @@ pub enum BufferRow {
     /// A receiver waits, and the buffer is closed.
     ReceiverLearns,
     /// The part tells of the block that it has in hand.
-    ToldInHand,
+    ReadInHand,
     /// A thread ends.
     Ends,
 }
@@ -556,7 +556,7 @@ where
         BufferRow::ReceiverWaits => receiver_waits(&mut home, &mut away, &mut m),
         BufferRow::SenderWaits => sender_waits(&mut home, &mut away, &mut m),
         BufferRow::ReceiverLearns => receiver_learns(&mut home, &mut away, &mut m),
-        BufferRow::ToldInHand => told_in_hand(&mut home, &mut m),
+        BufferRow::ReadInHand => read_in_hand(&mut home, &mut m),
         BufferRow::Ends => ends(&mut home, &mut m),
     })
 }

@@ -7,14 +7,15 @@ ghost use Rattle.event_log.specs.declared.ids.TheConstants.{THREADS};
 ghost use Rattle.layer_traits.specs.declared.calls.Place.{Place};
 ghost use Rattle.layer_traits.specs.BufferLaw.{buffer_of};
 ghost use Rattle.layer_traits.specs.Places.{home_of, is_thread};
-ghost use Rattle.layer_traits.specs.Told.{IsOwnPlace};
-ghost use Rattle.ipc_calls.specs.Parts.{IsAway, asleep_at, line_told, pends_told, said};
+ghost use Rattle.layer_traits.specs.Observed.{IsOwnPlace};
+ghost use Rattle.ipc_calls.specs.Parts.{IsAway, asleep_at, wait_list_read, pends_read, said};
 
 use crate::opening::OpensBuffers;
 use arrayvec::ArrayVec;
 use event_log::{BufId, CAPACITY, CpuId, Msg, NoMemory, THREADS, Tid};
 use layer_traits::{
-    BufferLayer, Call, Effect, IpcLayer, Line, Owned, OwnedBuffers, Pass, Place, Reply, kept_homes,
+    BufferLayer, Call, Effect, IpcLayer, Owned, OwnedBuffers, Pass, Place, Reply, WaitList,
+    kept_homes,
 };
 use std::alloc::Global;
 
@@ -38,23 +39,23 @@ fn is_it(t: Tid, other: Option<Tid>) -> bool
 }
 
 /// Whether it was told to be so.
-fn says(told: Option<bool>) -> bool
-    ensures { result ≡ said told }
+fn says(observed: Option<bool>) -> bool
+    ensures { result ≡ said observed }
 {
-    match told {
+    match observed {
         None => false,
-        Some(told) => told,
+        Some(observed) => observed,
     }
 }
 
 /// The place of a thread that sleeps in this line of a buffer.
-fn bed(buffer: BufId, line: Line) -> Place
-    ensures { result ≡ asleep_at buffer line }
+fn waiters_of(buffer: BufId, wait_list: WaitList) -> Place
+    ensures { result ≡ asleep_at buffer wait_list }
 {
-    match line {
-        Line::Sleepers => Place::LockSleeper(buffer),
-        Line::Receivers => Place::WaitRecv(buffer),
-        Line::Senders => Place::WaitSend(buffer),
+    match wait_list {
+        WaitList::Sleepers => Place::LockSleeper(buffer),
+        WaitList::Receivers => Place::WaitRecv(buffer),
+        WaitList::Senders => Place::WaitSend(buffer),
     }
 }
 
@@ -85,7 +86,7 @@ impl<B: BufferLayer> IpcLayer for Ipc<B> {
 
     ghost moves = { λ m. B.moves m };
 
-    ghost lines = { λ m. B.lines m };
+    ghost wait_lists = { λ m. B.wait_lists m };
 
     ghost ActsFor = { λ m c. B.ActsFor m c };
 
@@ -100,11 +101,11 @@ impl<B: BufferLayer> IpcLayer for Ipc<B> {
 
     ghost threads = { λ p. (B.own p.lower).cv.lock.sleep.threads };
 
-    ghost talks = { λ p. (B.own p.lower).talks };
+    ghost call_states = { λ p. (B.own p.lower).call_states };
 
     ghost is_inside = { λ p. B.is_inside p.lower };
 
-    ghost doing = { λ p. B.doing p.lower };
+    ghost under_way = { λ p. B.under_way p.lower };
 
     ghost Fits = { λ p m. B.Fits p.lower m
         × KeepsPlan (homes_in (B.opening m)) (length (B.caps m)) (B.cpu_of p.lower) p.cpu p.homes.items p.buffers };
@@ -182,15 +183,15 @@ impl<B: BufferLayer> IpcLayer for Ipc<B> {
 
     ghost stands = { λ p m fits. B.stands p.lower m fits.0 };
 
-    ghost moved = { B.moved };
+    ghost moves_legal = { B.moves_legal };
 
     ghost lists = { λ p m fits. B.lists p.lower m fits.0 };
 
-    ghost rests = { λ p m fits. B.rests p.lower m fits.0 };
+    ghost idle = { λ p m fits. B.idle p.lower m fits.0 };
 
-    ghost tells = { λ step p. (refl, refl) };
+    ghost reads_own = { λ step p. (refl, refl) };
 
-    ghost tells_homes = { λ step m. refl };
+    ghost reads_homes = { λ step m. refl };
 
     ghost legal = { B.legal };
 
@@ -209,7 +210,7 @@ impl<B: OwnedBuffers> Ipc<B> {
     /// Where `t` stands among this CPU's own threads; `None` where it is none of them.
     fn own_place(&self, t: Tid) -> Option<Place>
         requires { B.cpu_of self.now.lower ≡ self.now.cpu }
-        ensures told { (x : Place) → result ≡ Some x
+        ensures observed { (x : Place) → result ≡ Some x
             → IsOwnPlace (B.cpu_of self.now.lower) (B.own self.now.lower).cv.lock.sleep.threads t x }
         ensures away { result ≡ None → IsAway t (B.own self.now.lower).cv.lock.sleep.threads }
     {
@@ -240,36 +241,36 @@ impl<B: OwnedBuffers> Ipc<B> {
     fn pends(&self, m: &B::Machine, d: CpuId, t: Tid) -> bool
         requires acts { (c : CpuId) × B.ActsFor m.now c }
         requires queue { IsSome (B.opening m.now (Pending d)) }
-        ensures { result ≡ pends_told t (B.queue_at m.now d) (B.queue_with self.now.lower d) }
+        ensures { result ≡ pends_read t (B.queue_at m.now d) (B.queue_with self.now.lower d) }
     {
         says(B::pends_in(m, d, t)) || says(self.lower.pends_here(d, t))
     }
 
     /// The line of a buffer in which `t` stands, as the machine or the part tells it.
-    fn line(&self, m: &B::Machine, buffer: BufId, t: Tid) -> Option<Line>
+    fn wait_list(&self, m: &B::Machine, buffer: BufId, t: Tid) -> Option<WaitList>
         requires acts { (c : CpuId) × B.ActsFor m.now c }
         requires buffer { buffer.0 < length (B.caps m.now) }
-        ensures { result ≡ line_told t (B.lines_at m.now buffer) (B.lines_with self.now.lower buffer) }
+        ensures { result ≡ wait_list_read t (B.wait_lists_at m.now buffer) (B.wait_lists_with self.now.lower buffer) }
     {
-        match B::line_in(m, buffer, t) {
-            Some(line) => Some(line),
-            None => self.lower.line_here(buffer, t),
+        match B::wait_list_in(m, buffer, t) {
+            Some(wait_list) => Some(wait_list),
+            None => self.lower.wait_list_here(buffer, t),
         }
     }
 
     /// The first buffer, and its line, in which the machine or the part tells that `t` stands.
-    fn asleep(&self, m: &B::Machine, t: Tid) -> Option<(BufId, Line)>
+    fn asleep(&self, m: &B::Machine, t: Tid) -> Option<(BufId, WaitList)>
         requires acts { (c : CpuId) × B.ActsFor m.now c }
         requires count { length (B.caps m.now) ≡ self.now.buffers }
         ensures within { (x : _) → result ≡ Some x → x.0.0 < length (B.caps m.now) }
-        ensures found { (x : _) → result ≡ Some x → line_told t (B.lines_at m.now x.0) (B.lines_with self.now.lower x.0) ≡ Some x.1 }
+        ensures found { (x : _) → result ≡ Some x → wait_list_read t (B.wait_lists_at m.now x.0) (B.wait_lists_with self.now.lower x.0) ≡ Some x.1 }
         ensures none { result ≡ None → (b : BufId) → b.0 < length (B.caps m.now)
-            → line_told t (B.lines_at m.now b) (B.lines_with self.now.lower b) ≡ None }
+            → wait_list_read t (B.wait_lists_at m.now b) (B.wait_lists_with self.now.lower b) ≡ None }
     {
         for number in 0..self.buffers {
             let buffer = BufId(number);
-            if let Some(line) = self.line(m, buffer, t) {
-                return Some((buffer, line));
+            if let Some(wait_list) = self.wait_list(m, buffer, t) {
+                return Some((buffer, wait_list));
             }
         }
         None
@@ -280,13 +281,13 @@ impl<B: OpensBuffers> Owned for Ipc<B> {
     ghost use Rattle.event_log.specs.Actions.{phase};
     ghost use Rattle.event_log.specs.Buffers.{items_of};
     ghost use Rattle.event_log.specs.Runs.{is_closed};
-    ghost use Rattle.layer_traits.proofs.OwnedLemmas.{told_under};
+    ghost use Rattle.layer_traits.proofs.OwnedLemmas.{read_under};
     ghost use Rattle.layer_traits.specs.BufferEffects.{contents_of};
     ghost use Rattle.layer_traits.specs.Places.{pending_by};
     ghost use Rattle.layer_traits.specs.Plans.{is_in_section};
     ghost use Rattle.layer_traits.specs.QueueBlocks.{homes_in};
     ghost use Rattle.ipc_calls.specs.Parts.{IsSilentOf};
-    ghost use Rattle.ipc_calls.specs.PlaceLaws.{home_there, place_tells};
+    ghost use Rattle.ipc_calls.specs.PlaceLaws.{home_there, place_reads};
 
     ghost owner = { λ m b. B.owner m b };
 
@@ -303,7 +304,7 @@ impl<B: OpensBuffers> Owned for Ipc<B> {
     ghost owner_here = { λ p b. B.owner_with p.lower b };
 
     ghost IsSilent = { λ p m t. IsSilentOf t (B.own p.lower).cv.lock.sleep.threads (home_of (homes_in (B.opening m)) t) (length (B.caps m))
-        (B.queue_at m) (B.queue_with p.lower) (B.lines_at m) (B.lines_with p.lower) };
+        (B.queue_at m) (B.queue_with p.lower) (B.wait_lists_at m) (B.wait_lists_with p.lower) };
 
     fn open(
         alloc: Global,
@@ -347,23 +348,23 @@ impl<B: OpensBuffers> Owned for Ipc<B> {
         if self.pends(m, home, t) {
             return Some(Place::Pending(home));
         }
-        let (buffer, line) = self.asleep(m, t)?;
-        Some(bed(buffer, line))
+        let (buffer, wait_list) = self.asleep(m, t)?;
+        Some(waiters_of(buffer, wait_list))
     }
 
     ghost known = { B.known };
 
-    ghost items = { λ m c b acts within. told_under (λ (p : Self). p.lower) (λ p. B.Fits p m) (λ (p : Self). Self.Fits p m) (λ p. B.cpu_of p)
+    ghost items = { λ m c b acts within. read_under (λ (p : Self). p.lower) (λ p. B.Fits p m) (λ (p : Self). Self.Fits p m) (λ p. B.cpu_of p)
         (λ (p : Self). B.cpu_of p.lower) (λ d. B.IsStepwise × (is_in_section (phase d (B.acts m)) ≡ true))
         (λ d. B.IsStepwise × (is_in_section (phase d (B.acts m)) ≡ true)) (λ p. B.items_with p b) (B.items_at m b)
         (items_of (contents_of (B.caps m) (B.seen m)) b.0) (λ p fits. fits.0) (λ p fits. refl) (λ d inside. inside) (B.items m c b acts within) };
 
-    ghost closed = { λ m c b acts within. told_under (λ (p : Self). p.lower) (λ p. B.Fits p m) (λ (p : Self). Self.Fits p m) (λ p. B.cpu_of p)
+    ghost closed = { λ m c b acts within. read_under (λ (p : Self). p.lower) (λ p. B.Fits p m) (λ (p : Self). Self.Fits p m) (λ p. B.cpu_of p)
         (λ (p : Self). B.cpu_of p.lower) (λ d. B.IsStepwise × (is_in_section (phase d (B.acts m)) ≡ true))
         (λ d. B.IsStepwise × (is_in_section (phase d (B.acts m)) ≡ true)) (λ p. B.closed_with p b) (B.closed_at m b)
         (is_closed (B.seen m) b.0) (λ p fits. fits.0) (λ p fits. refl) (λ d inside. inside) (B.closed m c b acts within) };
 
-    ghost owners = { λ m c b acts within. told_under (λ (p : Self). p.lower) (λ p. B.Fits p m) (λ (p : Self). Self.Fits p m) (λ p. B.cpu_of p)
+    ghost owners = { λ m c b acts within. read_under (λ (p : Self). p.lower) (λ p. B.Fits p m) (λ (p : Self). Self.Fits p m) (λ p. B.cpu_of p)
         (λ (p : Self). B.cpu_of p.lower) (λ d. B.IsStepwise × (is_in_section (phase d (B.acts m)) ≡ true))
         (λ d. B.IsStepwise × (is_in_section (phase d (B.acts m)) ≡ true)) (λ p. B.owner_with p b) (B.owner_at m b)
         (B.owner m b) (λ p fits. fits.0) (λ p fits. refl) (λ d inside. inside) (B.owners m c b acts within) };
@@ -376,30 +377,30 @@ impl<B: OpensBuffers> Owned for Ipc<B> {
         let home = home_there (homes_in (B.opening m)) t there in
         let acts = B.own_cpu p.lower m fits.0 in
         let cpu = B.cpu_of p.lower in
-        place_tells (record {
+        place_reads (record {
           Fits = λ (q : Self). Self.Fits q m;
           cpu_of = λ (q : Self). B.cpu_of q.lower;
           IsInside = λ d. B.IsStepwise × (is_in_section (phase d (B.acts m)) ≡ true);
           homes = homes_in (B.opening m);
           moves = B.moves m;
           n = length (B.caps m);
-          lines = B.lines m;
+          wait_lists = B.wait_lists m;
           own = λ (q : Self). (B.own q.lower).cv.lock.sleep.threads;
           queue_at = B.queue_at m;
           queue_with = λ (q : Self). B.queue_with q.lower;
-          lines_at = B.lines_at m;
-          lines_with = λ (q : Self). B.lines_with q.lower;
-          lawful = B.moved m cpu acts;
+          wait_lists_at = B.wait_lists_at m;
+          wait_lists_with = λ (q : Self). B.wait_lists_with q.lower;
+          lawful = B.moves_legal m cpu acts;
           agree = B.lists p.lower m fits.0;
           stands = λ q fit. B.stands q.lower m fit.0;
-          queues = λ u d at. told_under (λ (q : Self). q.lower) (λ q. B.Fits q m) (λ (q : Self). Self.Fits q m) (λ q. B.cpu_of q)
+          queues = λ u d at. read_under (λ (q : Self). q.lower) (λ q. B.Fits q m) (λ (q : Self). Self.Fits q m) (λ q. B.cpu_of q)
               (λ (q : Self). B.cpu_of q.lower) (λ d. B.IsStepwise × (is_in_section (phase d (B.acts m)) ≡ true))
               (λ d. B.IsStepwise × (is_in_section (phase d (B.acts m)) ≡ true)) (λ q. B.queue_with q d) (B.queue_at m d)
               (pending_by (B.moves m) d) (λ q fit. fit.0) (λ q fit. refl) (λ d inside. inside)
               (B.queues m cpu d acts ((B.opens m cpu acts).queues u d at));
-          beds = λ b within. told_under (λ (q : Self). q.lower) (λ q. B.Fits q m) (λ (q : Self). Self.Fits q m) (λ q. B.cpu_of q)
+          waiters_law = λ b within. read_under (λ (q : Self). q.lower) (λ q. B.Fits q m) (λ (q : Self). Self.Fits q m) (λ q. B.cpu_of q)
               (λ (q : Self). B.cpu_of q.lower) (λ d. B.IsStepwise × (is_in_section (phase d (B.acts m)) ≡ true))
-              (λ d. B.IsStepwise × (is_in_section (phase d (B.acts m)) ≡ true)) (λ q. B.lines_with q b) (B.lines_at m b)
-              (B.lines m b) (λ q fit. fit.0) (λ q fit. refl) (λ d inside. inside) (B.beds m cpu b acts within);
+              (λ d. B.IsStepwise × (is_in_section (phase d (B.acts m)) ≡ true)) (λ q. B.wait_lists_with q b) (B.wait_lists_at m b)
+              (B.wait_lists m b) (λ q fit. fit.0) (λ q fit. refl) (λ d inside. inside) (B.waiters_law m cpu b acts within);
         }) t home.0 home.1 };
 }

@@ -11,7 +11,7 @@ mod whole;
 pub use ipc::Ipc;
 pub use opening::{OpensBuffers, OpensLocks};
 pub use stepwise::{StepwiseBuffers, StepwiseLocks, StepwiseSections, tower_is_stepwise};
-pub use tower::{LockEdit, Over, TowerBlock, TowerEdit, part_over, tower_blocks};
+pub use tower::{LockEdit, TowerBlock, TowerEdit, TowerOver, part_over, tower_blocks};
 pub use whole::{WholeBuffers, calls_are_whole};
 
 #[cfg(test)]

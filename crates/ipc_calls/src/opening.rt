@@ -47,7 +47,7 @@ pub trait OpensLocks: OwnedSleeps<LockEdit> {
     ghost use Rattle.layer_traits.specs.Openings.{AreOpenable};
     ghost use Rattle.layer_traits.specs.QueueBlocks.{homes_in, inner};
     ghost use Rattle.layer_traits.specs.Renaming.{viewed};
-    ghost use Rattle.queuing_lock.specs.Nested.{lock_of};
+    ghost use Rattle.queuing_lock.specs.Nested.{nested_lock_of};
 
     /// A machine of so many CPUs, with the lock of a buffer for each of these capacities and a
     /// thread of each of these homes, and with room for `room` polls. All memory is taken here.
@@ -65,7 +65,7 @@ pub trait OpensLocks: OwnedSleeps<LockEdit> {
         ensures room { IfOk result (λ m. room ≤ Self.room m) }
         ensures homes { IfOk result (λ m. homes_in (Self.opening m) ≡ homes.now) }
         ensures queues { IfOk result (λ m. (c : CpuId) → c.0 < cpus → IsSome (Self.opening m (Pending c))) }
-        ensures locks { IfOk result (λ m. inner (viewed lock_of (Self.opening m)) ≡ opening_locks caps.now) }
+        ensures locks { IfOk result (λ m. inner (viewed nested_lock_of (Self.opening m)) ≡ opening_locks caps.now) }
         ensures acts { IfOk result (λ m. (c : CpuId) → c.0 < CPUS → Self.ActsFor m c) }
         ensures outside { IfOk result (λ m. (c : CpuId) → Self.IsOutside m c) }
         ensures none { IfOk result (λ m. Self.acts m ≡ []) };

@@ -10,7 +10,7 @@ use queuing_lock::QLock;
 use scheduler::Sched;
 use shared_queue::SharedQueues;
 use sleep_wakeup::Sleeper;
-use spinlock::{OwnedLockLine, Spinner};
+use spinlock::{OwnedFairLock, SpinLock};
 
 /// Critical sections of which each poll is one action.
 pub trait StepwiseSections: OwnedLocks<TowerEdit> {
@@ -18,7 +18,8 @@ pub trait StepwiseSections: OwnedLocks<TowerEdit> {
     ghost steps: { Self.IsStepwise };
 }
 
-impl<M: OwnedLockLine<By, Edit = TowerEdit>, By> StepwiseSections for Spinner<M, By> {
+impl<M: OwnedFairLock<LockProtocol, Edit = TowerEdit>, LockProtocol> StepwiseSections
+    for SpinLock<M, LockProtocol> {
     ghost steps = { tt };
 }
 

@@ -2,7 +2,7 @@
 
 ghost use Rattle.std.specs.Prelude.{◌≡◌, ◌+◌, ◌<◌, ◌≤◌, None, Some, length, replicate};
 ghost use Rattle.event_log.specs.declared.ids.TheConstants.{THREADS};
-ghost use Rattle.layer_traits.specs.BufferLaw.{Calling, MayGoOn, MayTalk, buffer_of, quiet, talk_of};
+ghost use Rattle.layer_traits.specs.BufferLaw.{Calling, MayGoOn, MayPollCall, buffer_of, no_call, call_state_of};
 
 use crate::buffer_tests::{BufferRow, goes};
 use crate::{Ipc, LockEdit, OpensBuffers, OpensLocks, TowerEdit, part_over, tower_blocks};
@@ -25,15 +25,15 @@ use std::test::Fail;
 fn starts<I: IpcLayer>(rt: &impl Abort, part: &mut I, m: &mut I::Machine, t: Tid)
     requires fits { I.Fits part.old m.old }
     requires room { 0 < I.room m.old }
-    requires doing { I.doing part.old ≡ None }
+    requires under_way { I.under_way part.old ≡ None }
     ensures fits { I.Fits part.new m.new }
     ensures room { I.room m.old ≤ I.room m.new + 1 }
     ensures caps { I.caps m.new ≡ I.caps m.old }
     ensures homes { I.homes_of m.new ≡ I.homes_of m.old }
     ensures runs { (I.threads part.new).current ≡ Some t }
     ensures hand { (I.threads part.new).hand ≡ None }
-    ensures doing { I.doing part.new ≡ None }
-    ensures talks { I.talks part.new ≡ I.talks part.old }
+    ensures under_way { I.under_way part.new ≡ None }
+    ensures call_states { I.call_states part.new ≡ I.call_states part.old }
 {
     let may = part.current().is_none() && part.hand().is_none() && part.has_ready();
     assert!(rt; may);
@@ -50,8 +50,8 @@ fn refuses<I: IpcLayer>(rt: &impl Abort, part: &mut I, m: &mut I::Machine, t: Ti
     requires buffers { length (I.caps m.old) ≡ 2 }
     requires runs { (I.threads part.old).current ≡ Some t }
     requires hand { (I.threads part.old).hand ≡ None }
-    requires doing { I.doing part.old ≡ None }
-    requires talks { I.talks part.old ≡ replicate THREADS quiet }
+    requires under_way { I.under_way part.old ≡ None }
+    requires call_states { I.call_states part.old ≡ replicate THREADS no_call }
     ensures part { part.new ≡ part.old }
     ensures machine { m.new ≡ m.old }
 {
@@ -72,8 +72,8 @@ fn called<I: IpcLayer>(
     requires buffer { (buffer_of call.now).0 < length (I.caps m.old) }
     requires runs { (I.threads part.old).current ≡ Some t }
     requires hand { (I.threads part.old).hand ≡ None }
-    requires doing { I.doing part.old ≡ None }
-    requires talks { I.talks part.old ≡ replicate THREADS quiet }
+    requires under_way { I.under_way part.old ≡ None }
+    requires call_states { I.call_states part.old ≡ replicate THREADS no_call }
     ensures fits { I.Fits part.new m.new }
     ensures caps { I.caps m.new ≡ I.caps m.old }
     ensures homes { I.homes_of m.new ≡ I.homes_of m.old }
@@ -277,8 +277,8 @@ fn a_receiver_that_waits_learns_that_the_buffer_is_closed(rt: HostRuntime) -> Re
 }
 
 #[test]
-fn a_block_in_hand_is_told_by_the_part(rt: HostRuntime) -> Result<(), Fail> {
-    tower_goes(&rt, rt.alloc(), Row::OfBuffers(BufferRow::ToldInHand))?;
+fn a_block_in_hand_is_read_from_the_part(rt: HostRuntime) -> Result<(), Fail> {
+    tower_goes(&rt, rt.alloc(), Row::OfBuffers(BufferRow::ReadInHand))?;
     Ok(())
 }
 

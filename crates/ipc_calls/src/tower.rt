@@ -9,7 +9,7 @@ ghost use Rattle.layer_traits.specs.OneLock.{AreDistinct, opened};
 ghost use Rattle.layer_traits.specs.Openings.{AreOpenable};
 ghost use Rattle.layer_traits.specs.QueueBlocks.{StartsWell, homes_in, inner};
 ghost use Rattle.layer_traits.specs.Renaming.{viewed};
-ghost use Rattle.queuing_lock.specs.Nested.{lock_of};
+ghost use Rattle.queuing_lock.specs.Nested.{nested_lock_of};
 ghost use Rattle.sleep_wakeup.specs.Nested.{state_of};
 
 use crate::ipc::Ipc;
@@ -38,7 +38,7 @@ pub type TowerBlock = QueueBlock<SleepBlock<QBlock<BufferBlock>>>;
 
 /// One CPU's part of the layers from buffers down to shared queues, over a part `L` of critical
 /// sections.
-pub type Over<L> = Fifo<Cond<QLock<Sleeper<LockEdit, Sched<SharedQueues<L>>>>>>;
+pub type TowerOver<L> = Fifo<Cond<QLock<Sleeper<LockEdit, Sched<SharedQueues<L>>>>>>;
 
 /// The locks of the tower at boot, each with its block: an empty pending queue for each of so many
 /// CPUs, and an empty buffer under a free lock for each of these capacities. `homes` holds the home
@@ -56,7 +56,7 @@ pub fn tower_blocks(
     ensures starts { IfOk result (λ locks. StartsWell (opened locks.items)) }
     ensures homes { IfOk result (λ locks. homes_in (opened locks.items) ≡ homes.now) }
     ensures queues { IfOk result (λ locks. (c : CpuId) → c.0 < cpus → IsSome (opened locks.items (Pending c))) }
-    ensures locks { IfOk result (λ locks. inner (viewed lock_of (viewed state_of (opened locks.items))) ≡ opening_locks caps.now) }
+    ensures locks { IfOk result (λ locks. inner (viewed nested_lock_of (viewed state_of (opened locks.items))) ≡ opening_locks caps.now) }
 {
     let buffers = empty_blocks(alloc, caps)?;
     let blocks = sleep_blocks(alloc, lock_blocks(alloc, buffers)?)?;
@@ -70,7 +70,7 @@ pub fn part_over<L: LockLayer<TowerEdit>>(
     cpu: CpuId,
     caps: &[u8],
     homes: &[CpuId],
-) -> Ipc<Over<L>>
+) -> Ipc<TowerOver<L>>
     requires buffers { length caps.now ≤ BUFFERS }
     requires acts { L.ActsFor m.now cpu }
     requires outside { L.IsOutside m.now cpu }
@@ -78,9 +78,9 @@ pub fn part_over<L: LockLayer<TowerEdit>>(
     requires starts { StartsWell (L.opening m.now) }
     requires homes { homes_in (L.opening m.now) ≡ homes.now }
     requires queue { IsSome (L.opening m.now (Pending cpu)) }
-    requires locks { inner (viewed lock_of (viewed state_of (L.opening m.now))) ≡ opening_locks caps.now }
-    ensures cpu { ⟦<Ipc<Over<L>> as IpcLayer>⟧.cpu_of result ≡ cpu }
-    ensures fits { ⟦<Ipc<Over<L>> as IpcLayer>⟧.Fits result m.now }
+    requires locks { inner (viewed nested_lock_of (viewed state_of (L.opening m.now))) ≡ opening_locks caps.now }
+    ensures cpu { ⟦<Ipc<TowerOver<L>> as IpcLayer>⟧.cpu_of result ≡ cpu }
+    ensures fits { ⟦<Ipc<TowerOver<L>> as IpcLayer>⟧.Fits result m.now }
 {
     let _ = m;
     Ipc::part(cpu, homes, caps.len() as u8)

@@ -12,7 +12,7 @@ use Rattle.layer_traits.specs.Acted.{BufferActs, MovesAre, guarded, owner_after}
 use Rattle.layer_traits.specs.BufferProtocol.{BufferLock, buffer_rules}
 use Rattle.layer_traits.specs.Conditions.{CvCall}
 use Rattle.layer_traits.specs.LockLaw.{lock_kernel}
-use Rattle.layer_traits.specs.Locking.{line_in, lock_after, lock_moves, lock_rules, owner_in}
+use Rattle.layer_traits.specs.Locking.{wait_list_in, lock_after, lock_moves, lock_rules, owner_in}
 use Rattle.layer_traits.specs.Places.{AreMoves, pending_by}
 use Rattle.layer_traits.specs.QueueBlocks.{StartsWell, above_of, homes_in, inner, with_queue}
 use Rattle.layer_traits.specs.QueueRules.{AreProper}
@@ -35,15 +35,15 @@ module _ (opening : LockId → Option (QueueBlock BufferLock)) (acts : BufferAct
   pub owner_by_acts : (b : BufId) → owner_in (lock_after buffer_rules (inner opening) (Buffer b) (buffer_sections seen)) ≡ owner_after opening acts b
   owner_by_acts b = ap owner_in (lock_is b)
 
-  pub moves_told : AreMoves (homes_in opening) (moves_in (lock_kernel buffer_rules opening) seen)
+  pub moves_read : AreMoves (homes_in opening) (moves_in (lock_kernel buffer_rules opening) seen)
       → MovesAre opening acts (moves_in (lock_kernel buffer_rules opening) seen)
-      (λ b line. line_in line (lock_after buffer_rules (inner opening) (Buffer b) (buffer_sections seen)))
-  moves_told moving = record {
+      (λ b line. wait_list_in line (lock_after buffer_rules (inner opening) (Buffer b) (buffer_sections seen)))
+  moves_read moving = record {
     made = ap (moves_in (lock_kernel buffer_rules opening)) seen_is;
     pending = λ d. subst (λ past. guarded opening acts (Pending d)
         ≡ with_queue (pending_by (moves_in (lock_kernel buffer_rules opening) past) d) (opening (Pending d)))
         (sym seen_is)
         (proper_queue (lock_rules buffer_rules) (lock_moves buffer_rules) opening starts d (sections_in acts) proper
         (subst (λ past. AreMoves (homes_in opening) (moves_in (lock_kernel buffer_rules opening) past)) seen_is moving));
-    waiting = λ b line. ap (line_in line) (lock_is b);
+    waiting = λ b line. ap (wait_list_in line) (lock_is b);
   }

@@ -6,11 +6,11 @@ use Rattle.event_log.specs.declared.ids.CpuId.{CpuId}
 use Rattle.event_log.specs.declared.ids.LockId.{LockId}
 use Rattle.event_log.specs.declared.ids.TheConstants.{CPUS}
 use Rattle.event_log.specs.History.{AreForeign, IsLawful, same_cpu, same_lock}
-use Rattle.event_log.specs.Actions.{Action, Take, Try, Give, Phase, Rests, Waits, Holds, doer, phase}
+use Rattle.event_log.specs.Actions.{Action, Take, Try, Give, Phase, Rests, Waits, Holds, cpu_of_action, phase}
 use Rattle.event_log.specs.Actions.{takes, gives, spot_of, AreLegal, next_action, action_in}
-use Rattle.event_log.specs.Sections.{Section, section_actor, sections_in, block_after}
+use Rattle.event_log.specs.Sections.{Section, cpu_of_section, sections_in, block_after}
 use Rattle.event_log.proofs.Exclusion.{is_at, line_at, phase_own, phase_other}
-use Rattle.event_log.proofs.Foreign.{doer_known}
+use Rattle.event_log.proofs.Foreign.{cpu_of_action_known}
 use Rattle.event_log.proofs.Line.{crowd, crowd_same, crowd_none}
 use Rattle.event_log.proofs.Same.{same_cpu_self}
 use Rattle.layer_traits.specs.Plans.{Table, Left, Acting, at_give, reply}
@@ -18,16 +18,17 @@ use Rattle.layer_traits.specs.Protocol.{IsKnown}
 
 -- no action is foreign to a holder that acts for every CPU
 pub no_foreign_acts : {N : Type 0} (ActsFor : CpuId → Type 0) → ((c : CpuId) → c.0 < CPUS → ActsFor c) → (others old : List (Action N))
-    → AreLegal (others ++ old) → AreForeign ActsFor doer others → others ≡ []
+    → AreLegal (others ++ old) → AreForeign ActsFor cpu_of_action others → others ≡ []
 no_foreign_acts ActsFor all [] old legal foreign = refl
 no_foreign_acts ActsFor all (a ∷ others) old legal foreign =
-    let other : same_cpu (doer a) (doer a) ≡ false = (foreign (doer a) (all (doer a) (doer_known a (others ++ old) legal.0 legal.1))).0 in
-    let itself : same_cpu (doer a) (doer a) ≡ true = same_cpu_self (doer a) in
+    let other : same_cpu (cpu_of_action a) (cpu_of_action a) ≡ false = (foreign (cpu_of_action a) (all (cpu_of_action a) (cpu_of_action_known a
+    (others ++ old) legal.0 legal.1))).0 in
+    let itself : same_cpu (cpu_of_action a) (cpu_of_action a) ≡ true = same_cpu_self (cpu_of_action a) in
     absurd (cc (other, itself))
 
 -- nor is a section
 pub no_foreign_sections : {E : Type 0} (ActsFor : CpuId → Type 0) → ((c : CpuId) → c.0 < CPUS → ActsFor c) → (others old : List (Section E))
-    → IsLawful IsKnown (others ++ old) → AreForeign ActsFor section_actor others → others ≡ []
+    → IsLawful IsKnown (others ++ old) → AreForeign ActsFor cpu_of_section others → others ≡ []
 no_foreign_sections ActsFor all [] old known foreign = refl
 no_foreign_sections ActsFor all (s ∷ others) old known foreign =
     let other : same_cpu s.cpu s.cpu ≡ false = (foreign s.cpu (all s.cpu known.0)).0 in

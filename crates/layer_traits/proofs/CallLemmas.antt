@@ -9,7 +9,7 @@ use Rattle.event_log.specs.History.{AreOthers, IsLawful, same_cpu}
 use Rattle.event_log.specs.Actions.{Action}
 use Rattle.thread_blocks.specs.Queues.{same_tid}
 use Rattle.thread_blocks.proofs.Members.{same_tid_true}
-use Rattle.layer_traits.specs.declared.moves.Line.{Line}
+use Rattle.layer_traits.specs.declared.moves.WaitList.{WaitList}
 use Rattle.layer_traits.specs.declared.passes.Pass.{Pass}
 use Rattle.layer_traits.specs.declared.passes.Pass.TheVariants.{Switch, YieldNow, Drain, MakeReady, End}
 use Rattle.layer_traits.specs.declared.queues.QueueCall.{QueueCall}
@@ -19,65 +19,67 @@ use Rattle.layer_traits.specs.declared.scheds.SchedAnswer.{SchedAnswer}
 use Rattle.layer_traits.specs.declared.scheds.SchedCall.TheVariants as call
 use Rattle.layer_traits.specs.MoveRules.{WakesSleepers, edit_move, section_moves, slept_at, asleep_after, asleep_by}
 use Rattle.layer_traits.specs.Passes.{PassPolled, pass_after, pass_steps}
-use Rattle.layer_traits.specs.Places.{AreMoves, Asleep, Hand, Home, MayMove, Move, Moved, Pend, Berth, Pushed, Step, Still, Threads, Took, Where, home_of}
-use Rattle.layer_traits.specs.Places.{is_asleep, is_cpu, is_berth, is_thread, pending_by, berth_of, step, stepper, where_after, where_is, where_slept}
+use Rattle.layer_traits.specs.Places.{AreMoves, Asleep, Hand, Home, MayMove, Move, Moved, Pend, WaitChannel, Pushed, Step, Still, Threads, Took, Where, home_of}
+use Rattle.layer_traits.specs.Places.{is_asleep, is_cpu, is_wait_channel, is_thread, pending_by}
+use Rattle.layer_traits.specs.Places.{wait_channel_of, step, cpu_of_step, where_after, where_is, where_slept}
 use Rattle.layer_traits.specs.Places.{where_taken, where_woken}
 use Rattle.layer_traits.specs.Plans.{Act, Follows, Left, Now, Plan, Table, raised}
-use Rattle.layer_traits.specs.Queues.{CallAllowed, Kernel, QueueAllowed, buffer_sections, call_move, event, event_actor, moves_in, out_at}
+use Rattle.layer_traits.specs.Queues.{CallAllowed, Kernel, QueueAllowed, buffer_sections, call_move, event, cpu_of_queue_event, moves_in, out_at}
 use Rattle.layer_traits.specs.Scheds.{SchedPolled, events_of, pass_call}
 
 -- Where a thread sleeps needs no home.
 
-taken_berth : (d : CpuId) (w : Where) → berth_of (where_taken d w) ≡ berth_of w
-taken_berth d Home = refl
-taken_berth d (Hand c) = refl
-taken_berth d (Pend c) = go (same_cpu d c)
+taken_wait_channel : (d : CpuId) (w : Where) → wait_channel_of (where_taken d w) ≡ wait_channel_of w
+taken_wait_channel d Home = refl
+taken_wait_channel d (Hand c) = refl
+taken_wait_channel d (Pend c) = go (same_cpu d c)
   where
-    go : (b : Bool) → berth_of (if b then Home else Pend c) ≡ None
+    go : (b : Bool) → wait_channel_of (if b then Home else Pend c) ≡ None
     go true = refl
     go false = refl
-taken_berth d (Asleep p) = refl
+taken_wait_channel d (Asleep p) = refl
 
-woken_berth : (c : CpuId) (home : Option CpuId) → berth_of (where_woken c home) ≡ None
-woken_berth c home = go (is_cpu c home)
+woken_wait_channel : (c : CpuId) (home : Option CpuId) → wait_channel_of (where_woken c home) ≡ None
+woken_wait_channel c home = go (is_cpu c home)
   where
-    go : (b : Bool) → berth_of (if b then Home else Hand c) ≡ None
+    go : (b : Bool) → wait_channel_of (if b then Home else Hand c) ≡ None
     go true = refl
     go false = refl
 
-slept_berth : (lock : LockId) (slept : Option Line) (w : Where) (p : Option Berth) → berth_of w ≡ p
-    → berth_of (where_slept lock slept w) ≡ slept_at lock slept p
-slept_berth lock None w p is = is
-slept_berth lock (Some line) w p is = refl
+slept_wait_channel : (lock : LockId) (slept : Option WaitList) (w : Where) (p : Option WaitChannel) → wait_channel_of w ≡ p
+    → wait_channel_of (where_slept lock slept w) ≡ slept_at lock slept p
+slept_wait_channel lock None w p is = is
+slept_wait_channel lock (Some line) w p is = refl
 
 module _ (homes : List CpuId) where
-  berth_after : (past : List Step) (c : CpuId) (move : Move) (t : Tid) → MayMove homes past c move → berth_of (where_is homes past t) ≡ asleep_by past t
-      → berth_of (where_after homes c move t (where_is homes past t)) ≡ asleep_after move t (asleep_by past t)
-  berth_after past c (Pushed d u) t may is = go (same_tid u t) refl
+  wait_channel_after : (past : List Step) (c : CpuId) (move : Move) (t : Tid) → MayMove homes past c move
+      → wait_channel_of (where_is homes past t) ≡ asleep_by past t
+      → wait_channel_of (where_after homes c move t (where_is homes past t)) ≡ asleep_after move t (asleep_by past t)
+  wait_channel_after past c (Pushed d u) t may is = go (same_tid u t) refl
     where
-      go : (b : Bool) → same_tid u t ≡ b → berth_of (if b then Pend d else where_is homes past t) ≡ asleep_by past t
+      go : (b : Bool) → same_tid u t ≡ b → wait_channel_of (if b then Pend d else where_is homes past t) ≡ asleep_by past t
       go false other = is
-      go true same = sym (ap berth_of (subst (λ v. where_is homes past v ≡ Hand c) (same_tid_true u t same) may.held)) ∙ is
-  berth_after past c (Took d) t may is = taken_berth d (where_is homes past t) ∙ is
-  berth_after past c (Moved lock caller slept woke) t may is = by_woke (is_thread t woke)
+      go true same = sym (ap wait_channel_of (subst (λ v. where_is homes past v ≡ Hand c) (same_tid_true u t same) may.held)) ∙ is
+  wait_channel_after past c (Took d) t may is = taken_wait_channel d (where_is homes past t) ∙ is
+  wait_channel_after past c (Moved lock caller slept woke) t may is = by_woke (is_thread t woke)
     where
-      by_caller : (b : Bool) → berth_of (if b then where_slept lock slept (where_is homes past t) else where_is homes past t)
+      by_caller : (b : Bool) → wait_channel_of (if b then where_slept lock slept (where_is homes past t) else where_is homes past t)
           ≡ (if b then slept_at lock slept (asleep_by past t) else asleep_by past t)
-      by_caller true = slept_berth lock slept (where_is homes past t) (asleep_by past t) is
+      by_caller true = slept_wait_channel lock slept (where_is homes past t) (asleep_by past t) is
       by_caller false = is
 
       by_woke : (b : Bool)
-          → berth_of (if b then where_woken c (home_of homes t)
+          → wait_channel_of (if b then where_woken c (home_of homes t)
           else (if same_tid caller t then where_slept lock slept (where_is homes past t) else where_is homes past t))
           ≡ (if b then None else (if same_tid caller t then slept_at lock slept (asleep_by past t) else asleep_by past t))
-      by_woke true = woken_berth c (home_of homes t)
+      by_woke true = woken_wait_channel c (home_of homes t)
       by_woke false = by_caller (same_tid caller t)
-  berth_after past c Still t may is = is
+  wait_channel_after past c Still t may is = is
 
   -- where a thread sleeps by its place is where it sleeps by the moves alone
-  pub asleep_berth : (moves : List Step) (t : Tid) → AreMoves homes moves → berth_of (where_is homes moves t) ≡ asleep_by moves t
-  asleep_berth [] t legal = refl
-  asleep_berth (s ∷ past) t legal = berth_after past s.cpu s.move t legal.0 (asleep_berth past t legal.1)
+  pub asleep_wait_channel : (moves : List Step) (t : Tid) → AreMoves homes moves → wait_channel_of (where_is homes moves t) ≡ asleep_by moves t
+  asleep_wait_channel [] t legal = refl
+  asleep_wait_channel (s ∷ past) t legal = wait_channel_after past s.cpu s.move t legal.0 (asleep_wait_channel past t legal.1)
 
 module _ {E B O : Type 0} (k : Kernel E B O) where
   -- The steps of calls.
@@ -92,7 +94,7 @@ module _ {E B O : Type 0} (k : Kernel E B O) where
   moves_append (e ∷ more) past = ap (λ l. step e.cpu (call_move k (more ++ past) e.call) ∷ l) (moves_append more past)
 
   -- calls of others are moves of others
-  pub moves_others : (c : CpuId) (more past : List (QueueEvent E)) → AreOthers event_actor c more → AreOthers stepper c (moves_over more past)
+  pub moves_others : (c : CpuId) (more past : List (QueueEvent E)) → AreOthers cpu_of_queue_event c more → AreOthers cpu_of_step c (moves_over more past)
   moves_others c [] past others = tt
   moves_others c (e ∷ more) past others = (others.0, moves_others c more past others.1)
 
@@ -126,7 +128,7 @@ module _ {E B O : Type 0} (k : Kernel E B O) where
         → CallAllowed k past c (OnBuffer b e) → (o : O) → out_at k past b e ≡ Some o → (u : Tid) → k.moves.woke o ≡ Some u
         → is_asleep (where_is k.homes (moves_in k past) u) ≡ true
     sleeps past lawful moves c b e allowed o answers u woke =
-        ap is_berth (asleep_berth k.homes (moves_in k past) u moves ∙ sym (sections_asleep past u))
+        ap is_wait_channel (asleep_wait_channel k.homes (moves_in k past) u moves ∙ sym (sections_asleep past u))
         ∙ wakes k.opening (buffer_sections past) (record { cpu = c; lock = Buffer b; edit = e }) o u (upper_lawful past lawful) allowed.upper answers woke
 
     -- the steps of allowed calls are moves that may be made

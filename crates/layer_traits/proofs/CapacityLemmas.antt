@@ -25,8 +25,8 @@ module _ {L : Type 0} (capacity : L → ℕ) (fresh : ℕ → L) (shows : (n : �
       ∙ ap (λ rest. k ∷ rest) (caps_read caps more (n + 1) (λ i. further n i (slice_get caps i) (same (suc i))) (omega (arith, few)))
 
   -- the capacities that the locks tell are those with which they opened
-  pub caps_told : (most : ℕ) → length all ≤ most → caps_from capacity most 0 locks ≡ all
-  caps_told most few = caps_read all most 0 from_zero few
+  pub caps_observed : (most : ℕ) → length all ≤ most → caps_from capacity most 0 locks ≡ all
+  caps_observed most few = caps_read all most 0 from_zero few
     where
       from_zero : (i : ℕ) → slice_get all (0 + i) ≡ slice_get all i
       from_zero i = let at : 0 + i ≡ i = omega arith in ap (slice_get all) at

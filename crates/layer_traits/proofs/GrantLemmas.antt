@@ -7,49 +7,49 @@ use Rattle.event_log.specs.declared.events.Event.{Event}
 use Rattle.event_log.specs.declared.events.Event.TheVariants.{Draw, Look, Free}
 use Rattle.event_log.specs.declared.grants.GrantEvent.{GrantEvent}
 use Rattle.event_log.specs.Actions.{gives, takes}
-use Rattle.event_log.specs.Grants.{acts_of_grants, grant_actor, grant_standing, grant_word, tickets}
+use Rattle.event_log.specs.Grants.{acts_of_grants, cpu_of_grant, grant_lock_phase, grant_word, tickets}
 use Rattle.event_log.specs.History.{AreOthers, Adds, same_cpu}
 use Rattle.event_log.specs.Sections.{block_after}
-use Rattle.event_log.specs.WordsLog.{IsLegalWords, Inside, Waiting, actor, draws, frees, standing}
+use Rattle.event_log.specs.WordsLog.{IsLegalWords, Holding, Waiting, cpu_of_event, draws, frees, lock_phase}
 use Rattle.event_log.proofs.GrantWords.{WordFits, legal_grants, one_word, takes_grants, words_fit}
 use Rattle.event_log.proofs.Tickets.{gives_acts, takes_acts}
 use Rattle.layer_traits.specs.declared.edits.Mark.{Mark}
 use Rattle.layer_traits.specs.GrantProtocol.{grant_sections}
-use Rattle.layer_traits.specs.GrantsTold.{acts_told, grant_told, grants_told, sections_told, stands_told, tells}
+use Rattle.layer_traits.specs.AsGrants.{acts_as_grants, as_grant, as_grants, sections_as_grants, stands_as_grants, grants_agree}
 use Rattle.layer_traits.specs.WordsProtocol.{sections}
 
 module _ {M : Type 0} where
   -- the events that came after these, as they are told
-  record ToldMore (others old : List (Event M)) : Type 0 where
+  record MoreAsGrants (others old : List (Event M)) : Type 0 where
     more : List (GrantEvent M)
-    is : grants_told (others ++ old) ≡ more ++ grants_told old
-    foreign : (c : CpuId) → AreOthers actor c others → AreOthers grant_actor c more
+    is : as_grants (others ++ old) ≡ more ++ as_grants old
+    foreign : (c : CpuId) → AreOthers cpu_of_event c others → AreOthers cpu_of_grant c more
 
-  actor_told : (e : Event M) (past : List (GrantEvent M)) → grant_actor (grant_told e past) ≡ actor e
-  actor_told (Draw cpu lock ticket) past = refl
-  actor_told (Look cpu lock ticket read) past = refl
-  actor_told (Free cpu lock mark) past = refl
+  cpu_as_grant : (e : Event M) (past : List (GrantEvent M)) → cpu_of_grant (as_grant e past) ≡ cpu_of_event e
+  cpu_as_grant (Draw cpu lock ticket) past = refl
+  cpu_as_grant (Look cpu lock ticket read) past = refl
+  cpu_as_grant (Free cpu lock mark) past = refl
 
-  told_more : (others old : List (Event M)) → ToldMore others old
-  told_more [] old = record { more = []; is = refl; foreign = λ c others. tt }
-  told_more (e ∷ others) old =
-      let rest = told_more others old in
-      let one : GrantEvent M = grant_told e (grants_told (others ++ old)) in
+  more_as_grants : (others old : List (Event M)) → MoreAsGrants others old
+  more_as_grants [] old = record { more = []; is = refl; foreign = λ c others. tt }
+  more_as_grants (e ∷ others) old =
+      let rest = more_as_grants others old in
+      let one : GrantEvent M = as_grant e (as_grants (others ++ old)) in
       record {
         more = one ∷ rest.more;
         is = ap (λ l. one ∷ l) rest.is;
-        foreign = λ c is. (ap (λ d. same_cpu d c) (actor_told e (grants_told (others ++ old))) ∙ is.0, rest.foreign c is.1);
+        foreign = λ c is. (ap (λ d. same_cpu d c) (cpu_as_grant e (as_grants (others ++ old))) ∙ is.0, rest.foreign c is.1);
       }
 
   -- where the log grew by an event, the told one grew by that event as it is told
-  pub adds_told : (By : CpuId → Type 0) (e : Event M) (old new : List (Event M)) → (adds : Adds By actor e old new)
-      → Adds By grant_actor (grant_told e (grants_told (adds.others ++ old))) (grants_told old) (grants_told new)
-  adds_told By e old new adds =
-      let rest = told_more adds.others old in
+  pub adds_mapped : (By : CpuId → Type 0) (e : Event M) (old new : List (Event M)) → (adds : Adds By cpu_of_event e old new)
+      → Adds By cpu_of_grant (as_grant e (as_grants (adds.others ++ old))) (as_grants old) (as_grants new)
+  adds_mapped By e old new adds =
+      let rest = more_as_grants adds.others old in
       record {
         others = rest.more;
         foreign = λ c acts. rest.foreign c (adds.foreign c acts);
-        is = ap grants_told adds.is ∙ ap (λ l. grant_told e (grants_told (adds.others ++ old)) ∷ l) rest.is;
+        is = ap as_grants adds.is ∙ ap (λ l. as_grant e (as_grants (adds.others ++ old)) ∷ l) rest.is;
       }
 
   module _ (log : List (Event M)) (legal : IsLegalWords log) (lock : LockId) where
@@ -57,30 +57,30 @@ module _ {M : Type 0} where
     same mark = mark
 
     -- the tickets are the draws
-    pub tickets_told : tickets lock (grants_told log) ≡ draws lock log
-    tickets_told = sym (takes_grants same lock (grants_told log)) ∙ (ap (takes lock) (acts_told same log legal) ∙ takes_acts same lock log)
+    pub tickets_as_grants : tickets lock (as_grants log) ≡ draws lock log
+    tickets_as_grants = sym (takes_grants same lock (as_grants log)) ∙ (ap (takes lock) (acts_as_grants same log legal) ∙ takes_acts same lock log)
 
     -- words that the number of frees tells are the grant words
-    pub words_told : (words : List ℕ) → ((k : ℕ) → k < CPUS → WordFits k (frees lock log) (slice_index words k))
-        → (k : ℕ) → k < CPUS → slice_index words k ≡ grant_word lock k (grants_told log)
-    words_told words fits k within =
-        let told = (tells log legal).legal in
-        let count : gives lock (acts_of_grants same (grants_told log)) ≡ frees lock log =
-        ap (gives lock) (acts_told same log legal) ∙ gives_acts same lock log in
-        one_word k (frees lock log) (slice_index words k) (grant_word lock k (grants_told log)) (fits k within)
-        (subst (λ n. WordFits k n (grant_word lock k (grants_told log))) count
-        (words_fit same lock k within (grants_told log) told (legal_grants same (grants_told log) told)))
+    pub words_as_grants : (words : List ℕ) → ((k : ℕ) → k < CPUS → WordFits k (frees lock log) (slice_index words k))
+        → (k : ℕ) → k < CPUS → slice_index words k ≡ grant_word lock k (as_grants log)
+    words_as_grants words fits k within =
+        let told = (grants_agree log legal).legal in
+        let count : gives lock (acts_of_grants same (as_grants log)) ≡ frees lock log =
+        ap (gives lock) (acts_as_grants same log legal) ∙ gives_acts same lock log in
+        one_word k (frees lock log) (slice_index words k) (grant_word lock k (as_grants log)) (fits k within)
+        (subst (λ n. WordFits k n (grant_word lock k (as_grants log))) count
+        (words_fit same lock k within (as_grants log) told (legal_grants same (as_grants log) told)))
 
 -- what a look found, in terms of grant words
-pub hits_told : {E B : Type 0} (edited : E → B → B) (opening : LockId → Option B) (log : List (Event (Mark E))) → IsLegalWords log
+pub hits_as_grants : {E B : Type 0} (edited : E → B → B) (opening : LockId → Option B) (log : List (Event (Mark E))) → IsLegalWords log
     → (cpu : CpuId) (lock : LockId) (ticket : ℕ) (found : Option B)
-    → MatchOption found (standing cpu log ≡ Waiting lock ticket)
-    (λ block. (standing cpu log ≡ Inside lock ticket) × (block_after edited opening lock (sections log) ≡ Some block))
-    → MatchOption found (grant_standing cpu (grants_told log) ≡ Waiting lock ticket)
-    (λ block. (grant_standing cpu (grants_told log) ≡ Inside lock ticket)
-    × (block_after edited opening lock (grant_sections (grants_told log)) ≡ Some block))
-hits_told edited opening log legal cpu lock ticket None waits = stands_told log legal cpu ∙ waits
-hits_told edited opening log legal cpu lock ticket (Some block) hit = (
-  stands_told log legal cpu ∙ hit.0,
-  ap (block_after edited opening lock) (sections_told log legal) ∙ hit.1,
+    → MatchOption found (lock_phase cpu log ≡ Waiting lock ticket)
+    (λ block. (lock_phase cpu log ≡ Holding lock ticket) × (block_after edited opening lock (sections log) ≡ Some block))
+    → MatchOption found (grant_lock_phase cpu (as_grants log) ≡ Waiting lock ticket)
+    (λ block. (grant_lock_phase cpu (as_grants log) ≡ Holding lock ticket)
+    × (block_after edited opening lock (grant_sections (as_grants log)) ≡ Some block))
+hits_as_grants edited opening log legal cpu lock ticket None waits = stands_as_grants log legal cpu ∙ waits
+hits_as_grants edited opening log legal cpu lock ticket (Some block) hit = (
+  stands_as_grants log legal cpu ∙ hit.0,
+  ap (block_after edited opening lock) (sections_as_grants log legal) ∙ hit.1,
 )

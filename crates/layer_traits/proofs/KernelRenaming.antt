@@ -35,7 +35,7 @@ use Rattle.layer_traits.specs.Protocol.{section}
 use Rattle.layer_traits.specs.QueueBlocks.{StartsAs, StartsWell, above_of, homes_in, homes_of, inner}
 use Rattle.layer_traits.specs.QueueRules.{AreProper, IsProper, queue_answer, queue_edited, queue_rules}
 use Rattle.layer_traits.specs.Queues.{Kernel, CallAllowed, IsKnownEvent, QueueAllowed, buffer_sections, call_move}
-use Rattle.layer_traits.specs.Queues.{event, event_actor, event_of, call_at, moves_in, out_at, with_section}
+use Rattle.layer_traits.specs.Queues.{event, cpu_of_queue_event, event_of, call_at, moves_in, out_at, with_section}
 use Rattle.layer_traits.specs.Renaming.{named, renamed_call, renamed_edit, renamed_event, renamed_events, renamed_sched, viewed, viewed_block}
 use Rattle.layer_traits.specs.Scheds.{EditStays, IsLocal, SchedPolled, answer_to, events_of, left, left_by, own_after, own_answered, queue_call, sched_plan}
 use Rattle.layer_traits.proofs.PlanRenaming.{block_viewed, map-append, reply_viewed}
@@ -108,7 +108,7 @@ module _ {D E : Type 0} (name : D → E) where
   pub events_append : (more past : List (QueueEvent D)) → renamed_events name (more ++ past) ≡ renamed_events name more ++ renamed_events name past
   events_append more past = map-append (renamed_event name) more past
 
-  pub events_others : (c : CpuId) (more : List (QueueEvent D)) → AreOthers event_actor c more → AreOthers event_actor c (renamed_events name more)
+  pub events_others : (c : CpuId) (more : List (QueueEvent D)) → AreOthers cpu_of_queue_event c more → AreOthers cpu_of_queue_event c (renamed_events name more)
   events_others c [] others = tt
   events_others c (e ∷ more) others = (others.0, events_others c more others.1)
 
@@ -117,8 +117,8 @@ module _ {D E : Type 0} (name : D → E) where
   known_renamed (e ∷ past) known = (known.0, known_renamed past known.1)
 
   -- a history that grew by foreign events did so
-  pub grows_renamed : (ActsFor : CpuId → Type 0) (old new : List (QueueEvent D)) → Grows ActsFor event_actor old new
-      → Grows ActsFor event_actor (renamed_events name old) (renamed_events name new)
+  pub grows_renamed : (ActsFor : CpuId → Type 0) (old new : List (QueueEvent D)) → Grows ActsFor cpu_of_queue_event old new
+      → Grows ActsFor cpu_of_queue_event (renamed_events name old) (renamed_events name new)
   grows_renamed ActsFor old new grows = record {
     others = renamed_events name grows.others;
     foreign = λ c acts. events_others c grows.others (grows.foreign c acts);
@@ -226,7 +226,7 @@ module _ {D E A B O : Type 0} (k : Kernel D A O) (j : Kernel E B O) (name : D �
 
   -- an edit that stays allowed here is allowed here after whatever others do beneath
   pub stays_renamed : (c : CpuId) (past : List (QueueEvent D)) (b : BufId) (d : D) → EditStays j c (renamed_events name past) (call.OnBuffer b (name d))
-      → (more : List (QueueEvent D)) → AreOthers event_actor c more → IsLawful (QueueAllowed k) (more ++ past)
+      → (more : List (QueueEvent D)) → AreOthers cpu_of_queue_event c more → IsLawful (QueueAllowed k) (more ++ past)
       → j.rules.allowed j.opening (map (renamed_section name) (buffer_sections (more ++ past))) (section c (Buffer b) (name d))
   stays_renamed c past b d stays more others lawful =
       subst (λ p. j.rules.allowed j.opening p (section c (Buffer b) (name d)))
@@ -244,9 +244,9 @@ module _ {D E A B O : Type 0} (k : Kernel D A O) (j : Kernel E B O) (name : D �
   own_renamed c past (call.OnBuffer b d) own = ap (λ o. own_answered j.moves j.homes c o own) (out_renamed past b d)
       ∙ answered_renamed c (out_at k past b d) own
 
-  told_renamed : (past : List (QueueEvent D)) (s : SchedCall D) → answer_to j (renamed_events name past) (renamed_sched name s) ≡ answer_to k past s
-  told_renamed past (call.Pass p) = refl
-  told_renamed past (call.OnBuffer b d) = ap (option_map Answer) (out_renamed past b d)
+  report_renamed : (past : List (QueueEvent D)) (s : SchedCall D) → answer_to j (renamed_events name past) (renamed_sched name s) ≡ answer_to k past s
+  report_renamed past (call.Pass p) = refl
+  report_renamed past (call.OnBuffer b d) = ap (option_map Answer) (out_renamed past b d)
 
   pass_seen : (c : CpuId) (p : Pass) (past : List (QueueEvent D)) → renamed_events name (events_of c (queue_call k.homes c (call.Pass p)) ++ past)
       ≡ events_of c (queue_call j.homes c (call.Pass p)) ++ renamed_events name past
@@ -299,7 +299,7 @@ module _ {D E A B O : Type 0} (k : Kernel D A O) (j : Kernel E B O) (name : D �
       told : (r : Option (SchedAnswer O)) → MatchOption r (Unit {0}) (λ answer. answer_to k (polled.others ++ old) s ≡ Some answer)
           → MatchOption r (Unit {0}) (λ answer. answer_to j (renamed_events name polled.others ++ renamed_events name old) (renamed_sched name s) ≡ Some answer)
       told None answer = tt
-      told (Some a) answer = ap (λ p. answer_to j p (renamed_sched name s)) (sym here) ∙ (told_renamed (polled.others ++ old) s ∙ answer)
+      told (Some a) answer = ap (λ p. answer_to j p (renamed_sched name s)) (sym here) ∙ (report_renamed (polled.others ++ old) s ∙ answer)
 
   -- Plans and actions.
 

@@ -8,15 +8,15 @@ use Rattle.event_log.specs.declared.ids.TheConstants.{THREADS}
 use Rattle.event_log.specs.History.{same_lock, IsLawful}
 use Rattle.event_log.specs.Sections.{Section, block_after}
 use Rattle.event_log.proofs.Same.{same_lock_self, same_lock_true}
-use Rattle.layer_traits.specs.declared.moves.Line.{Line}
-use Rattle.layer_traits.specs.declared.moves.Line.TheVariants.{Sleepers, Receivers, Senders}
-use Rattle.layer_traits.specs.declared.sleeps.Leave.{Leave}
-use Rattle.layer_traits.specs.declared.sleeps.Leave.TheVariants.{Nobody, First, Receiver, Sender}
+use Rattle.layer_traits.specs.declared.moves.WaitList.{WaitList}
+use Rattle.layer_traits.specs.declared.moves.WaitList.TheVariants.{Sleepers, Receivers, Senders}
+use Rattle.layer_traits.specs.declared.sleeps.Wake.{Wake}
+use Rattle.layer_traits.specs.declared.sleeps.Wake.TheVariants.{Nobody, FirstSleeper, Receiver, Sender}
 use Rattle.layer_traits.specs.declared.sleeps.Outcome.{Outcome}
-use Rattle.layer_traits.specs.ListsAgree.{same_line, is_at, Agrees}
+use Rattle.layer_traits.specs.ListsAgree.{same_list, is_at, Agrees}
 use Rattle.layer_traits.specs.MoveRules.{edit_move, section_moves, slept_at, asleep_after, asleep_by}
-use Rattle.layer_traits.specs.Places.{Berth, At, Moved, is_thread, is_berth, one_if, count_in}
-use Rattle.layer_traits.specs.Sleeping.{SleepRules, SleepState, joined, line_joined, left, woken, line_of, line_at, answer_above}
+use Rattle.layer_traits.specs.Places.{WaitChannel, At, Moved, is_thread, is_wait_channel, one_if, count_in}
+use Rattle.layer_traits.specs.Sleeping.{SleepRules, SleepState, joined, wait_list_joined, left, woken, wait_list_of, wait_list_at, answer_above}
 use Rattle.layer_traits.specs.Sleeping.{sleep_edited, sleep_answer, sleep_woke, sleep_rules, sleep_moves, NobodySleeps, IsAwake}
 use Rattle.layer_traits.proofs.CountLemmas.{same_tid_sym, count_append, count_front, one_if_most, in_counted, is_thread_self, not_counted}
 use Rattle.thread_blocks.specs.Queues.{same_tid, is_in, first, rest, without}
@@ -73,36 +73,36 @@ count_joined t x q small new =
 -- Places.
 
 -- who sleeps at one line sleeps at no other, and at no other lock
-same_line_true : (line other : Line) → same_line line other ≡ true → line ≡ other
-same_line_true Sleepers Sleepers same = refl
-same_line_true Receivers Receivers same = refl
-same_line_true Senders Senders same = refl
-same_line_true Sleepers Receivers same = absurd cc
-same_line_true Sleepers Senders same = absurd cc
-same_line_true Receivers Sleepers same = absurd cc
-same_line_true Receivers Senders same = absurd cc
-same_line_true Senders Sleepers same = absurd cc
-same_line_true Senders Receivers same = absurd cc
+same_list_true : (line other : WaitList) → same_list line other ≡ true → line ≡ other
+same_list_true Sleepers Sleepers same = refl
+same_list_true Receivers Receivers same = refl
+same_list_true Senders Senders same = refl
+same_list_true Sleepers Receivers same = absurd cc
+same_list_true Sleepers Senders same = absurd cc
+same_list_true Receivers Sleepers same = absurd cc
+same_list_true Receivers Senders same = absurd cc
+same_list_true Senders Sleepers same = absurd cc
+same_list_true Senders Receivers same = absurd cc
 
-same_line_self : (line : Line) → same_line line line ≡ true
-same_line_self Sleepers = refl
-same_line_self Receivers = refl
-same_line_self Senders = refl
+same_list_self : (line : WaitList) → same_list line line ≡ true
+same_list_self Sleepers = refl
+same_list_self Receivers = refl
+same_list_self Senders = refl
 
-pub at_berth : (lock : LockId) (line : Line) (p : Option Berth) → is_at lock line p ≡ true → p ≡ Some (At lock line)
-at_berth lock line None at = absurd cc
-at_berth lock line (Some (At other at_line)) at =
-    let parts = and_parts (same_lock other lock) (same_line at_line line) at in
-    λ i. Some (At (same_lock_true other lock parts.0 i) (same_line_true at_line line parts.1 i))
+pub at_wait_channel : (lock : LockId) (line : WaitList) (p : Option WaitChannel) → is_at lock line p ≡ true → p ≡ Some (At lock line)
+at_wait_channel lock line None at = absurd cc
+at_wait_channel lock line (Some (At other at_line)) at =
+    let parts = and_parts (same_lock other lock) (same_list at_line line) at in
+    λ i. Some (At (same_lock_true other lock parts.0 i) (same_list_true at_line line parts.1 i))
 
-pub berth_here : (lock : LockId) (line : Line) → is_at lock line (Some (At lock line)) ≡ true
-berth_here lock line = ap (λ b. b && same_line line line) (same_lock_self lock) ∙ same_line_self line
+pub wait_channel_here : (lock : LockId) (line : WaitList) → is_at lock line (Some (At lock line)) ≡ true
+wait_channel_here lock line = ap (λ b. b && same_list line line) (same_lock_self lock) ∙ same_list_self line
 
-other_line : (lock : LockId) (line other : Line) → same_line line other ≡ false → is_at lock other (Some (At lock line)) ≡ false
-other_line lock line other apart = and_right (same_lock lock lock) (same_line line other) apart
+other_list : (lock : LockId) (line other : WaitList) → same_list line other ≡ false → is_at lock other (Some (At lock line)) ≡ false
+other_list lock line other apart = and_right (same_lock lock lock) (same_list line other) apart
 
-other_lock : (lock at : LockId) (line at_line : Line) → same_lock at lock ≡ false → is_at lock line (Some (At at at_line)) ≡ false
-other_lock lock at line at_line apart = and_left (same_lock at lock) (same_line at_line line) apart
+other_lock : (lock at : LockId) (line at_line : WaitList) → same_lock at lock ≡ false → is_at lock line (Some (At at at_line)) ≡ false
+other_lock lock at line at_line apart = and_left (same_lock at lock) (same_list at_line line) apart
 
 -- two locks are apart from either side
 lock_apart : (lock other : LockId) → same_lock lock other ≡ false → same_lock other lock ≡ false
@@ -116,33 +116,34 @@ lock_apart lock other apart = go (same_lock other lock) refl
 
 -- The lists of one lock, and who leaves and joins them.
 
-module _ (lock : LockId) (lines : Line → List Tid) (asleep : Tid → Option Berth) (agrees : Agrees lock lines asleep) where
+module _ (lock : LockId) (lines : WaitList → List Tid) (asleep : Tid → Option WaitChannel) (agrees : Agrees lock lines asleep) where
   -- who stands in a list sleeps there
-  pub stands_asleep : (line : Line) (t : Tid) → 0 < count_in t (lines line) → asleep t ≡ Some (At lock line)
-  stands_asleep line t some = at_berth lock line (asleep t) (go (is_at lock line (asleep t)) refl)
+  pub stands_asleep : (line : WaitList) (t : Tid) → 0 < count_in t (lines line) → asleep t ≡ Some (At lock line)
+  stands_asleep line t some = at_wait_channel lock line (asleep t) (go (is_at lock line (asleep t)) refl)
     where
       go : (b : Bool) → is_at lock line (asleep t) ≡ b → b ≡ true
       go true is = refl
       go false is = let none : one_if (is_at lock line (asleep t)) ≡ 0 = ap one_if is in absurd (omega (arith, some, agrees line t, none))
 
   -- who is awake stands in no list
-  awake_out : (line : Line) (t : Tid) → asleep t ≡ None → count_in t (lines line) ≡ 0
+  awake_out : (line : WaitList) (t : Tid) → asleep t ≡ None → count_in t (lines line) ≡ 0
   awake_out line t awake = agrees line t ∙ ap (λ p. one_if (is_at lock line p)) awake
 
   -- a list that nobody left, where who left stood in another
-  stays_there : (line other : Line) (t : Tid) (b : Bool) → (b ≡ true → 0 < count_in t (lines line)) → same_line line other ≡ false
+  stays_there : (line other : WaitList) (t : Tid) (b : Bool) → (b ≡ true → 0 < count_in t (lines line)) → same_list line other ≡ false
       → count_in t (lines other) ≡ one_if (is_at lock other (if b then None else asleep t))
   stays_there line other t false stood apart = agrees other t
   stays_there line other t true stood apart =
-      agrees other t ∙ (ap (λ p. one_if (is_at lock other p)) (stands_asleep line t (stood refl)) ∙ ap one_if (other_line lock line other apart))
+      agrees other t ∙ (ap (λ p. one_if (is_at lock other p)) (stands_asleep line t (stood refl)) ∙ ap one_if (other_list lock line other apart))
 
-  first_stood : (line : Line) (t : Tid) → is_thread t (first (lines line)) ≡ true → 0 < count_in t (lines line)
+  first_stood : (line : WaitList) (t : Tid) → is_thread t (first (lines line)) ≡ true → 0 < count_in t (lines line)
   first_stood line t is =
       let one : one_if (is_thread t (first (lines line))) ≡ 1 = ap one_if is in
       omega (arith, one, count_front t (lines line))
 
   -- the list that its first left
-  first_left : (line : Line) (t : Tid) → count_in t (rest (lines line)) ≡ one_if (is_at lock line (if is_thread t (first (lines line)) then None else asleep t))
+  first_left : (line : WaitList) (t : Tid) → count_in t (rest (lines line)) ≡ one_if (is_at lock line (if is_thread t (first
+      (lines line)) then None else asleep t))
   first_left line t = go (is_thread t (first (lines line))) refl
     where
       go : (b : Bool) → is_thread t (first (lines line)) ≡ b → count_in t (rest (lines line)) ≡ one_if (is_at lock line (if b then None else asleep t))
@@ -154,7 +155,7 @@ module _ (lock : LockId) (lines : Line → List Tid) (asleep : Tid → Option Be
           omega (arith, none, count_front t (lines line), agrees line t)
 
   -- who is woken by name stood in the list
-  named_stood : (line : Line) (t u : Tid) → is_thread t (if is_in u (lines line) then Some u else None) ≡ true → 0 < count_in t (lines line)
+  named_stood : (line : WaitList) (t u : Tid) → is_thread t (if is_in u (lines line) then Some u else None) ≡ true → 0 < count_in t (lines line)
   named_stood line t u is = go (is_in u (lines line)) refl is
     where
       go : (b : Bool) → is_in u (lines line) ≡ b → is_thread t (if b then Some u else None) ≡ true → 0 < count_in t (lines line)
@@ -162,7 +163,7 @@ module _ (lock : LockId) (lines : Line → List Tid) (asleep : Tid → Option Be
       go false out same = absurd cc
 
   -- the list that the named one left, if it stood there
-  named_left : (line : Line) (t u : Tid)
+  named_left : (line : WaitList) (t u : Tid)
       → count_in t (without u (lines line)) ≡ one_if (is_at lock line (if is_thread t (if is_in u (lines line) then Some u else None) then None else asleep t))
   named_left line t u = count_without t u (lines line) ∙ go (is_in u (lines line)) refl (same_tid u t) refl
     where
@@ -176,14 +177,14 @@ module _ (lock : LockId) (lines : Line → List Tid) (asleep : Tid → Option Be
           sym gone ∙ agrees line t
 
   -- the lists agree after these left
-  left_agrees : (leave : Leave) → Agrees lock (λ line. left line leave (lines line))
+  left_agrees : (leave : Wake) → Agrees lock (λ line. left line leave (lines line))
       (λ t. if is_thread t (woken leave (lines Sleepers) (lines Receivers) (lines Senders)) then None else asleep t)
   left_agrees Nobody Sleepers t = agrees Sleepers t
   left_agrees Nobody Receivers t = agrees Receivers t
   left_agrees Nobody Senders t = agrees Senders t
-  left_agrees First Sleepers t = first_left Sleepers t
-  left_agrees First Receivers t = stays_there Sleepers Receivers t _ (first_stood Sleepers t) refl
-  left_agrees First Senders t = stays_there Sleepers Senders t _ (first_stood Sleepers t) refl
+  left_agrees FirstSleeper Sleepers t = first_left Sleepers t
+  left_agrees FirstSleeper Receivers t = stays_there Sleepers Receivers t _ (first_stood Sleepers t) refl
+  left_agrees FirstSleeper Senders t = stays_there Sleepers Senders t _ (first_stood Sleepers t) refl
   left_agrees (Receiver u) Sleepers t = stays_there Receivers Sleepers t _ (named_stood Receivers t u) refl
   left_agrees (Receiver u) Receivers t = named_left Receivers t u
   left_agrees (Receiver u) Senders t = stays_there Receivers Senders t _ (named_stood Receivers t u) refl
@@ -192,16 +193,16 @@ module _ (lock : LockId) (lines : Line → List Tid) (asleep : Tid → Option Be
   left_agrees (Sender u) Senders t = named_left Senders t u
 
   -- whom they wake sleeps at this lock
-  pub woken_asleep : (leave : Leave) (t : Tid) → is_thread t (woken leave (lines Sleepers) (lines Receivers) (lines Senders)) ≡ true
-      → (line : Line) × (asleep t ≡ Some (At lock line))
+  pub woken_asleep : (leave : Wake) (t : Tid) → is_thread t (woken leave (lines Sleepers) (lines Receivers) (lines Senders)) ≡ true
+      → (line : WaitList) × (asleep t ≡ Some (At lock line))
   woken_asleep Nobody t is = absurd cc
-  woken_asleep First t is = (Sleepers, stands_asleep Sleepers t (first_stood Sleepers t is))
+  woken_asleep FirstSleeper t is = (Sleepers, stands_asleep Sleepers t (first_stood Sleepers t is))
   woken_asleep (Receiver u) t is = (Receivers, stands_asleep Receivers t (named_stood Receivers t u is))
   woken_asleep (Sender u) t is = (Senders, stands_asleep Senders t (named_stood Senders t u is))
 
   module _ (caller : Tid) (awake : asleep caller ≡ None) (small : caller.0 < THREADS) where
     -- the list that an awake thread joined
-    joined_here : (line : Line) (t : Tid) → count_in t (joined caller (lines line))
+    joined_here : (line : WaitList) (t : Tid) → count_in t (joined caller (lines line))
         ≡ one_if (is_at lock line (if same_tid caller t then Some (At lock line) else asleep t))
     joined_here line t = count_joined t caller (lines line) small (not_counted caller (lines line) (awake_out line caller awake)) ∙ go (same_tid caller t) refl
       where
@@ -210,29 +211,29 @@ module _ (lock : LockId) (lines : Line → List Tid) (asleep : Tid → Option Be
         go true same =
             let out : count_in t (lines line) ≡ 0 = subst (λ v. count_in v (lines line) ≡ 0) (same_tid_true caller t same) (awake_out line caller awake) in
             let once : one_if (same_tid t caller) ≡ 1 = ap one_if (same_tid_sym t caller ∙ same) in
-            let here : one_if (is_at lock line (Some (At lock line))) ≡ 1 = ap one_if (berth_here lock line) in
+            let here : one_if (is_at lock line (Some (At lock line))) ≡ 1 = ap one_if (wait_channel_here lock line) in
             omega (arith, out, once, here)
         go false other =
             let none : one_if (same_tid t caller) ≡ 0 = ap one_if (same_tid_sym t caller ∙ other) in
             omega (arith, none, agrees line t)
 
     -- a list that it did not join
-    joined_there : (line at : Line) (t : Tid) → same_line at line ≡ false
+    joined_there : (line at : WaitList) (t : Tid) → same_list at line ≡ false
         → count_in t (lines line) ≡ one_if (is_at lock line (if same_tid caller t then Some (At lock at) else asleep t))
     joined_there line at t apart = go (same_tid caller t) refl
       where
         go : (b : Bool) → same_tid caller t ≡ b → count_in t (lines line) ≡ one_if (is_at lock line (if b then Some (At lock at) else asleep t))
         go true same =
             subst (λ v. count_in v (lines line) ≡ 0) (same_tid_true caller t same) (awake_out line caller awake)
-            ∙ sym (ap one_if (other_line lock at line apart))
+            ∙ sym (ap one_if (other_list lock at line apart))
         go false other = agrees line t
 
-    joined_nowhere : (line : Line) (t : Tid) (b : Bool) → count_in t (lines line) ≡ one_if (is_at lock line (if b then asleep t else asleep t))
+    joined_nowhere : (line : WaitList) (t : Tid) (b : Bool) → count_in t (lines line) ≡ one_if (is_at lock line (if b then asleep t else asleep t))
     joined_nowhere line t true = agrees line t
     joined_nowhere line t false = agrees line t
 
     -- the lists agree after an awake thread joined one
-    join_agrees : (joins : Option Line) → Agrees lock (λ line. line_joined line joins caller (lines line))
+    join_agrees : (joins : Option WaitList) → Agrees lock (λ line. wait_list_joined line joins caller (lines line))
         (λ t. if same_tid caller t then slept_at lock joins (asleep t) else asleep t)
     join_agrees None Sleepers t = joined_nowhere Sleepers t (same_tid caller t)
     join_agrees None Receivers t = joined_nowhere Receivers t (same_tid caller t)
@@ -247,8 +248,8 @@ module _ (lock : LockId) (lines : Line → List Tid) (asleep : Tid → Option Be
     join_agrees (Some Senders) Receivers t = joined_there Receivers Senders t refl
     join_agrees (Some Senders) Senders t = joined_here Senders t
 
-module _ (lock : LockId) (lines : Line → List Tid) (asleep : Tid → Option Berth) (agrees : Agrees lock lines asleep) (leave : Leave) (caller : Tid)
-    (awake : asleep caller ≡ None) (small : caller.0 < THREADS) (joins : Option Line) where
+module _ (lock : LockId) (lines : WaitList → List Tid) (asleep : Tid → Option WaitChannel) (agrees : Agrees lock lines asleep) (leave : Wake) (caller : Tid)
+    (awake : asleep caller ≡ None) (small : caller.0 < THREADS) (joins : Option WaitList) where
   -- who is woken is not the caller
   both_ways : (t : Tid) (b : Bool) → is_thread t (woken leave (lines Sleepers) (lines Receivers) (lines Senders)) ≡ b
       → (if same_tid caller t then slept_at lock joins (if b then None else asleep t) else (if b then None else asleep t))
@@ -268,7 +269,7 @@ module _ (lock : LockId) (lines : Line → List Tid) (asleep : Tid → Option Be
   after_leaving false = awake
 
   -- the lists of a section's own lock agree after it
-  pub own_agrees : Agrees lock (λ line. line_joined line joins caller (left line leave (lines line)))
+  pub own_agrees : Agrees lock (λ line. wait_list_joined line joins caller (left line leave (lines line)))
       (λ t. asleep_after (Moved lock caller joins (woken leave (lines Sleepers) (lines Receivers) (lines Senders))) t (asleep t))
   own_agrees line t =
       join_agrees lock (λ l. left l leave (lines l))
@@ -278,14 +279,14 @@ module _ (lock : LockId) (lines : Line → List Tid) (asleep : Tid → Option Be
       ∙ ap (λ p. one_if (is_at lock line p)) (both_ways t (is_thread t (woken leave (lines Sleepers) (lines Receivers) (lines Senders))) refl)
 
   -- and those of another lock
-  pub other_agrees : (other : LockId) (others : Line → List Tid) → same_lock other lock ≡ false → Agrees other others asleep
+  pub other_agrees : (other : LockId) (others : WaitList → List Tid) → same_lock other lock ≡ false → Agrees other others asleep
       → Agrees other others (λ t. asleep_after (Moved lock caller joins (woken leave (lines Sleepers) (lines Receivers) (lines Senders))) t (asleep t))
   other_agrees other others apart there line t = there line t ∙ by_woken (is_thread t (woken leave (lines Sleepers) (lines Receivers) (lines Senders))) refl
     where
       turned : same_lock lock other ≡ false
       turned = lock_apart other lock apart
 
-      by_joins : (j : Option Line) → is_at other line (slept_at lock j None) ≡ false
+      by_joins : (j : Option WaitList) → is_at other line (slept_at lock j None) ≡ false
       by_joins None = refl
       by_joins (Some at) = other_lock other lock line at turned
 
@@ -317,25 +318,25 @@ module _ {E B O : Type 0} (rules : SleepRules E B O) (opening : LockId → Optio
   after lock past = block_after (sleep_edited rules) opening lock past
 
   -- where a thread sleeps after them
-  abbrev asleep : List (Section E) → Tid → Option Berth
+  abbrev asleep : List (Section E) → Tid → Option WaitChannel
   asleep past t = asleep_by (section_moves (sleep_rules rules) (sleep_moves rules) opening past) t
 
   edited_agrees : (lock : LockId) (past : List (Section E)) (s : Section E) (state : SleepState B) → IsAwake rules opening past s
-      → Agrees lock (λ line. line_of line state) (asleep past) → (line : Line) (t : Tid)
-      → count_in t (line_of line (sleep_edited rules s.edit state))
+      → Agrees lock (λ line. wait_list_of line state) (asleep past) → (line : WaitList) (t : Tid)
+      → count_in t (wait_list_of line (sleep_edited rules s.edit state))
       ≡ one_if (is_at lock line (asleep_after (Moved lock (rules.caller s.edit) (rules.joins (answer_above rules s.edit state))
       (sleep_woke rules s.edit state)) t (asleep past t)))
   edited_agrees lock past s state awake agrees line t = by_line line
     where
-      own : Agrees lock (λ l. line_joined l (rules.joins (answer_above rules s.edit state)) (rules.caller s.edit)
-          (left l (rules.leaves (answer_above rules s.edit state)) (line_of l state)))
+      own : Agrees lock (λ l. wait_list_joined l (rules.joins (answer_above rules s.edit state)) (rules.caller s.edit)
+          (left l (rules.leaves (answer_above rules s.edit state)) (wait_list_of l state)))
           (λ u. asleep_after (Moved lock (rules.caller s.edit) (rules.joins (answer_above rules s.edit state)) (sleep_woke rules s.edit state)) u
           (asleep past u))
-      own = own_agrees lock (λ l. line_of l state) (asleep past) agrees (rules.leaves (answer_above rules s.edit state))
+      own = own_agrees lock (λ l. wait_list_of l state) (asleep past) agrees (rules.leaves (answer_above rules s.edit state))
           (rules.caller s.edit) awake.awake awake.small
           (rules.joins (answer_above rules s.edit state))
 
-      by_line : (l : Line) → count_in t (line_of l (sleep_edited rules s.edit state))
+      by_line : (l : WaitList) → count_in t (wait_list_of l (sleep_edited rules s.edit state))
           ≡ one_if (is_at lock l (asleep_after (Moved lock (rules.caller s.edit) (rules.joins (answer_above rules s.edit state))
           (sleep_woke rules s.edit state)) t (asleep past t)))
       by_line Sleepers = own Sleepers t
@@ -343,39 +344,39 @@ module _ {E B O : Type 0} (rules : SleepRules E B O) (opening : LockId → Optio
       by_line Senders = own Senders t
 
   agree_step : (past : List (Section E)) (s : Section E) → IsAwake rules opening past s
-      → ((lock : LockId) → Agrees lock (λ line. line_at line (after lock past)) (asleep past))
-      → (lock : LockId) → Agrees lock (λ line. line_at line (after lock (s ∷ past))) (asleep (s ∷ past))
+      → ((lock : LockId) → Agrees lock (λ line. wait_list_at line (after lock past)) (asleep past))
+      → (lock : LockId) → Agrees lock (λ line. wait_list_at line (after lock (s ∷ past))) (asleep (s ∷ past))
   agree_step past s awake agree lock line t = go (after s.lock past) refl (same_lock lock s.lock) refl
     where
       go : (o : Option (SleepState B)) → after s.lock past ≡ o → (b : Bool) → same_lock lock s.lock ≡ b
-          → count_in t (line_at line (if b then option_map (sleep_edited rules s.edit) (after lock past) else after lock past))
+          → count_in t (wait_list_at line (if b then option_map (sleep_edited rules s.edit) (after lock past) else after lock past))
           ≡ one_if (is_at lock line (asleep_after (edit_move (sleep_moves rules) s.lock s.edit (option_map (sleep_answer rules s.edit) o)) t (asleep past t)))
       go None is false other = agree lock line t
       go None is true same =
           let none : after lock past ≡ None = ap (λ l. after l past) (same_lock_true lock s.lock same) ∙ is in
-          subst (λ o. count_in t (line_at line o) ≡ one_if (is_at lock line (asleep past t))
-          → count_in t (line_at line (option_map (sleep_edited rules s.edit) o)) ≡ one_if (is_at lock line (asleep past t)))
+          subst (λ o. count_in t (wait_list_at line o) ≡ one_if (is_at lock line (asleep past t))
+          → count_in t (wait_list_at line (option_map (sleep_edited rules s.edit) o)) ≡ one_if (is_at lock line (asleep past t)))
           (sym none) (λ agrees. agrees) (agree lock line t)
       go (Some state) is true same =
           let one : lock ≡ s.lock = same_lock_true lock s.lock same in
           let here : after lock past ≡ Some state = ap (λ l. after l past) one ∙ is in
-          subst (λ o. count_in t (line_at line (option_map (sleep_edited rules s.edit) o))
+          subst (λ o. count_in t (wait_list_at line (option_map (sleep_edited rules s.edit) o))
           ≡ one_if (is_at lock line (asleep_after (Moved s.lock (rules.caller s.edit) (rules.joins (answer_above rules s.edit state))
           (sleep_woke rules s.edit state)) t (asleep past t))))
           (sym here)
-          (subst (λ l. count_in t (line_of line (sleep_edited rules s.edit state))
+          (subst (λ l. count_in t (wait_list_of line (sleep_edited rules s.edit state))
           ≡ one_if (is_at l line (asleep_after (Moved s.lock (rules.caller s.edit) (rules.joins (answer_above rules s.edit state))
           (sleep_woke rules s.edit state)) t (asleep past t))))
           (sym one)
-          (edited_agrees s.lock past s state awake (subst (λ o. Agrees s.lock (λ l. line_at l o) (asleep past)) is (agree s.lock)) line t))
+          (edited_agrees s.lock past s state awake (subst (λ o. Agrees s.lock (λ l. wait_list_at l o) (asleep past)) is (agree s.lock)) line t))
       go (Some state) is false other =
-          other_agrees s.lock (λ l. line_of l state) (asleep past) (subst (λ o. Agrees s.lock (λ l. line_at l o) (asleep past)) is (agree s.lock))
+          other_agrees s.lock (λ l. wait_list_of l state) (asleep past) (subst (λ o. Agrees s.lock (λ l. wait_list_at l o) (asleep past)) is (agree s.lock))
           (rules.leaves (answer_above rules s.edit state)) (rules.caller s.edit) awake.awake awake.small (rules.joins (answer_above rules s.edit state))
-          lock (λ l. line_at l (after lock past)) other (agree lock) line t
+          lock (λ l. wait_list_at l (after lock past)) other (agree lock) line t
 
   -- after sections whose callers are awake the lists agree with the places
   pub lists_agree : (past : List (Section E)) → IsLawful (IsAwake rules opening) past → NobodySleeps opening
-      → (lock : LockId) → Agrees lock (λ line. line_at line (block_after (sleep_edited rules) opening lock past))
+      → (lock : LockId) → Agrees lock (λ line. wait_list_at line (block_after (sleep_edited rules) opening lock past))
       (λ t. asleep_by (section_moves (sleep_rules rules) (sleep_moves rules) opening past) t)
   lists_agree [] lawful nobody lock line t = ap (count_in t) (nobody lock line)
   lists_agree (s ∷ past) lawful nobody lock line t = agree_step past s lawful.0 (lists_agree past lawful.1 nobody) lock line t
@@ -383,14 +384,14 @@ module _ {E B O : Type 0} (rules : SleepRules E B O) (opening : LockId → Optio
   -- whom a section wakes sleeps
   pub section_wakes : (past : List (Section E)) (s : Section E) (outcome : Outcome O) (u : Tid) → IsLawful (IsAwake rules opening) past → NobodySleeps opening
       → option_map (sleep_answer rules s.edit) (block_after (sleep_edited rules) opening s.lock past) ≡ Some outcome → outcome.woke ≡ Some u
-      → is_berth (asleep_by (section_moves (sleep_rules rules) (sleep_moves rules) opening past) u) ≡ true
+      → is_wait_channel (asleep_by (section_moves (sleep_rules rules) (sleep_moves rules) opening past) u) ≡ true
   section_wakes past s outcome u lawful nobody answers wakes = go (after s.lock past) (lists_agree past lawful nobody s.lock) answers
     where
-      go : (o : Option (SleepState B)) → Agrees s.lock (λ line. line_at line o) (asleep past) → option_map (sleep_answer rules s.edit) o ≡ Some outcome
-          → is_berth (asleep past u) ≡ true
+      go : (o : Option (SleepState B)) → Agrees s.lock (λ line. wait_list_at line o) (asleep past) → option_map (sleep_answer rules s.edit) o ≡ Some outcome
+          → is_wait_channel (asleep past u) ≡ true
       go None agrees none = absurd cc
       go (Some state) agrees some =
           let told : sleep_woke rules s.edit state ≡ Some u = ap (λ (o : Option (Outcome O)). woke_in o) some ∙ wakes in
-          let stood = woken_asleep s.lock (λ l. line_of l state) (asleep past) agrees (rules.leaves (answer_above rules s.edit state)) u
+          let stood = woken_asleep s.lock (λ l. wait_list_of l state) (asleep past) agrees (rules.leaves (answer_above rules s.edit state)) u
           (is_thread_self u _ told) in
-          ap is_berth stood.1
+          ap is_wait_channel stood.1

@@ -11,7 +11,7 @@ use Rattle.event_log.specs.declared.ids.LockId.TheVariants.{Pending, Buffer}
 use Rattle.event_log.specs.declared.ids.Tid.{Tid}
 use Rattle.event_log.specs.declared.ids.TheConstants.{THREADS}
 use Rattle.event_log.specs.History.{AreForeign, AreOthers, Grows, IsLawful, same_cpu, same_lock}
-use Rattle.event_log.specs.Sections.{Section, block_after, section_actor}
+use Rattle.event_log.specs.Sections.{Section, block_after, cpu_of_section}
 use Rattle.thread_blocks.specs.Queues.{is_in}
 use Rattle.layer_traits.specs.declared.queue_edits.QueueBlock.{QueueBlock}
 use Rattle.layer_traits.specs.declared.queue_edits.QueueBlock.TheVariants as block
@@ -29,7 +29,7 @@ use Rattle.layer_traits.specs.QueueBlocks.{StartsAs, StartsWell, above_of, homes
 use Rattle.layer_traits.specs.QueueRules.{AreProper, IsProper, IsProperCall, SectionAllowed, queue_answer, queue_edited, queue_rules}
 use Rattle.layer_traits.specs.Queues.{CallAllowed, call_move, IsKnownEvent, Kernel, MayQueue, QueueAllowed}
 use Rattle.layer_traits.specs.Queues.{QueuePolled, StaysCallable, answer_of, buffer_sections}
-use Rattle.layer_traits.specs.Queues.{call_at, edit_of, event, event_actor, event_of, kernel, lock_of, moves_in, out_at}
+use Rattle.layer_traits.specs.Queues.{call_at, edit_of, event, cpu_of_queue_event, event_of, kernel, lock_of, moves_in, out_at}
 use Rattle.layer_traits.specs.Polls.{MayPoll, Polled}
 use Rattle.layer_traits.specs.Sleeping.{joined}
 use Rattle.layer_traits.proofs.CallLemmas.{moves_lawful}
@@ -65,13 +65,13 @@ section_is s c call proper is =
     let edits : s.edit ≡ edit_of call = sym (edit_of_at s.lock s.edit) ∙ ap (λ e. edit_of e.call) is in
     λ i. section (is i).cpu (at i) (edits i)
 
-pub others_events : {E : Type 0} (c : CpuId) (more : List (Section (QueueEdit E))) → AreOthers section_actor c more
-    → AreOthers event_actor c (map event_of more)
+pub others_events : {E : Type 0} (c : CpuId) (more : List (Section (QueueEdit E))) → AreOthers cpu_of_section c more
+    → AreOthers cpu_of_queue_event c (map event_of more)
 others_events c [] others = tt
 others_events c (s ∷ more) others = (others.0, others_events c more others.1)
 
 pub foreign_events : {E : Type 0} (ActsFor Acts : CpuId → Type 0) → ((d : CpuId) → Acts d → ActsFor d) → (more : List (Section (QueueEdit E)))
-    → AreForeign ActsFor section_actor more → AreForeign Acts event_actor (map event_of more)
+    → AreForeign ActsFor cpu_of_section more → AreForeign Acts cpu_of_queue_event (map event_of more)
 foreign_events ActsFor Acts weakens more foreign = λ d acts. others_events d more (foreign d (weakens d acts))
 
 pub known_events : {E : Type 0} (log : List (Section (QueueEdit E))) → IsLawful IsKnown log → IsLawful IsKnownEvent (map event_of log)
@@ -80,7 +80,7 @@ known_events (s ∷ past) known = (known.0, known_events past known.1)
 
 -- a history of sections that grew by foreign ones is a history of calls that did
 pub event_grows : {E : Type 0} (ActsFor Acts : CpuId → Type 0) → ((d : CpuId) → Acts d → ActsFor d) → (old new : List (Section (QueueEdit E)))
-    → Grows ActsFor section_actor old new → Grows Acts event_actor (map event_of old) (map event_of new)
+    → Grows ActsFor cpu_of_section old new → Grows Acts cpu_of_queue_event (map event_of old) (map event_of new)
 event_grows ActsFor Acts weakens old new grows = record {
   others = map event_of grows.others;
   foreign = foreign_events ActsFor Acts weakens grows.others grows.foreign;
@@ -250,32 +250,33 @@ module _ {E B O : Type 0} (rules : Rules E B O) (mv : MoveRules E O) (opening : 
 
       -- What a poll of a section means as a poll of its call.
 
-      told_push : (found : Option (QueueBlock B)) (t : Tid) (answer : QueueAnswer O) → option_map (queue_answer rules.answer (edit.Push t)) found ≡ Some answer
+      report_push : (found : Option (QueueBlock B)) (t : Tid) (answer : QueueAnswer O)
+          → option_map (queue_answer rules.answer (edit.Push t)) found ≡ Some answer
           → Some Done ≡ Some answer
-      told_push None t answer is = absurd cc
-      told_push (Some b) t answer is = is
+      report_push None t answer is = absurd cc
+      report_push (Some b) t answer is = is
 
-      told_taken : (d : CpuId) (opened : Option (QueueBlock B)) → StartsAs (Pending d) opened → (queue : List Tid) (answer : QueueAnswer O)
+      report_taken : (d : CpuId) (opened : Option (QueueBlock B)) → StartsAs (Pending d) opened → (queue : List Tid) (answer : QueueAnswer O)
           → option_map (queue_answer rules.answer edit.TakeAll) (with_queue queue opened) ≡ Some answer → Some (Taken queue) ≡ Some answer
-      told_taken d None kind queue answer is = absurd cc
-      told_taken d (Some (block.Queue old homes)) kind queue answer is = is
-      told_taken d (Some (block.Above b)) kind queue answer is = absurd kind
+      report_taken d None kind queue answer is = absurd cc
+      report_taken d (Some (block.Queue old homes)) kind queue answer is = is
+      report_taken d (Some (block.Above b)) kind queue answer is = absurd kind
 
-      told_above : (e : E) (above : Option B) → option_map Answer (option_map (rules.answer e) above)
+      report_above : (e : E) (above : Option B) → option_map Answer (option_map (rules.answer e) above)
           ≡ option_map (queue_answer rules.answer (edit.Above e)) (option_map block.Above above)
-      told_above e None = refl
-      told_above e (Some b) = refl
+      report_above e None = refl
+      report_above e (Some b) = refl
 
       -- the answer of a section is that of its call
       pub answers_call : (log : List (Section (QueueEdit E))) → Lawful log → (call : QueueCall E) (answer : QueueAnswer O)
           → option_map (queue_answer rules.answer (edit_of call)) (block_after (queue_edited rules.edited) opening (lock_of call) log) ≡ Some answer
           → answer_of beneath (map event_of log) call ≡ Some answer
-      answers_call log lawful (Push d t) answer is = told_push (block_after (queue_edited rules.edited) opening (Pending d) log) t answer is
+      answers_call log lawful (Push d t) answer is = report_push (block_after (queue_edited rules.edited) opening (Pending d) log) t answer is
       answers_call log lawful (TakeAll d) answer is =
-          told_taken d (opening (Pending d)) (starts.kinds (Pending d)) (pending_by (moves_in beneath (map event_of log)) d) answer
+          report_taken d (opening (Pending d)) (starts.kinds (Pending d)) (pending_by (moves_in beneath (map event_of log)) d) answer
           (ap (option_map (queue_answer rules.answer edit.TakeAll)) (sym (queue_block d log lawful)) ∙ is)
       answers_call log lawful (OnBuffer b e) answer is =
-          told_above e (block_after rules.edited (inner opening) (Buffer b) (buffer_sections (map event_of log)))
+          report_above e (block_after rules.edited (inner opening) (Buffer b) (buffer_sections (map event_of log)))
           ∙ (ap (option_map (queue_answer rules.answer (edit.Above e))) (sym (buffer_block b log lawful)) ∙ is)
 
       -- a poll of a section is a poll of its call

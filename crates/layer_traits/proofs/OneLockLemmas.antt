@@ -8,12 +8,12 @@ use Rattle.event_log.specs.declared.events.Event.TheVariants.{Draw, Look, Free}
 use Rattle.event_log.specs.declared.ids.TheConstants.{CPUS}
 use Rattle.event_log.specs.Actions.{acts_of, gives, phase, spot_of}
 use Rattle.event_log.specs.History.{same_cpu, same_lock}
-use Rattle.event_log.specs.WordsLog.{IsLegalWords, MayFollow, Outside, Waiting, Inside, actor, left_by, standing, draws, frees, is_free}
+use Rattle.event_log.specs.WordsLog.{IsLegalWords, MayFollow, Idle, Waiting, Holding, cpu_of_event, left_by, lock_phase, draws, frees, is_free}
 use Rattle.event_log.specs.Sections.{block_after}
 use Rattle.event_log.proofs.Exclusion.{is_at, near}
 use Rattle.event_log.proofs.Same.{same_cpu_self, same_cpu_true, same_lock_self}
-use Rattle.event_log.proofs.Tickets.{gives_acts, legal_acts, one_inside, phase_acts, same_rests, standing_other, ticket_at}
-use Rattle.event_log.proofs.Told.{TicketOf, phase_of}
+use Rattle.event_log.proofs.Tickets.{gives_acts, legal_acts, one_inside, phase_acts, same_rests, lock_phase_other, ticket_at}
+use Rattle.event_log.proofs.Observed.{TicketOf, phase_of}
 use Rattle.layer_traits.specs.declared.edits.Mark.{Mark}
 use Rattle.layer_traits.specs.OneLock.{SomeoneInside, NobodyInside, HomeFits}
 use Rattle.layer_traits.specs.WordsProtocol.{edit_of, sections}
@@ -24,8 +24,8 @@ event_lock (Draw cpu lock ticket) = lock
 event_lock (Look cpu lock ticket read) = lock
 event_lock (Free cpu lock mark) = lock
 
-pub standing_own : {M : Type 0} (e : Event M) (log : List (Event M)) → standing (actor e) (e ∷ log) ≡ left_by e
-standing_own e log = ap (λ b. if b then left_by e else standing (actor e) log) (same_cpu_self (actor e))
+pub lock_phase_own : {M : Type 0} (e : Event M) (log : List (Event M)) → lock_phase (cpu_of_event e) (e ∷ log) ≡ left_by e
+lock_phase_own e log = ap (λ b. if b then left_by e else lock_phase (cpu_of_event e) log) (same_cpu_self (cpu_of_event e))
 
 -- an event at another lock counts nothing here
 pub counts_elsewhere : {M : Type 0} (Fit : ℕ → ℕ → Type 0) (e : Event M) (log : List (Event M)) (lock : LockId) → same_lock lock (event_lock e) ≡ false
@@ -38,7 +38,7 @@ counts_elsewhere Fit (Free cpu at mark) log lock other fits =
 
 -- for a CPU that waits, words that tell which spot is served tell whether its look hits
 pub serves_exactly : {E : Type 0} (log : List (Event (Mark E))) → IsLegalWords log → (cpu : CpuId) (lock : LockId) (ticket : ℕ)
-    → standing cpu log ≡ Waiting lock ticket → (served : Bool)
+    → lock_phase cpu log ≡ Waiting lock ticket → (served : Bool)
     → ((spot : ℕ) → frees lock log ≤ spot → spot < frees lock log + CPUS → ticket ≡ spot % 2 ^ 64 → served ≡ (frees lock log == spot))
     → served ≡ (frees lock log % 2 ^ 64 == ticket)
 serves_exactly log legal cpu lock ticket waiting served tells =
@@ -54,24 +54,25 @@ serves_exactly log legal cpu lock ticket waiting served tells =
     tells spot ahead behind has ∙ sym (same_rests (frees lock log) spot (frees lock log % 2 ^ 64) ticket ahead behind refl has)
 
 -- who is inside is not the CPU that acts, where that one was not inside, and so stays inside
-someone_stays : {M : Type 0} (lock : LockId) (e : Event M) (log : List (Event M)) → ((t : ℕ) → standing (actor e) log ≡ Inside lock t → ⊥)
+someone_stays : {M : Type 0} (lock : LockId) (e : Event M) (log : List (Event M)) → ((t : ℕ) → lock_phase (cpu_of_event e) log ≡ Holding lock t → ⊥)
     → SomeoneInside lock log → SomeoneInside lock (e ∷ log)
-someone_stays lock e log was (c, t, inside) = (c, t, go (same_cpu (actor e) c) refl)
+someone_stays lock e log was (c, t, inside) = (c, t, go (same_cpu (cpu_of_event e) c) refl)
   where
-    go : (b : Bool) → same_cpu (actor e) c ≡ b → standing c (e ∷ log) ≡ Inside lock t
-    go true same = absurd (was t (subst (λ d. standing d log ≡ Inside lock t) (sym (same_cpu_true (actor e) c same)) inside))
-    go false other = standing_other e log c other ∙ inside
+    go : (b : Bool) → same_cpu (cpu_of_event e) c ≡ b → lock_phase c (e ∷ log) ≡ Holding lock t
+    go true same = absurd (was t (subst (λ d. lock_phase d log ≡ Holding lock t) (sym (same_cpu_true (cpu_of_event e) c same)) inside))
+    go false other = lock_phase_other e log c other ∙ inside
 
 -- where nobody is inside, an event by which its CPU does not enter leaves nobody inside
-nobody_stays : {M : Type 0} (lock : LockId) (e : Event M) (log : List (Event M)) → ((t : ℕ) → left_by e ≡ Inside lock t → ⊥)
+nobody_stays : {M : Type 0} (lock : LockId) (e : Event M) (log : List (Event M)) → ((t : ℕ) → left_by e ≡ Holding lock t → ⊥)
     → NobodyInside lock log → NobodyInside lock (e ∷ log)
-nobody_stays lock e log now nobody c t inside = go (same_cpu (actor e) c) refl
+nobody_stays lock e log now nobody c t inside = go (same_cpu (cpu_of_event e) c) refl
   where
-    go : (b : Bool) → same_cpu (actor e) c ≡ b → ⊥
-    go true same = now t (sym (standing_own e log) ∙ subst (λ d. standing d (e ∷ log) ≡ Inside lock t) (sym (same_cpu_true (actor e) c same)) inside)
-    go false other = nobody c t (sym (standing_other e log c other) ∙ inside)
+    go : (b : Bool) → same_cpu (cpu_of_event e) c ≡ b → ⊥
+    go true same = now t (sym (lock_phase_own e log) ∙ subst (λ d. lock_phase d (e ∷ log) ≡ Holding lock t) (sym (same_cpu_true
+        (cpu_of_event e) c same)) inside)
+    go false other = nobody c t (sym (lock_phase_other e log c other) ∙ inside)
 
-not_here : (lock at : LockId) (t s : ℕ) → same_lock lock at ≡ false → Inside at s ≡ Inside lock t → ⊥
+not_here : (lock at : LockId) (t s : ℕ) → same_lock lock at ≡ false → Holding at s ≡ Holding lock t → ⊥
 not_here lock at t s other e =
     let one : at ≡ lock = cc in
     let same : same_lock lock at ≡ true = subst (λ l. same_lock lock l ≡ true) (sym one) (same_lock_self lock) in
@@ -88,7 +89,7 @@ module _ {E B : Type 0} (edited : E → B → B) (opening : LockId → Option B)
 
   -- an event that does not free this lock, and by which nobody enters or leaves it
   lock_stays : (e : Event (Mark E)) (log : List (Event (Mark E))) → is_free lock e ≡ false
-      → ((t : ℕ) → standing (actor e) log ≡ Inside lock t → ⊥) → ((t : ℕ) → left_by e ≡ Inside lock t → ⊥)
+      → ((t : ℕ) → lock_phase (cpu_of_event e) log ≡ Holding lock t → ⊥) → ((t : ℕ) → left_by e ≡ Holding lock t → ⊥)
       → (home : Option B) → HomeFits edited opening log lock home → HomeFits edited opening (e ∷ log) lock home
   lock_stays e log not_freed was now None fits = someone_stays lock e log was fits
   lock_stays e log not_freed was now (Some block) fits = (nobody_stays lock e log now fits.0, block_keeps e log not_freed ∙ fits.1)
@@ -100,32 +101,32 @@ module _ {E B : Type 0} (edited : E → B → B) (opening : LockId → Option B)
   elsewhere (Look cpu at ticket read) log may other =
       lock_stays (Look cpu at ticket read) log refl (λ t h. absurd (cc (may.0, h))) (λ t h. entered (read == ticket) t h)
     where
-      entered : (b : Bool) (t : ℕ) → (if b then Inside at ticket else Waiting at ticket) ≡ Inside lock t → ⊥
+      entered : (b : Bool) (t : ℕ) → (if b then Holding at ticket else Waiting at ticket) ≡ Holding lock t → ⊥
       entered true t h = not_here lock at t ticket other h
       entered false t h = absurd (cc h)
   elsewhere (Free cpu at mark) log may other =
       lock_stays (Free cpu at mark) log other (λ t h. not_here lock at t may.0 other (sym may.1 ∙ h)) (λ t h. absurd (cc h))
 
   -- a draw leaves the home as it is
-  pub drew : (cpu : CpuId) (ticket : ℕ) (log : List (Event (Mark E))) → standing cpu log ≡ Outside → (home : Option B)
+  pub drew : (cpu : CpuId) (ticket : ℕ) (log : List (Event (Mark E))) → lock_phase cpu log ≡ Idle → (home : Option B)
       → HomeFits edited opening log lock home → HomeFits edited opening (Draw cpu lock ticket ∷ log) lock home
   drew cpu ticket log outside = lock_stays (Draw cpu lock ticket) log refl (λ t h. absurd (cc (outside, h))) (λ t h. absurd (cc h))
 
   -- and so does a look that misses
-  pub missed : (cpu : CpuId) (ticket read : ℕ) (log : List (Event (Mark E))) → standing cpu log ≡ Waiting lock ticket → (read == ticket) ≡ false
+  pub missed : (cpu : CpuId) (ticket read : ℕ) (log : List (Event (Mark E))) → lock_phase cpu log ≡ Waiting lock ticket → (read == ticket) ≡ false
       → (home : Option B) → HomeFits edited opening log lock home → HomeFits edited opening (Look cpu lock ticket read ∷ log) lock home
   missed cpu ticket read log waiting misses =
       lock_stays (Look cpu lock ticket read) log refl (λ t h. absurd (cc (waiting, h)))
-      (λ t h. absurd (cc (subst (λ b. (if b then Inside lock ticket else Waiting lock ticket) ≡ Inside lock t) misses h)))
+      (λ t h. absurd (cc (subst (λ b. (if b then Holding lock ticket else Waiting lock ticket) ≡ Holding lock t) misses h)))
 
   -- a look that hits leaves the home empty
   pub hit : (cpu : CpuId) (ticket read : ℕ) (log : List (Event (Mark E))) → (read == ticket) ≡ true
       → HomeFits edited opening (Look cpu lock ticket read ∷ log) lock None
   hit cpu ticket read log hits =
-      (cpu, ticket, standing_own (Look cpu lock ticket read) log ∙ ap (λ b. if b then Inside lock ticket else Waiting lock ticket) hits)
+      (cpu, ticket, lock_phase_own (Look cpu lock ticket read) log ∙ ap (λ b. if b then Holding lock ticket else Waiting lock ticket) hits)
 
   -- a free brings the edited block home
-  pub freed : (cpu : CpuId) (ticket : ℕ) (mark : Mark E) (log : List (Event (Mark E))) → IsLegalWords log → standing cpu log ≡ Inside lock ticket
+  pub freed : (cpu : CpuId) (ticket : ℕ) (mark : Mark E) (log : List (Event (Mark E))) → IsLegalWords log → lock_phase cpu log ≡ Holding lock ticket
       → (block : B) → option_map (edited mark.edit) (block_after edited opening lock (sections log)) ≡ Some block
       → HomeFits edited opening (Free cpu lock mark ∷ log) lock (Some block)
   freed cpu ticket mark log legal inside block is =
@@ -139,11 +140,11 @@ module _ {E B : Type 0} (edited : E → B → B) (opening : LockId → Option B)
         where
           go : (b : Bool) → same_cpu cpu c ≡ b → ⊥
           go true same =
-              let here : standing cpu (Free cpu lock mark ∷ log) ≡ Inside lock t
-              = subst (λ d. standing d (Free cpu lock mark ∷ log) ≡ Inside lock t) (sym (same_cpu_true cpu c same)) h in
-              absurd (cc (sym (standing_own (Free cpu lock mark) log) ∙ here))
+              let here : lock_phase cpu (Free cpu lock mark ∷ log) ≡ Holding lock t
+              = subst (λ d. lock_phase d (Free cpu lock mark ∷ log) ≡ Holding lock t) (sym (same_cpu_true cpu c same)) h in
+              absurd (cc (sym (lock_phase_own (Free cpu lock mark) log) ∙ here))
           go false other =
-              let there : standing c log ≡ Inside lock t = sym (standing_other (Free cpu lock mark) log c other) ∙ h in
+              let there : lock_phase c log ≡ Holding lock t = sym (lock_phase_other (Free cpu lock mark) log c other) ∙ h in
               let one : c ≡ cpu = one_inside log legal c cpu lock t ticket there inside in
               absurd (cc (other, subst (λ d. same_cpu cpu d ≡ true) (sym one) (same_cpu_self cpu)))
 
@@ -157,14 +158,14 @@ module _ {E B : Type 0} (edited : E → B → B) (opening : LockId → Option B)
       c : CpuId
       c = fits.0
 
-      entered : standing cpu (Look cpu lock ticket read ∷ log) ≡ Inside lock ticket
-      entered = standing_own (Look cpu lock ticket read) log ∙ ap (λ b. if b then Inside lock ticket else Waiting lock ticket) hits
+      entered : lock_phase cpu (Look cpu lock ticket read ∷ log) ≡ Holding lock ticket
+      entered = lock_phase_own (Look cpu lock ticket read) log ∙ ap (λ b. if b then Holding lock ticket else Waiting lock ticket) hits
 
       go : (b : Bool) → same_cpu cpu c ≡ b → ⊥
-      go true same = cc (legal.0.0, subst (λ d. standing d log ≡ Inside lock fits.1) (sym (same_cpu_true cpu c same)) fits.2)
+      go true same = cc (legal.0.0, subst (λ d. lock_phase d log ≡ Holding lock fits.1) (sym (same_cpu_true cpu c same)) fits.2)
       go false other =
-          let there : standing c (Look cpu lock ticket read ∷ log) ≡ Inside lock fits.1
-          = standing_other (Look cpu lock ticket read) log c other ∙ fits.2 in
+          let there : lock_phase c (Look cpu lock ticket read ∷ log) ≡ Holding lock fits.1
+          = lock_phase_other (Look cpu lock ticket read) log c other ∙ fits.2 in
           let one : c ≡ cpu = one_inside (Look cpu lock ticket read ∷ log) legal c cpu lock fits.1 ticket there entered in
           cc (other, subst (λ d. same_cpu cpu d ≡ true) (sym one) (same_cpu_self cpu))
 

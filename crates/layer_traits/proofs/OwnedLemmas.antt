@@ -4,15 +4,15 @@ use Rattle.std.proofs.lemmas.Option.{same_Some}
 use Rattle.event_log.specs.declared.ids.CpuId.{CpuId}
 use Rattle.event_log.specs.Actions.{Action, phase, renamed}
 use Rattle.event_log.proofs.Renaming.{phase_renamed}
-use Rattle.layer_traits.specs.Owned.{IsHeld, IsShown}
+use Rattle.layer_traits.specs.Owned.{IsHeld, IsObserved}
 use Rattle.layer_traits.specs.Plans.{is_in_section}
-use Rattle.layer_traits.specs.Told.{IsTold}
+use Rattle.layer_traits.specs.Observed.{IsObservedAs}
 
 -- what is true under one name is true under another
 pub same_shown : {P A : Type 0} (Fits : P → Type 0) (cpu_of : P → CpuId) (IsInside : CpuId → Type 0) (here : P → Option A) (home truth other : Option A)
     → truth ≡ other
-    → IsShown Fits cpu_of IsInside here home truth → IsShown Fits cpu_of IsInside here home other
-same_shown Fits cpu_of IsInside here home truth other same shown = subst (λ o. IsShown Fits cpu_of IsInside here home o) same shown
+    → IsObserved Fits cpu_of IsInside here home truth → IsObserved Fits cpu_of IsInside here home other
+same_shown Fits cpu_of IsInside here home truth other same shown = subst (λ o. IsObserved Fits cpu_of IsInside here home o) same shown
 
 -- a block in the hands of a part beneath is in those of the part that stands on it
 held_under : {P Q A : Type 0} (below : Q → P) (FitsP : P → Type 0) (FitsQ : Q → Type 0) (cpu_below : P → CpuId) (cpu_of : Q → CpuId)
@@ -32,7 +32,7 @@ pub shown_under : {P Q A : Type 0} (below : Q → P) (FitsP : P → Type 0) (Fit
     (InsideP InsideQ : CpuId → Type 0)
     (here : P → Option A) (home truth : Option A) → ((q : Q) → FitsQ q → FitsP (below q)) → ((q : Q) → FitsQ q → cpu_below (below q) ≡ cpu_of q)
     → ((c : CpuId) → InsideP c → InsideQ c)
-    → IsShown FitsP cpu_below InsideP here home truth → IsShown FitsQ cpu_of InsideQ (λ q. here (below q)) home truth
+    → IsObserved FitsP cpu_below InsideP here home truth → IsObserved FitsQ cpu_of InsideQ (λ q. here (below q)) home truth
 shown_under below FitsP FitsQ cpu_below cpu_of InsideP InsideQ here home truth fits cpus inside shown = record {
   by_machine = shown.by_machine;
   by_part = λ q x fit tells. shown.by_part (below q) x (fits q fit) tells;
@@ -65,8 +65,8 @@ module _ {P Q M N : Type 0} (parts : PartsOn P Q M) (name : M → N) where
   inside c is = (is.0, ap is_in_section (phase_renamed name c acts) ∙ is.1)
 
   -- they tell what those beneath tell, by the actions under other names
-  pub shown_on : {A : Type 0} (tells : P → Option A) (home truth : Option A) → IsShown FitsP cpu_below (InSection IsStepwise acts) tells home truth
-      → IsShown FitsQ (λ q. cpu_below (below q)) (InSection IsStepwise (map (renamed name) acts)) (λ q. tells (below q)) home truth
+  pub shown_on : {A : Type 0} (tells : P → Option A) (home truth : Option A) → IsObserved FitsP cpu_below (InSection IsStepwise acts) tells home truth
+      → IsObserved FitsQ (λ q. cpu_below (below q)) (InSection IsStepwise (map (renamed name) acts)) (λ q. tells (below q)) home truth
   shown_on tells home truth shown =
       shown_under below FitsP FitsQ cpu_below (λ q. cpu_below (below q)) (InSection IsStepwise acts) (InSection IsStepwise (map (renamed name) acts))
       tells home truth fits (λ q fit. refl) inside shown
@@ -84,8 +84,8 @@ viewed_none view (Some x) none = absurd cc
 -- what is told of a block is told of its view
 pub viewed_shown : {P A B : Type 0} (view : A → B) (Fits : P → Type 0) (cpu_of : P → CpuId) (IsInside : CpuId → Type 0) (here : P → Option A)
     (home truth : Option A) (seen : Option B)
-    → seen ≡ option_map view truth → IsShown Fits cpu_of IsInside here home truth
-    → IsShown Fits cpu_of IsInside (λ p. option_map view (here p)) (option_map view home) seen
+    → seen ≡ option_map view truth → IsObserved Fits cpu_of IsInside here home truth
+    → IsObserved Fits cpu_of IsInside (λ p. option_map view (here p)) (option_map view home) seen
 viewed_shown view Fits cpu_of IsInside here home truth seen is shown = record {
   by_machine = λ y tells. is ∙ viewed_some view truth home y shown.by_machine tells;
   by_part = λ p y fits tells. is ∙ viewed_some view truth (here p) y (λ x told. shown.by_part p x fits told) tells;
@@ -101,22 +101,22 @@ viewed_shown view Fits cpu_of IsInside here home truth seen is shown = record {
     }
 
 -- what is shown of a block that there is is true of it
-pub told_shown : {P A : Type 0} (Fits : P → Type 0) (cpu_of : P → CpuId) (IsInside : CpuId → Type 0) (here : P → Option A) (home truth : Option A) (x : A)
+pub observed_as : {P A : Type 0} (Fits : P → Type 0) (cpu_of : P → CpuId) (IsInside : CpuId → Type 0) (here : P → Option A) (home truth : Option A) (x : A)
     → truth ≡ Some x
-    → IsShown Fits cpu_of IsInside here home truth → IsTold Fits cpu_of IsInside here home x
-told_shown Fits cpu_of IsInside here home truth x is shown = record {
+    → IsObserved Fits cpu_of IsInside here home truth → IsObservedAs Fits cpu_of IsInside here home x
+observed_as Fits cpu_of IsInside here home truth x is shown = record {
   by_machine = λ y tells. same_Some y x (sym (shown.by_machine y tells) ∙ is);
   by_part = λ p y fits tells. same_Some y x (sym (shown.by_part p y fits tells) ∙ is);
   somewhere = shown.somewhere;
 }
 
 -- parts that stand on those beneath tell what those tell
-pub told_under : {P Q A : Type 0} (below : Q → P) (FitsP : P → Type 0) (FitsQ : Q → Type 0) (cpu_below : P → CpuId) (cpu_of : Q → CpuId)
+pub read_under : {P Q A : Type 0} (below : Q → P) (FitsP : P → Type 0) (FitsQ : Q → Type 0) (cpu_below : P → CpuId) (cpu_of : Q → CpuId)
     (InsideP InsideQ : CpuId → Type 0)
     (here : P → Option A) (home : Option A) (truth : A) → ((q : Q) → FitsQ q → FitsP (below q)) → ((q : Q) → FitsQ q → cpu_below (below q) ≡ cpu_of q)
     → ((c : CpuId) → InsideP c → InsideQ c)
-    → IsTold FitsP cpu_below InsideP here home truth → IsTold FitsQ cpu_of InsideQ (λ q. here (below q)) home truth
-told_under below FitsP FitsQ cpu_below cpu_of InsideP InsideQ here home truth fits cpus inside told = record {
+    → IsObservedAs FitsP cpu_below InsideP here home truth → IsObservedAs FitsQ cpu_of InsideQ (λ q. here (below q)) home truth
+read_under below FitsP FitsQ cpu_below cpu_of InsideP InsideQ here home truth fits cpus inside told = record {
   by_machine = told.by_machine;
   by_part = λ q x fit tells. told.by_part (below q) x (fits q fit) tells;
   somewhere = λ none. held_under below FitsP FitsQ cpu_below cpu_of InsideP InsideQ here fits cpus inside (told.somewhere none);

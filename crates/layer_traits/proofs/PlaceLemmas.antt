@@ -10,10 +10,10 @@ use Rattle.event_log.specs.History.{same_cpu, AreOthers}
 use Rattle.event_log.proofs.Same.{same_cpu_self, same_cpu_true}
 use Rattle.thread_blocks.specs.Queues.{same_tid, is_in}
 use Rattle.thread_blocks.proofs.Members.{tid_numbered, same_tid_true}
-use Rattle.layer_traits.specs.declared.moves.Line.{Line}
+use Rattle.layer_traits.specs.declared.moves.WaitList.{WaitList}
 use Rattle.layer_traits.specs.Passes.{as_list, or_else, switched, took, passed_on, finished, own_slept, own_woken}
-use Rattle.layer_traits.specs.Places.{home_of, is_cpu, is_thread, Berth, At, Where, Home, Hand, Pend, Asleep, Move, Pushed, Took}
-use Rattle.layer_traits.specs.Places.{Moved, Still, Step, step, stepper, where_woken, where_taken, where_slept, where_after}
+use Rattle.layer_traits.specs.Places.{home_of, is_cpu, is_thread, WaitChannel, At, Where, Home, Hand, Pend, Asleep, Move, Pushed, Took}
+use Rattle.layer_traits.specs.Places.{Moved, Still, Step, step, cpu_of_step, where_woken, where_taken, where_slept, where_after}
 use Rattle.layer_traits.specs.Places.{where_is, is_asleep, is_home, is_hand, is_pend, pending_after, pending_by, MayEdit, MayMove}
 use Rattle.layer_traits.specs.Places.{AreMoves, Threads, one_if, count_in, copies, is_here, Stands, homed, at_boot}
 use Rattle.layer_traits.proofs.CountLemmas.{same_tid_sym, same_cpu_sym, is_cpu_true, is_cpu_of, is_cpu_other}
@@ -21,7 +21,7 @@ use Rattle.layer_traits.proofs.CountLemmas.{is_thread_self, count_append, count_
 
 -- What a move may do to a place.
 
-asleep_at : (w : Where) → is_asleep w ≡ true → (p : Berth) × (w ≡ Asleep p)
+asleep_at : (w : Where) → is_asleep w ≡ true → (p : WaitChannel) × (w ≡ Asleep p)
 asleep_at Home asleep = absurd cc
 asleep_at (Hand c) asleep = absurd cc
 asleep_at (Pend c) asleep = absurd cc
@@ -69,14 +69,14 @@ is_home_true (Asleep p) is = absurd cc
 
 module _ (homes : List CpuId) where
   -- an edit leaves a thread where it is, wakes it or puts its caller to sleep
-  pub view_moved : (past : List Step) (c : CpuId) (lock : LockId) (caller : Tid) (slept : Option Line) (woke : Option Tid) (t : Tid)
+  pub view_moved : (past : List Step) (c : CpuId) (lock : LockId) (caller : Tid) (slept : Option WaitList) (woke : Option Tid) (t : Tid)
       (P : Where → Where → Type 0) → MayMove homes past c (Moved lock caller slept woke) → ((w : Where) → P w w)
-      → ((p : Berth) → P (Asleep p) (where_woken c (home_of homes t)))
-      → (home_of homes t ≡ Some c → (p : Berth) → P Home (Asleep p))
+      → ((p : WaitChannel) → P (Asleep p) (where_woken c (home_of homes t)))
+      → (home_of homes t ≡ Some c → (p : WaitChannel) → P Home (Asleep p))
       → P (where_is homes past t) (where_after homes c (Moved lock caller slept woke) t (where_is homes past t))
   view_moved past c lock caller slept woke t P may stays wakes sleeps = by_woke woke may.1
     where
-      joins : (s : Option Line) → home_of homes t ≡ Some c → P Home (where_slept lock s Home)
+      joins : (s : Option WaitList) → home_of homes t ≡ Some c → P Home (where_slept lock s Home)
       joins None home = stays Home
       joins (Some line) home = sleeps home (At lock line)
 
@@ -108,8 +108,8 @@ module _ (homes : List CpuId) where
       → MayMove homes past c move → ((w : Where) → P w w)
       → ((home : CpuId) → home_of homes t ≡ Some home → P (Hand c) (Pend home))
       → (where_is homes past t ≡ Pend c → P (Pend c) Home)
-      → ((p : Berth) → P (Asleep p) (where_woken c (home_of homes t)))
-      → (home_of homes t ≡ Some c → (p : Berth) → P Home (Asleep p))
+      → ((p : WaitChannel) → P (Asleep p) (where_woken c (home_of homes t)))
+      → (home_of homes t ≡ Some c → (p : WaitChannel) → P Home (Asleep p))
       → P (where_is homes past t) (where_after homes c move t (where_is homes past t))
   view_step past c (Pushed d u) t P may stays pushes takes wakes sleeps = go (same_tid u t) refl
     where
@@ -228,7 +228,7 @@ module _ (homes : List CpuId) where
       woken home true is = (refl, ap (λ b. b && true) (is_cpu_other c d home other is) ∙ sym (ap (λ b. b && false) (is_cpu_other c d home other is)))
       woken home false is = (other, refl)
 
-  pub others_keep : (d : CpuId) (others old : List Step) (t : Tid) → AreOthers stepper d others → AreMoves homes (others ++ old)
+  pub others_keep : (d : CpuId) (others old : List Step) (t : Tid) → AreOthers cpu_of_step d others → AreMoves homes (others ++ old)
       → (is_hand d (where_is homes (others ++ old) t) ≡ is_hand d (where_is homes old t)) × (is_here homes d (others ++ old) t ≡ is_here homes d old t)
   others_keep d [] old t foreign legal = (refl, refl)
   others_keep d (s ∷ others) old t foreign legal =
@@ -237,7 +237,7 @@ module _ (homes : List CpuId) where
       (here.0 ∙ before.0, here.1 ∙ before.1)
 
   -- so what a CPU has of its own agrees with the places whatever others do
-  pub stands_others : (d : CpuId) (others old : List Step) (own : Threads) → AreOthers stepper d others → AreMoves homes (others ++ old)
+  pub stands_others : (d : CpuId) (others old : List Step) (own : Threads) → AreOthers cpu_of_step d others → AreMoves homes (others ++ old)
       → Stands homes d old own → Stands homes d (others ++ old) own
   stands_others d others old own foreign legal stands = record {
     places = λ t. stands.places t ∙ sym (ap one_if (others_keep d others old t foreign legal).1);
@@ -431,11 +431,11 @@ module _ (homes : List CpuId) where
 
     -- An edit: its caller may fall asleep, and then a sleeper may be woken.
     module _ (lock : LockId) (caller : Tid) (may : MayEdit homes moves c caller) (runs : own.current ≡ Some caller) (empty : own.hand ≡ None) where
-      abbrev left : Option Line → Tid → Where
+      abbrev left : Option WaitList → Tid → Where
       left slept t = if same_tid caller t then where_slept lock slept (where_is homes moves t) else where_is homes moves t
 
       -- the caller's sleep keeps the agreement
-      slept_copies : (slept : Option Line) (t : Tid) → copies (own_slept slept own) t ≡ one_if (is_cpu c (home_of homes t) && is_home (left slept t))
+      slept_copies : (slept : Option WaitList) (t : Tid) → copies (own_slept slept own) t ≡ one_if (is_cpu c (home_of homes t) && is_home (left slept t))
       slept_copies None t = stands.places t ∙ same (same_tid caller t)
         where
           same : (b : Bool) → one_if (is_here homes c moves t)
@@ -456,23 +456,23 @@ module _ (homes : List CpuId) where
               ≡ one_if (is_here homes c moves t) = stands.places t in
               omega (arith, none, before)
 
-      slept_empty : (slept : Option Line) (t : Tid) → is_thread t (own_slept slept own).hand ≡ false
+      slept_empty : (slept : Option WaitList) (t : Tid) → is_thread t (own_slept slept own).hand ≡ false
       slept_empty None t = ap (is_thread t) empty
       slept_empty (Some line) t = ap (is_thread t) empty
 
-      slept_hand : (slept : Option Line) (t : Tid) → is_hand c (left slept t) ≡ false
+      slept_hand : (slept : Option WaitList) (t : Tid) → is_hand c (left slept t) ≡ false
       slept_hand slept t = go slept (same_tid caller t)
         where
           before : is_hand c (where_is homes moves t) ≡ false
           before = sym (stands.hand t) ∙ ap (is_thread t) empty
 
-          go : (s : Option Line) (b : Bool) → is_hand c (if b then where_slept lock s (where_is homes moves t) else where_is homes moves t) ≡ false
+          go : (s : Option WaitList) (b : Bool) → is_hand c (if b then where_slept lock s (where_is homes moves t) else where_is homes moves t) ≡ false
           go s false = before
           go None true = before
           go (Some line) true = refl
 
       -- who sleeps is not the caller
-      sleeper_left : (slept : Option Line) (t : Tid) → is_asleep (where_is homes moves t) ≡ true → is_home (left slept t) ≡ false
+      sleeper_left : (slept : Option WaitList) (t : Tid) → is_asleep (where_is homes moves t) ≡ true → is_home (left slept t) ≡ false
       sleeper_left slept t asleep = go (same_tid caller t) refl
         where
           go : (b : Bool) → same_tid caller t ≡ b → is_home (if b then where_slept lock slept (where_is homes moves t) else where_is homes moves t) ≡ false
@@ -482,14 +482,14 @@ module _ (homes : List CpuId) where
               let awake : is_asleep (where_is homes moves t) ≡ false = ap is_asleep at_home in
               absurd (cc (awake, asleep))
 
-      absent : (slept : Option Line) (u t : Tid) → is_asleep (where_is homes moves u) ≡ true → same_tid u t ≡ true
+      absent : (slept : Option WaitList) (u t : Tid) → is_asleep (where_is homes moves u) ≡ true → same_tid u t ≡ true
           → one_if (is_thread t (own_slept slept own).current) + count_in t (own_slept slept own).ready + count_in t (own_slept slept own).ended ≡ 0
       absent slept u t asleep is =
           let sleeps : is_asleep (where_is homes moves t) ≡ true = subst (λ v. is_asleep (where_is homes moves v) ≡ true) (same_tid_true u t is) asleep in
           slept_copies slept t ∙ ap one_if (and_right (is_cpu c (home_of homes t)) (is_home (left slept t)) (sleeper_left slept t sleeps))
 
       -- and so does the waking
-      woken_copies : (slept : Option Line) (u t : Tid) → is_asleep (where_is homes moves u) ≡ true → (at b : Bool) → is_cpu c (home_of homes u) ≡ at
+      woken_copies : (slept : Option WaitList) (u t : Tid) → is_asleep (where_is homes moves u) ≡ true → (at b : Bool) → is_cpu c (home_of homes u) ≡ at
           → same_tid u t ≡ b
           → one_if (is_thread t (own_slept slept own).current) + count_in t (if at then (own_slept slept own).ready ++ u ∷ [] else (own_slept slept own).ready)
           + count_in t (own_slept slept own).ended
@@ -513,7 +513,7 @@ module _ (homes : List CpuId) where
           omega (arith, more, last, before)
       woken_copies slept u t asleep false false home is = slept_copies slept t
 
-      woken_hand : (slept : Option Line) (u t : Tid) (at b : Bool) → is_cpu c (home_of homes u) ≡ at → same_tid u t ≡ b
+      woken_hand : (slept : Option WaitList) (u t : Tid) (at b : Bool) → is_cpu c (home_of homes u) ≡ at → same_tid u t ≡ b
           → is_thread t (if at then (own_slept slept own).hand else Some u) ≡ is_hand c (if b then where_woken c (home_of homes t) else left slept t)
       woken_hand slept u t true true home is =
           let here : is_cpu c (home_of homes t) ≡ true = subst (λ v. is_cpu c (home_of homes v) ≡ true) (same_tid_true u t is) home in
@@ -524,7 +524,7 @@ module _ (homes : List CpuId) where
       woken_hand slept u t true false home is = slept_empty slept t ∙ sym (slept_hand slept t)
       woken_hand slept u t false false home is = is ∙ sym (slept_hand slept t)
 
-    pub stands_moved : (lock : LockId) (caller : Tid) (slept : Option Line) (woke : Option Tid) → MayMove homes moves c (Moved lock caller slept woke)
+    pub stands_moved : (lock : LockId) (caller : Tid) (slept : Option WaitList) (woke : Option Tid) → MayMove homes moves c (Moved lock caller slept woke)
         → own.current ≡ Some caller → own.hand ≡ None
         → Stands homes c (step c (Moved lock caller slept woke) ∷ moves) (own_woken homes c woke (own_slept slept own))
     stands_moved lock caller slept None may runs empty = record {

@@ -47,10 +47,10 @@ module _ {M N A B Q R : Type 0} (low : Table M A Q) (high : Table N B R) (stands
       either true above beneath same = ap (option_map (high.edited (name s.edit))) same ∙ viewed_edit s.edit beneath
       either false above beneath same = same
 
-  at_give_told : (p : Phase) (answer : Option Q) → option_map told (at_give p answer) ≡ at_give p (option_map told answer)
-  at_give_told Rests answer = refl
-  at_give_told (Waits lock) answer = refl
-  at_give_told (Holds lock) answer = refl
+  at_give_mapped : (p : Phase) (answer : Option Q) → option_map told (at_give p answer) ≡ at_give p (option_map told answer)
+  at_give_mapped Rests answer = refl
+  at_give_mapped (Waits lock) answer = refl
+  at_give_mapped (Holds lock) answer = refl
 
   -- and its reply is what the reply beneath tells
   pub reply_viewed : (cpu : CpuId) (lock : LockId) (m : M) (past : List (Action M))
@@ -59,7 +59,7 @@ module _ {M N A B Q R : Type 0} (low : Table M A Q) (high : Table N B R) (stands
       let block : Option A = block_after low.edited opening lock (sections_in past) in
       let answer : List (Section N) → Option R
       = λ l. option_map (high.answer (name m)) (block_after high.edited (λ k. option_map view (opening k)) lock l) in
-      at_give_told (phase cpu past) (option_map (low.answer m) block)
+      at_give_mapped (phase cpu past) (option_map (low.answer m) block)
       ∙ (ap (at_give (phase cpu past)) (viewed_answer m block)
       ∙ (ap (λ b. at_give (phase cpu past) (option_map (high.answer (name m)) b)) (sym (block_viewed lock (sections_in past)))
       ∙ (ap (λ l. at_give (phase cpu past) (answer l)) (sym (sections_in_renamed name past))

@@ -10,14 +10,14 @@ use Rattle.layer_traits.specs.declared.sleeps.Outcome.{Outcome}
 use Rattle.layer_traits.specs.Places.{Threads}
 use Rattle.layer_traits.specs.Queues.{Kernel, out_at}
 use Rattle.layer_traits.specs.Scheds.{SchedPolled, own_answered}
-use Rattle.layer_traits.specs.SleepLaw.{Sleeping, SleepPolled, Waits, Does, Sends, due, done_if, left_done, left_told}
+use Rattle.layer_traits.specs.SleepLaw.{Sleeping, SleepPolled, Waits, Does, Sends, due, done_if, left_done, left_reported}
 
 -- an outcome is kept exactly while a thread stands in the hand
-abbrev pub HandKept : {O : Type 0} → Option Tid → Option (Outcome O) → Type 0
-HandKept None None = Unit {0}
-HandKept (Some t) (Some outcome) = Unit {0}
-HandKept None (Some outcome) = ⊥
-HandKept (Some t) None = ⊥
+abbrev pub HandDefers : {O : Type 0} → Option Tid → Option (Outcome O) → Type 0
+HandDefers None None = Unit {0}
+HandDefers (Some t) (Some outcome) = Unit {0}
+HandDefers None (Some outcome) = ⊥
+HandDefers (Some t) None = ⊥
 
 module _ {E B O : Type 0} (k : Kernel E B (Outcome O)) (b : BufId) (e : E) where
   answer_is : (past : List (QueueEvent E)) (outcome : Outcome O) → option_map Answer (out_at k past b e) ≡ Some (Answer outcome)
@@ -37,47 +37,47 @@ module _ {E B O : Type 0} (k : Kernel E B (Outcome O)) (b : BufId) (e : E) where
 
   -- what the scheduler's poll did is a poll here, and leaves what its answer tells
   pub sleep_polled : (ActsFor : CpuId → Type 0) (c : CpuId) (old new : List (QueueEvent E)) (own : Sleeping O) (own' : Threads)
-      (hand : Option Tid) (kept : Option (Outcome O)) (answer : Option (SchedAnswer (Outcome O))) → own.threads.hand ≡ hand → own.kept ≡ kept
-      → HandKept hand kept
-      → SchedPolled k ActsFor c (due hand b e) answer old new own.threads own' → SleepPolled k ActsFor c b e old new own (left_told kept own' answer)
-  sleep_polled ActsFor c old new own own' None None None in_hand is_kept fits polled = record {
+      (hand : Option Tid) (deferred : Option (Outcome O)) (answer : Option (SchedAnswer (Outcome O))) → own.threads.hand ≡ hand → own.deferred ≡ deferred
+      → HandDefers hand deferred
+      → SchedPolled k ActsFor c (due hand b e) answer old new own.threads own' → SleepPolled k ActsFor c b e old new own (left_reported deferred own' answer)
+  sleep_polled ActsFor c old new own own' None None None in_hand is_deferred fits polled = record {
     others = polled.others;
     foreign = polled.foreign;
-    deed = Waits;
+    poll_result = Waits;
     may = tt;
     is = polled.is;
-    leaves = λ i. record { own = record { threads = polled.after i; kept = sym is_kept i }; answer = None };
+    leaves = λ i. record { own = record { threads = polled.after i; deferred = sym is_deferred i }; answer = None };
   }
-  sleep_polled ActsFor c old new own own' None None (Some Done) in_hand is_kept fits polled = absurd (no_answer (polled.others ++ old) polled.answers)
-  sleep_polled ActsFor c old new own own' None None (Some (Answer outcome)) in_hand is_kept fits polled =
+  sleep_polled ActsFor c old new own own' None None (Some Done) in_hand is_deferred fits polled = absurd (no_answer (polled.others ++ old) polled.answers)
+  sleep_polled ActsFor c old new own own' None None (Some (Answer outcome)) in_hand is_deferred fits polled =
       let out : out_at k (polled.others ++ old) b e ≡ Some outcome = answer_is (polled.others ++ old) outcome polled.answers in
       record {
         others = polled.others;
         foreign = polled.foreign;
-        deed = Does outcome;
-        may = (is_kept, out);
+        poll_result = Does outcome;
+        may = (is_deferred, out);
         is = polled.is;
         leaves = ap (left_done outcome) (polled.after ∙ ap (λ o. own_answered k.moves k.homes c o own.threads) out);
       }
-  sleep_polled ActsFor c old new own own' (Some t) (Some outcome) None in_hand is_kept fits polled = record {
+  sleep_polled ActsFor c old new own own' (Some t) (Some outcome) None in_hand is_deferred fits polled = record {
     others = polled.others;
     foreign = polled.foreign;
-    deed = Waits;
+    poll_result = Waits;
     may = tt;
     is = polled.is;
-    leaves = λ i. record { own = record { threads = polled.after i; kept = sym is_kept i }; answer = None };
+    leaves = λ i. record { own = record { threads = polled.after i; deferred = sym is_deferred i }; answer = None };
   }
-  sleep_polled ActsFor c old new own own' (Some t) (Some outcome) (Some Done) in_hand is_kept fits polled = record {
+  sleep_polled ActsFor c old new own own' (Some t) (Some outcome) (Some Done) in_hand is_deferred fits polled = record {
     others = polled.others;
     foreign = polled.foreign;
-    deed = Sends t;
-    may = (subst (λ o. IsSome o) (sym is_kept) refl, in_hand);
+    poll_result = Sends t;
+    may = (subst (λ o. IsSome o) (sym is_deferred) refl, in_hand);
     is = polled.is;
-    leaves = λ i. record { own = record { threads = polled.after i; kept = None }; answer = sym is_kept i };
+    leaves = λ i. record { own = record { threads = polled.after i; deferred = None }; answer = sym is_deferred i };
   }
-  sleep_polled ActsFor c old new own own' (Some t) (Some outcome) (Some (Answer out)) in_hand is_kept fits polled = let other = polled.answers in absurd cc
-  sleep_polled ActsFor c old new own own' None (Some outcome) answer in_hand is_kept fits polled = absurd fits
-  sleep_polled ActsFor c old new own own' (Some t) None answer in_hand is_kept fits polled = absurd fits
+  sleep_polled ActsFor c old new own own' (Some t) (Some outcome) (Some (Answer out)) in_hand is_deferred fits polled = let other = polled.answers in absurd cc
+  sleep_polled ActsFor c old new own own' None (Some outcome) answer in_hand is_deferred fits polled = absurd fits
+  sleep_polled ActsFor c old new own own' (Some t) None answer in_hand is_deferred fits polled = absurd fits
 
 -- whether a pass is done, told as an answer of the scheduler
 pub done_same : (O : Type 0) (result : Option (Unit {0})) → is_some (done_if {O = O} result) ≡ is_some result

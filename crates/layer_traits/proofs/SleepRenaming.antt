@@ -14,24 +14,26 @@ use Rattle.layer_traits.specs.Plans.{Left, raised}
 use Rattle.layer_traits.specs.Queues.{Kernel, event}
 use Rattle.layer_traits.specs.Renaming.{named, renamed_edit, renamed_events, renamed_sched}
 use Rattle.layer_traits.specs.Scheds.{sched_plan}
-use Rattle.layer_traits.specs.SleepLaw.{Deed, MayDo, SleepPolled, Sleeping, Waits, Does, Sends, due, left_done}
-use Rattle.layer_traits.specs.SleepLaw.{left_passed, left_told, left_with, pass_plan, seen_with, sleep_plan}
+use Rattle.layer_traits.specs.SleepLaw.{PollResult, MayDo, SleepPolled, Sleeping, Waits, Does, Sends, due, left_done}
+use Rattle.layer_traits.specs.SleepLaw.{left_passed, left_reported, left_with, pass_plan, seen_with, sleep_plan}
 use Rattle.layer_traits.proofs.KernelRenaming.{Wraps, answered_renamed, events_append, events_others, named_raised, out_renamed, plan_renamed}
 
 module _ {D E A B O : Type 0} (k : Kernel D A (Outcome O)) (j : Kernel E B (Outcome O)) (name : D → E) (view : A → B) (wraps : Wraps k j name view) where
-  may_renamed : (c : CpuId) (b : BufId) (d : D) (deed : Deed O) (past : List (QueueEvent D)) (own : Sleeping O) → MayDo k c b d deed past own
-      → MayDo j c b (name d) deed (renamed_events name past) own
+  may_renamed : (c : CpuId) (b : BufId) (d : D) (poll_result : PollResult O) (past : List (QueueEvent D)) (own : Sleeping O)
+      → MayDo k c b d poll_result past own
+      → MayDo j c b (name d) poll_result (renamed_events name past) own
   may_renamed c b d Waits past own may = tt
   may_renamed c b d (Does outcome) past own may = (may.0, out_renamed k j name view wraps past b d ∙ may.1)
   may_renamed c b d (Sends t) past own may = may
 
-  seen_renamed : (c : CpuId) (b : BufId) (d : D) (deed : Deed O) (past : List (QueueEvent D))
-      → renamed_events name (seen_with k c b d deed past) ≡ seen_with j c b (name d) deed (renamed_events name past)
+  seen_renamed : (c : CpuId) (b : BufId) (d : D) (poll_result : PollResult O) (past : List (QueueEvent D))
+      → renamed_events name (seen_with k c b d poll_result past) ≡ seen_with j c b (name d) poll_result (renamed_events name past)
   seen_renamed c b d Waits past = refl
   seen_renamed c b d (Does outcome) past = refl
   seen_renamed c b d (Sends t) past = ap (λ (h : List CpuId). event c (queue.Push (queue_for h c t) t) ∷ renamed_events name past) (sym wraps.homes)
 
-  left_renamed : (c : CpuId) (b : BufId) (d : D) (deed : Deed O) (own : Sleeping O) → left_with k c b d deed own ≡ left_with j c b (name d) deed own
+  left_renamed : (c : CpuId) (b : BufId) (d : D) (poll_result : PollResult O) (own : Sleeping O)
+      → left_with k c b d poll_result own ≡ left_with j c b (name d) poll_result own
   left_renamed c b d Waits own = refl
   left_renamed c b d (Does outcome) own =
       ap (left_done outcome) (sym (answered_renamed k j name view wraps c (Some outcome) own.threads))
@@ -47,10 +49,11 @@ module _ {D E A B O : Type 0} (k : Kernel D A (Outcome O)) (j : Kernel E B (Outc
       record {
         others = renamed_events name polled.others;
         foreign = λ e acts. events_others name e polled.others (polled.foreign e acts);
-        deed = polled.deed;
-        may = subst (λ p. MayDo j c b (name d) polled.deed p own) here (may_renamed c b d polled.deed (polled.others ++ old) own polled.may);
-        is = ap (renamed_events name) polled.is ∙ (seen_renamed c b d polled.deed (polled.others ++ old) ∙ ap (seen_with j c b (name d) polled.deed) here);
-        leaves = polled.leaves ∙ left_renamed c b d polled.deed own;
+        poll_result = polled.poll_result;
+        may = subst (λ p. MayDo j c b (name d) polled.poll_result p own) here (may_renamed c b d polled.poll_result (polled.others ++ old) own polled.may);
+        is = ap (renamed_events name) polled.is ∙ (seen_renamed c b d polled.poll_result (polled.others ++ old)
+            ∙ ap (seen_with j c b (name d) polled.poll_result) here);
+        leaves = polled.leaves ∙ left_renamed c b d polled.poll_result own;
       }
 
   due_renamed : (hand : Option Tid) (b : BufId) (d : D) → renamed_sched name (due hand b d) ≡ due hand b (name d)
@@ -61,13 +64,13 @@ module _ {D E A B O : Type 0} (k : Kernel D A (Outcome O)) (j : Kernel E B (Outc
   pub sleep_plan_renamed : (h : List CpuId) (c : CpuId) (b : BufId) (d : D) (own : Sleeping O)
       → named (renamed_edit name) (sleep_plan k.moves h c b d own) ≡ sleep_plan j.moves h c b (name d) own
   sleep_plan_renamed h c b d own =
-      named_raised (renamed_edit name) (λ l. left_told own.kept l.own l.answer) (sched_plan k.moves h c (due own.threads.hand b d) own.threads)
-      ∙ (ap (raised (λ l. left_told own.kept l.own l.answer))
+      named_raised (renamed_edit name) (λ l. left_reported own.deferred l.own l.answer) (sched_plan k.moves h c (due own.threads.hand b d) own.threads)
+      ∙ (ap (raised (λ l. left_reported own.deferred l.own l.answer))
       (plan_renamed k j name view wraps h c (due own.threads.hand b d) own.threads)
-      ∙ ap (λ s. raised (λ l. left_told own.kept l.own l.answer) (sched_plan j.moves h c s own.threads)) (due_renamed own.threads.hand b d))
+      ∙ ap (λ s. raised (λ l. left_reported own.deferred l.own l.answer) (sched_plan j.moves h c s own.threads)) (due_renamed own.threads.hand b d))
 
   pub pass_plan_renamed : (h : List CpuId) (c : CpuId) (p : Pass) (own : Sleeping O)
       → named (renamed_edit name) (pass_plan k.moves h c p own) ≡ pass_plan j.moves h c p own
   pass_plan_renamed h c p own =
-      named_raised (renamed_edit name) (left_passed own.kept) (sched_plan k.moves h c (call.Pass p) own.threads)
-      ∙ ap (raised (left_passed own.kept)) (plan_renamed k j name view wraps h c (call.Pass p) own.threads)
+      named_raised (renamed_edit name) (left_passed own.deferred) (sched_plan k.moves h c (call.Pass p) own.threads)
+      ∙ ap (raised (left_passed own.deferred)) (plan_renamed k j name view wraps h c (call.Pass p) own.threads)

@@ -9,13 +9,13 @@ use Rattle.event_log.specs.Actions.{Action}
 use Rattle.event_log.specs.Messages.{Message}
 use Rattle.event_log.specs.Sections.{block_after, sections_in}
 use Rattle.layer_traits.specs.declared.buffer_edits.BufferEdit.{BufferEdit}
-use Rattle.layer_traits.specs.declared.moves.Line.{Line}
+use Rattle.layer_traits.specs.declared.moves.WaitList.{WaitList}
 use Rattle.layer_traits.specs.declared.queue_edits.QueueBlock.{QueueBlock}
 use Rattle.layer_traits.specs.declared.queue_edits.QueueEdit.{QueueEdit}
 use Rattle.layer_traits.specs.BufferProtocol.{BufferLock, buffer_rules}
 use Rattle.layer_traits.specs.Conditions.{CvCall}
 use Rattle.layer_traits.specs.LockLaw.{lock_kernel}
-use Rattle.layer_traits.specs.Locking.{line_in, lock_edited, owner_in}
+use Rattle.layer_traits.specs.Locking.{wait_list_in, lock_edited, owner_in}
 use Rattle.layer_traits.specs.Places.{Step, pending_by}
 use Rattle.layer_traits.specs.QueueBlocks.{above_of, with_queue}
 use Rattle.layer_traits.specs.QueueRules.{queue_edited}
@@ -44,7 +44,8 @@ pub record ItemsAre (opening : LockId → Option (QueueBlock BufferLock)) (acts 
 
 -- the moves are those of the actions' sections; so each pending queue that is there holds who is pending by the moves; and the waiting
 -- lists of each buffer are those of its lock
-pub record MovesAre (opening : LockId → Option (QueueBlock BufferLock)) (acts : BufferActs) (moves : List Step) (lines : BufId → Line → List Tid) : Type 0 where
+pub record MovesAre (opening : LockId → Option (QueueBlock BufferLock)) (acts : BufferActs) (moves : List Step) (lines : BufId → WaitList
+    → List Tid) : Type 0 where
   pub made : moves ≡ moves_in (lock_kernel buffer_rules opening) (map event_of (sections_in acts))
   pub pending : (d : CpuId) → guarded opening acts (Pending d) ≡ with_queue (pending_by moves d) (opening (Pending d))
-  pub waiting : (b : BufId) (line : Line) → lines b line ≡ line_in line (above_of (guarded opening acts (Buffer b)))
+  pub waiting : (b : BufId) (line : WaitList) → lines b line ≡ wait_list_in line (above_of (guarded opening acts (Buffer b)))

@@ -102,11 +102,11 @@ abbrev pub shut : BufferState → BufferState
 shut x = record x { closed = true; effects = counted x.effects; closes = counted x.closes }
 
 -- the thread that edits
-abbrev pub editor : BufferEdit → Tid
-editor (Enter t side) = t
-editor (TryPut t m) = t
-editor (TryTake t) = t
-editor (Shut t) = t
+abbrev pub thread_of_edit : BufferEdit → Tid
+thread_of_edit (Enter t side) = t
+thread_of_edit (TryPut t m) = t
+thread_of_edit (TryTake t) = t
+thread_of_edit (Shut t) = t
 
 -- the block after an edit: a try whose turn it is not leaves it as it was
 abbrev pub buffer_edited : BufferEdit → BufferState → BufferState

@@ -35,15 +35,15 @@ use Rattle.layer_traits.specs.declared.queue_edits.QueueEdit.{QueueEdit}
 use Rattle.layer_traits.specs.declared.queues.QueueAnswer.{QueueAnswer}
 use Rattle.layer_traits.specs.declared.passes.Pass.{Pass}
 use Rattle.layer_traits.specs.declared.sleeps.Outcome.{Outcome}
-use Rattle.layer_traits.specs.declared.talks.Stage.{Stage}
-use Rattle.layer_traits.specs.declared.talks.Stage.TheVariants.{Between, Acquires, Enters, Tries, Waits, AcquiresAgain, Signals, SignalsOwn, Releases}
-use Rattle.layer_traits.specs.declared.talks.Talk.{Talk}
+use Rattle.layer_traits.specs.declared.call_states.Stage.{Stage}
+use Rattle.layer_traits.specs.declared.call_states.Stage.TheVariants.{Idle, Acquires, Enters, Tries, Waits, AcquiresAgain, Signals, SignalsOwn, Releases}
+use Rattle.layer_traits.specs.declared.call_states.CallState.{CallState}
 use Rattle.layer_traits.specs.Conditions.{CvCall}
 use Rattle.layer_traits.specs.CvLaw.{Waiting, cv_pass_plan, cv_plan, waiting_at_start}
 use Rattle.layer_traits.specs.Locking.{lock_moves}
 use Rattle.layer_traits.specs.BufferProtocol.{buffer_rules}
 use Rattle.layer_traits.specs.BufferEffects.{contents_of, entry}
-use Rattle.layer_traits.specs.Places.{Step, Threads, stepper}
+use Rattle.layer_traits.specs.Places.{Step, Threads, cpu_of_step}
 use Rattle.layer_traits.specs.Plans.{Left, Plan, Now, Act, raised}
 
 -- the buffer of a call
@@ -109,35 +109,35 @@ abbrev pub entry_of : CpuId → Tid → BufId → Effect → Entry
 entry_of cpu t b f = entry cpu t f.kind b f.value f.op f.pos
 
 -- a thread that never called
-abbrev pub quiet : Talk
-quiet = record { stage = Between; call = None; position = 0; effect = None }
+abbrev pub no_call : CallState
+no_call = record { stage = Idle; call = None; position = 0; effect = None }
 
 -- a thread that begins a call
-abbrev pub begun : Call → Talk
+abbrev pub begun : Call → CallState
 begun call = record { stage = Acquires; call = Some call; position = 0; effect = None }
 
--- what its thread's talk is to a poll of a call: between calls a new one begins
-abbrev pub going_at : Stage → Talk → Call → Talk
-going_at Between talk call = begun call
-going_at Acquires talk call = talk
-going_at Enters talk call = talk
-going_at Tries talk call = talk
-going_at Waits talk call = talk
-going_at AcquiresAgain talk call = talk
-going_at Signals talk call = talk
-going_at SignalsOwn talk call = talk
-going_at Releases talk call = talk
+-- what its thread's call state is to a poll of a call: between calls a new one begins
+abbrev pub going_at : Stage → CallState → Call → CallState
+going_at Idle call_state call = begun call
+going_at Acquires call_state call = call_state
+going_at Enters call_state call = call_state
+going_at Tries call_state call = call_state
+going_at Waits call_state call = call_state
+going_at AcquiresAgain call_state call = call_state
+going_at Signals call_state call = call_state
+going_at SignalsOwn call_state call = call_state
+going_at Releases call_state call = call_state
 
-abbrev pub going : Talk → Call → Talk
-going talk call = going_at talk.stage talk call
+abbrev pub going : CallState → Call → CallState
+going call_state call = going_at call_state.stage call_state call
 
 -- a thread may poll this call: it is between calls, or this is the one that it has begun
-abbrev pub MayTalk : Talk → Call → Type 0
-MayTalk talk call = (going talk call).call ≡ Some call
+abbrev pub MayPollCall : CallState → Call → Type 0
+MayPollCall call_state call = (going call_state call).call ≡ Some call
 
 -- the call that a thread has begun, if it is in one
 abbrev pub begun_at : Stage → Option Call → Option Call
-begun_at Between call = None
+begun_at Idle call = None
 begun_at Acquires call = call
 begun_at Enters call = call
 begun_at Tries call = call
@@ -147,53 +147,54 @@ begun_at Signals call = call
 begun_at SignalsOwn call = call
 begun_at Releases call = call
 
-abbrev pub begun_of : Talk → Option Call
-begun_of talk = begun_at talk.stage talk.call
+abbrev pub begun_of : CallState → Option Call
+begun_of call_state = begun_at call_state.stage call_state.call
 
--- the talk of a thread, in a list by thread
-abbrev pub talk_of : List Talk → Tid → Talk
-talk_of talks t = slice_index_or talks t.0 quiet
+-- the call state of a thread, in a list by thread
+abbrev pub call_state_of : List CallState → Tid → CallState
+call_state_of call_states t = slice_index_or call_states t.0 no_call
 
--- an answer agrees with the talk: the call goes on, or it is over and the answer is its effect's
-abbrev pub Answered : Call → Talk → Option Reply → Type 0
-Answered call talk None = begun_of talk ≡ Some call
-Answered call talk (Some reply) = (talk.stage ≡ Between) × ((f : Effect) × (talk.effect ≡ Some f) × (reply ≡ reply_of call f))
+-- an answer agrees with the call state: the call goes on, or it is over and the answer is its effect's
+abbrev pub Answered : Call → CallState → Option Reply → Type 0
+Answered call call_state None = begun_of call_state ≡ Some call
+Answered call call_state (Some reply) = (call_state.stage ≡ Idle) × ((f : Effect) × (call_state.effect ≡ Some f) × (reply ≡ reply_of call f))
 
 -- the CPU of an entry
-abbrev pub entry_cpu : Entry → CpuId
-entry_cpu e = e.cpu
+abbrev pub cpu_of_entry : Entry → CpuId
+cpu_of_entry e = e.cpu
 
--- a poll of a call: foreign effects come first, then at most the call's own one, of which it has one in all; the talks of other
+-- a poll of a call: foreign effects come first, then at most the call's own one, of which it has one in all; the call states of other
 -- threads stay
-pub record Called (ActsFor : CpuId → Type 0) (cpu : CpuId) (t : Tid) (call : Call) (talks left : List Talk)
+pub record Called (ActsFor : CpuId → Type 0) (cpu : CpuId) (t : Tid) (call : Call) (call_states left : List CallState)
     (old new : List Entry) (answer : Option Reply) : Type 0 where
   pub others : List Entry
   pub mine : Option Effect
-  pub foreign : AreForeign ActsFor entry_cpu others
+  pub foreign : AreForeign ActsFor cpu_of_entry others
   pub is : new ≡ option_to_list (option_map (entry_of cpu t (buffer_of call)) mine) ++ (others ++ old)
-  pub fresh : (f : Effect) → mine ≡ Some f → ((going (talk_of talks t) call).effect ≡ None) × ((talk_of left t).effect ≡ Some f) × IsEffectOf call f
-  pub stays : mine ≡ None → (talk_of left t).effect ≡ (going (talk_of talks t) call).effect
-  pub answers : Answered call (talk_of left t) answer
-  pub apart : (u : Tid) → u.0 ≢ t.0 → talk_of left u ≡ talk_of talks u
+  pub fresh : (f : Effect) → mine ≡ Some f → ((going (call_state_of call_states t) call).effect ≡ None) ×
+      ((call_state_of left t).effect ≡ Some f) × IsEffectOf call f
+  pub stays : mine ≡ None → (call_state_of left t).effect ≡ (going (call_state_of call_states t) call).effect
+  pub answers : Answered call (call_state_of left t) answer
+  pub apart : (u : Tid) → u.0 ≢ t.0 → call_state_of left u ≡ call_state_of call_states u
 
 -- effects of other CPUs alone
 pub record OthersSeen (ActsFor : CpuId → Type 0) (old new : List Entry) : Type 0 where
   pub others : List Entry
-  pub foreign : AreForeign ActsFor entry_cpu others
+  pub foreign : AreForeign ActsFor cpu_of_entry others
   pub is : new ≡ others ++ old
 
 -- the moves grow by foreign ones and then by this CPU's own
 pub record MovesGrow (ActsFor : CpuId → Type 0) (cpu : CpuId) (old new : List Step) : Type 0 where
   pub others : List Step
   pub mine : List Step
-  pub foreign : AreForeign ActsFor stepper others
+  pub foreign : AreForeign ActsFor cpu_of_step others
   pub own : AllByRecursion (λ s. s.cpu ≡ cpu) mine
   pub is : new ≡ mine ++ (others ++ old)
 
 -- what a CPU does that has not ended: a call of its current thread, or a call of the scheduler
-pub data Doing : Type 0 where
-  Calling : (thread : Tid) → Doing
-  Passing : (pass : Pass) → Doing
+pub data UnderWay : Type 0 where
+  Calling : (thread : Tid) → UnderWay
+  Passing : (pass : Pass) → UnderWay
 
 -- what has begun goes on
 abbrev pub MayGoOn : {A : Type 0} → Option A → A → Type 0
@@ -201,14 +202,14 @@ MayGoOn None next = Unit {0}
 MayGoOn (Some begun) next = begun ≡ next
 
 -- after a poll of a call the CPU is still at it exactly where the thread still runs and there is no answer
-abbrev pub still_calling : Tid → Option Tid → Option Reply → Option Doing
+abbrev pub still_calling : Tid → Option Tid → Option Reply → Option UnderWay
 still_calling t None None = None
 still_calling t None (Some reply) = None
 still_calling t (Some u) None = Some (Calling t)
 still_calling t (Some u) (Some reply) = None
 
 -- after a poll of a scheduler's call, where there is no answer
-abbrev pub still_passing : {A : Type 0} → Pass → Option A → Option Doing
+abbrev pub still_passing : {A : Type 0} → Pass → Option A → Option UnderWay
 still_passing pass None = Some (Passing pass)
 still_passing pass (Some answer) = None
 
@@ -228,21 +229,21 @@ IsRefused (Send b m) caps past = (Allows caps past b kind.Send m → ⊥) × (Al
 IsRefused (Recv b) caps past = (m : Message) → (Allows caps past b kind.Recv m → ⊥) × (Allows caps past b kind.RecvClosed m → ⊥)
 IsRefused (Close b) caps past = ⊥
 
--- a CPU's own state: that of its conditions, and the talk of each thread
+-- a CPU's own state: that of its conditions, and the call state of each thread
 pub record Buffering : Type 0 where
   pub cv : Waiting BufferOut
-  pub talks : List Talk
+  pub call_states : List CallState
 
-abbrev pub buffering : Waiting BufferOut → List Talk → Buffering
-buffering cv talks = record { cv = cv; talks = talks }
+abbrev pub buffering : Waiting BufferOut → List CallState → Buffering
+buffering cv call_states = record { cv = cv; call_states = call_states }
 
 -- at the start no thread ever called
 abbrev pub buffering_at_start : List CpuId → CpuId → Buffering
-buffering_at_start homes c = buffering (waiting_at_start homes c) (replicate THREADS quiet)
+buffering_at_start homes c = buffering (waiting_at_start homes c) (replicate THREADS no_call)
 
 -- the section of a call at a stage
 abbrev pub section_at : Tid → Call → Stage → CvCall BufferEdit
-section_at t call Between = Acquire t
+section_at t call Idle = Acquire t
 section_at t call Acquires = Acquire t
 section_at t call Enters = Inside (Edit (first_of t call))
 section_at t call Tries = Inside (Edit (try_of t call))
@@ -253,78 +254,79 @@ section_at t call SignalsOwn = Inside (SignalFront t (side_of call))
 section_at t call Releases = Release (Leave t)
 
 -- what an edit of the buffer answered, in a lock's answer
-abbrev pub told_in : CvOut BufferOut → BufferOut
-told_in (answer.Did out) = out
-told_in (answer.Signalled side front) = NotYet
-told_in answer.Left = NotYet
-told_in (answer.Waited side) = NotYet
+abbrev pub report_in : CvOut BufferOut → BufferOut
+report_in (answer.Did out) = out
+report_in (answer.Signalled side front) = NotYet
+report_in answer.Left = NotYet
+report_in (answer.Waited side) = NotYet
 
-abbrev pub told_by : QOut (CvOut BufferOut) → BufferOut
-told_by out.Acquired = NotYet
-told_by out.Queued = NotYet
-told_by (out.Did cv) = told_in cv
-told_by (out.Released cv) = NotYet
+abbrev pub reported_by : QOut (CvOut BufferOut) → BufferOut
+reported_by out.Acquired = NotYet
+reported_by out.Queued = NotYet
+reported_by (out.Did cv) = report_in cv
+reported_by (out.Released cv) = NotYet
 
 -- the thread has entered its line: it keeps its position, and tries next; or it has closed the buffer, and signals
-abbrev pub enlisted : Talk → BufferOut → Talk
-enlisted talk (Entered position) = record { stage = Tries; call = talk.call; position = position; effect = talk.effect }
-enlisted talk NotYet = talk
-enlisted talk (Done kind op value) = talk
-enlisted talk (WasShut op pos) = record {
+abbrev pub enlisted : CallState → BufferOut → CallState
+enlisted call_state (Entered position) = record { stage = Tries; call = call_state.call; position = position; effect = call_state.effect }
+enlisted call_state NotYet = call_state
+enlisted call_state (Done kind op value) = call_state
+enlisted call_state (WasShut op pos) = record {
   stage = Signals;
-  call = talk.call;
-  position = talk.position;
+  call = call_state.call;
+  position = call_state.position;
   effect = Some (record { kind = kind.Close; value = no_message; op = op; pos = pos });
 }
 
 -- the thread has tried: after its effect it signals, else it waits
-abbrev pub tried : Talk → BufferOut → Talk
-tried talk (Entered position) = record { stage = Waits; call = talk.call; position = talk.position; effect = talk.effect }
-tried talk NotYet = record { stage = Waits; call = talk.call; position = talk.position; effect = talk.effect }
-tried talk (WasShut op pos) = record { stage = Waits; call = talk.call; position = talk.position; effect = talk.effect }
-tried talk (Done kind op value) = record {
+abbrev pub tried : CallState → BufferOut → CallState
+tried call_state (Entered position) = record { stage = Waits; call = call_state.call; position = call_state.position; effect = call_state.effect }
+tried call_state NotYet = record { stage = Waits; call = call_state.call; position = call_state.position; effect = call_state.effect }
+tried call_state (WasShut op pos) = record { stage = Waits; call = call_state.call; position = call_state.position; effect = call_state.effect }
+tried call_state (Done kind op value) = record {
   stage = Signals;
-  call = talk.call;
-  position = talk.position;
-  effect = Some (record { kind = kind; value = value; op = op; pos = talk.position });
+  call = call_state.call;
+  position = call_state.position;
+  effect = Some (record { kind = kind; value = value; op = op; pos = call_state.position });
 }
 
--- the talk at another stage
-abbrev pub at_stage : Stage → Talk → Talk
-at_stage stage talk = record { stage = stage; call = talk.call; position = talk.position; effect = talk.effect }
+-- the call state at another stage
+abbrev pub at_stage : Stage → CallState → CallState
+at_stage stage call_state = record { stage = stage; call = call_state.call; position = call_state.position; effect = call_state.effect }
 
--- the talk after the section of a stage, which was told this
-abbrev pub heard : Talk → Stage → QOut (CvOut BufferOut) → Talk
-heard talk Between out = talk
-heard talk Acquires out = at_stage Enters talk
-heard talk Enters out = enlisted talk (told_by out)
-heard talk Tries out = tried talk (told_by out)
-heard talk Waits out = at_stage AcquiresAgain talk
-heard talk AcquiresAgain out = at_stage Tries talk
-heard talk Signals out = at_stage SignalsOwn talk
-heard talk SignalsOwn out = at_stage Releases talk
-heard talk Releases out = record { stage = Between; call = None; position = talk.position; effect = talk.effect }
+-- the call state after the section of a stage, which was told this
+abbrev pub recorded : CallState → Stage → QOut (CvOut BufferOut) → CallState
+recorded call_state Idle out = call_state
+recorded call_state Acquires out = at_stage Enters call_state
+recorded call_state Enters out = enlisted call_state (reported_by out)
+recorded call_state Tries out = tried call_state (reported_by out)
+recorded call_state Waits out = at_stage AcquiresAgain call_state
+recorded call_state AcquiresAgain out = at_stage Tries call_state
+recorded call_state Signals out = at_stage SignalsOwn call_state
+recorded call_state SignalsOwn out = at_stage Releases call_state
+recorded call_state Releases out = record { stage = Idle; call = None; position = call_state.position; effect = call_state.effect }
 
 -- the reply of a call at a stage: the last section's answer is the effect's
-abbrev pub replied : Call → Talk → Stage → Option Reply
-replied call talk Between = None
-replied call talk Acquires = None
-replied call talk Enters = None
-replied call talk Tries = None
-replied call talk Waits = None
-replied call talk AcquiresAgain = None
-replied call talk Signals = None
-replied call talk SignalsOwn = None
-replied call talk Releases = option_map (reply_of call) talk.effect
+abbrev pub replied : Call → CallState → Stage → Option Reply
+replied call call_state Idle = None
+replied call call_state Acquires = None
+replied call call_state Enters = None
+replied call call_state Tries = None
+replied call call_state Waits = None
+replied call call_state AcquiresAgain = None
+replied call call_state Signals = None
+replied call call_state SignalsOwn = None
+replied call call_state Releases = option_map (reply_of call) call_state.effect
 
 -- what a poll leaves, from what the poll of its section left
-abbrev pub left_heard_with : Tid → Call → Talk → List Talk → Stage → Waiting BufferOut → Option (Outcome (QOut (CvOut BufferOut))) → Left Buffering Reply
-left_heard_with t call talk talks stage cv None = record { own = buffering cv (slice_set talks t.0 talk); answer = None }
-left_heard_with t call talk talks stage cv (Some outcome) =
-    record { own = buffering cv (slice_set talks t.0 (heard talk stage outcome.out)); answer = replied call talk stage }
+abbrev pub left_recorded_with : Tid → Call → CallState → List CallState → Stage → Waiting BufferOut → Option (Outcome (QOut (CvOut BufferOut)))
+    → Left Buffering Reply
+left_recorded_with t call call_state call_states stage cv None = record { own = buffering cv (slice_set call_states t.0 call_state); answer = None }
+left_recorded_with t call call_state call_states stage cv (Some outcome) =
+    record { own = buffering cv (slice_set call_states t.0 (recorded call_state stage outcome.out)); answer = replied call call_state stage }
 
-abbrev pub left_heard : Tid → Call → Talk → List Talk → Stage → Left (Waiting BufferOut) (Outcome (QOut (CvOut BufferOut))) → Left Buffering Reply
-left_heard t call talk talks stage left = left_heard_with t call talk talks stage left.own left.answer
+abbrev pub left_recorded : Tid → Call → CallState → List CallState → Stage → Left (Waiting BufferOut) (Outcome (QOut (CvOut BufferOut))) → Left Buffering Reply
+left_recorded t call call_state call_states stage left = left_recorded_with t call call_state call_states stage left.own left.answer
 
 -- the names, answers and states of the plans of buffers
 abbrev pub BufferPlan : Type 0 → Type 0
@@ -346,34 +348,34 @@ module _ (homes : List CpuId) (c : CpuId) (t : Tid) (call : Call) where
   plan_beneath stage cv = cv_plan (lock_moves buffer_rules) homes c (buffer_of call) (section_at t call stage) cv
 
   -- the plan of one section of a call, at a stage
-  abbrev pub plan_of : Stage → Talk → Buffering → BufferPlan Reply
-  plan_of stage talk own = raised (left_heard t call talk own.talks stage) (plan_beneath stage own.cv)
+  abbrev pub plan_of : Stage → CallState → Buffering → BufferPlan Reply
+  plan_of stage call_state own = raised (left_recorded t call call_state own.call_states stage) (plan_beneath stage own.cv)
 
   -- the plan of a stage whose section may be over without an action, where the next stage's section follows in the same poll
-  abbrev pub plan_on : Stage → (Talk → Buffering → BufferPlan Reply) → Talk → Buffering → BufferPlan Reply
-  plan_on stage next talk own =
-      chained (λ left. next (talk_of left.talks t) left) (left_heard t call talk own.talks stage) (plan_beneath stage own.cv)
+  abbrev pub plan_on : Stage → (CallState → Buffering → BufferPlan Reply) → CallState → Buffering → BufferPlan Reply
+  plan_on stage next call_state own =
+      chained (λ left. next (call_state_of left.call_states t) left) (left_recorded t call call_state own.call_states stage) (plan_beneath stage own.cv)
 
   -- the plan of a call at a stage
-  abbrev pub plan_at : Stage → Talk → Buffering → BufferPlan Reply
-  plan_at Between talk own = plan_on Acquires (plan_of Enters) talk own
-  plan_at Acquires talk own = plan_on Acquires (plan_of Enters) talk own
-  plan_at Enters talk own = plan_of Enters talk own
-  plan_at Tries talk own = plan_of Tries talk own
-  plan_at Waits talk own = plan_on Waits (plan_on AcquiresAgain (plan_of Tries)) talk own
-  plan_at AcquiresAgain talk own = plan_on AcquiresAgain (plan_of Tries) talk own
-  plan_at Signals talk own = plan_of Signals talk own
-  plan_at SignalsOwn talk own = plan_of SignalsOwn talk own
-  plan_at Releases talk own = plan_of Releases talk own
+  abbrev pub plan_at : Stage → CallState → Buffering → BufferPlan Reply
+  plan_at Idle call_state own = plan_on Acquires (plan_of Enters) call_state own
+  plan_at Acquires call_state own = plan_on Acquires (plan_of Enters) call_state own
+  plan_at Enters call_state own = plan_of Enters call_state own
+  plan_at Tries call_state own = plan_of Tries call_state own
+  plan_at Waits call_state own = plan_on Waits (plan_on AcquiresAgain (plan_of Tries)) call_state own
+  plan_at AcquiresAgain call_state own = plan_on AcquiresAgain (plan_of Tries) call_state own
+  plan_at Signals call_state own = plan_of Signals call_state own
+  plan_at SignalsOwn call_state own = plan_of SignalsOwn call_state own
+  plan_at Releases call_state own = plan_of Releases call_state own
 
   -- the plan of a poll of a call
   abbrev pub fifo_plan : Buffering → BufferPlan Reply
-  fifo_plan own = plan_at (going (talk_of own.talks t) call).stage (going (talk_of own.talks t) call) own
+  fifo_plan own = plan_at (going (call_state_of own.call_states t) call).stage (going (call_state_of own.call_states t) call) own
 
--- a pass leaves the talks as they are
-abbrev pub talks_passed : {A : Type 0} → List Talk → Left (Waiting BufferOut) A → Left Buffering A
-talks_passed talks left = record { own = buffering left.own talks; answer = left.answer }
+-- a pass leaves the call states as they are
+abbrev pub call_states_passed : {A : Type 0} → List CallState → Left (Waiting BufferOut) A → Left Buffering A
+call_states_passed call_states left = record { own = buffering left.own call_states; answer = left.answer }
 
 -- the plan of a pass
 abbrev pub fifo_pass_plan : List CpuId → CpuId → Pass → Buffering → BufferPlan (Unit {0})
-fifo_pass_plan homes c p own = raised (talks_passed own.talks) (cv_pass_plan (lock_moves buffer_rules) homes c p own.cv)
+fifo_pass_plan homes c p own = raised (call_states_passed own.call_states) (cv_pass_plan (lock_moves buffer_rules) homes c p own.cv)

@@ -17,9 +17,9 @@ use Rattle.layer_traits.specs.declared.conditions.CvOut.{CvOut}
 use Rattle.layer_traits.specs.declared.buffer_edits.BufferEdit.{BufferEdit}
 use Rattle.layer_traits.specs.declared.buffer_edits.BufferEdit.TheVariants.{Enter, TryPut, TryTake, Shut}
 use Rattle.layer_traits.specs.declared.buffer_edits.BufferOut.{BufferOut}
-use Rattle.layer_traits.specs.Conditions.{CvCall, Deeds, cv_rules}
+use Rattle.layer_traits.specs.Conditions.{CvCall, MonitorRules, cv_rules}
 use Rattle.layer_traits.specs.Locking.{LockRules, LockState, IsOwners, lock_after, lock_caller, owner_in}
-use Rattle.layer_traits.specs.BufferBlocks.{BufferState, buffer_answer, buffer_edited, editor, front_ready, is_next, line_of}
+use Rattle.layer_traits.specs.BufferBlocks.{BufferState, buffer_answer, buffer_edited, thread_of_edit, front_ready, is_next, line_of}
 use Rattle.thread_blocks.specs.Queues.{same_tid, is_in}
 
 -- a section of a buffer
@@ -31,9 +31,9 @@ abbrev pub BufferLock : Type 0
 BufferLock = LockState BufferState
 
 -- what the edits mean, without a protocol
-abbrev pub plain_deeds : Deeds BufferEdit BufferState BufferOut
-plain_deeds = record {
-  caller = editor;
+abbrev pub plain_rules : MonitorRules BufferEdit BufferState BufferOut
+plain_rules = record {
+  caller = thread_of_edit;
   edited = buffer_edited;
   answer = buffer_answer;
   ready = front_ready;
@@ -42,7 +42,7 @@ plain_deeds = record {
 
 -- the sections of buffers, by the same rules with or without a protocol
 abbrev pub buffer_rules : LockRules (CvEdit BufferEdit) CvLeave BufferState (CvOut BufferOut)
-buffer_rules = cv_rules plain_deeds
+buffer_rules = cv_rules plain_rules
 
 -- a lock after these sections
 abbrev pub buffer_at : (LockId → Option BufferLock) → List BufferSection → LockId → Option BufferLock
@@ -97,9 +97,9 @@ abbrev pub buffer_allowed : (LockId → Option BufferLock) → List BufferSectio
 buffer_allowed opening past s = IsDue opening past s.lock s.edit
 
 -- what the edits of buffers mean
-abbrev pub buffer_deeds : Deeds BufferEdit BufferState BufferOut
-buffer_deeds = record {
-  caller = editor;
+abbrev pub buffer_monitor_rules : MonitorRules BufferEdit BufferState BufferOut
+buffer_monitor_rules = record {
+  caller = thread_of_edit;
   edited = buffer_edited;
   answer = buffer_answer;
   ready = front_ready;

@@ -6,8 +6,8 @@ use Rattle.event_log.specs.Sections.{Section}
 use Rattle.layer_traits.specs.declared.locked.QEdit.{QEdit}
 use Rattle.layer_traits.specs.declared.locked.Side.{Side}
 use Rattle.layer_traits.specs.declared.locked.Side.TheVariants.{Receivers, Senders}
-use Rattle.layer_traits.specs.declared.locked.Signal.{Signal}
-use Rattle.layer_traits.specs.declared.locked.Signal.TheVariants.{Nobody, Receiver, Sender}
+use Rattle.layer_traits.specs.declared.locked.WakeWaiter.{WakeWaiter}
+use Rattle.layer_traits.specs.declared.locked.WakeWaiter.TheVariants.{Nobody, Receiver, Sender}
 use Rattle.layer_traits.specs.declared.conditions.CvEdit.{CvEdit}
 use Rattle.layer_traits.specs.declared.conditions.CvEdit.TheVariants.{Edit, SignalFront}
 use Rattle.layer_traits.specs.declared.conditions.CvLeave.{CvLeave}
@@ -22,7 +22,7 @@ CvCall G = QEdit (CvEdit G) CvLeave
 
 -- what an edit of the block means: its caller, the block that it leaves and its answer; who is at the front of a side's line and
 -- may go on; and after which sections which CPU may do which section
-pub record Deeds (G B O : Type 0) : Type 1 where
+pub record MonitorRules (G B O : Type 0) : Type 1 where
   pub caller : G → Tid
   pub edited : G → B → B
   pub answer : G → B → O
@@ -30,14 +30,14 @@ pub record Deeds (G B O : Type 0) : Type 1 where
   pub allowed : (LockId → Option (LockState B)) → List (Section (CvCall G)) → Section (CvCall G) → Type 0
 
 -- the signal to the thread that was found on this side, if one was
-abbrev pub signal_to : Side → Option Tid → Signal
+abbrev pub signal_to : Side → Option Tid → WakeWaiter
 signal_to Receivers None = Nobody
 signal_to Senders None = Nobody
 signal_to Receivers (Some t) = Receiver t
 signal_to Senders (Some t) = Sender t
 
 -- whom an answer wakes
-abbrev pub signals_in : {O : Type 0} → CvOut O → Signal
+abbrev pub signals_in : {O : Type 0} → CvOut O → WakeWaiter
 signals_in (Did out) = Nobody
 signals_in (Signalled side front) = signal_to side front
 signals_in Left = Nobody
@@ -51,19 +51,19 @@ waits_in Left = None
 waits_in (Waited side) = Some side
 
 -- the thread that acts inside
-abbrev pub cv_caller : {G B O : Type 0} → Deeds G B O → CvEdit G → Tid
-cv_caller deeds (Edit e) = deeds.caller e
-cv_caller deeds (SignalFront t side) = t
+abbrev pub cv_caller : {G B O : Type 0} → MonitorRules G B O → CvEdit G → Tid
+cv_caller monitor_rules (Edit e) = monitor_rules.caller e
+cv_caller monitor_rules (SignalFront t side) = t
 
 -- the block that it leaves: a signal changes no block
-abbrev pub cv_edited : {G B O : Type 0} → Deeds G B O → CvEdit G → B → B
-cv_edited deeds (Edit e) block = deeds.edited e block
-cv_edited deeds (SignalFront t side) block = block
+abbrev pub cv_edited : {G B O : Type 0} → MonitorRules G B O → CvEdit G → B → B
+cv_edited monitor_rules (Edit e) block = monitor_rules.edited e block
+cv_edited monitor_rules (SignalFront t side) block = block
 
 -- its answer: a signal tells whom it found
-abbrev pub cv_answer : {G B O : Type 0} → Deeds G B O → CvEdit G → B → CvOut O
-cv_answer deeds (Edit e) block = Did (deeds.answer e block)
-cv_answer deeds (SignalFront t side) block = Signalled side (deeds.ready side block)
+abbrev pub cv_answer : {G B O : Type 0} → MonitorRules G B O → CvEdit G → B → CvOut O
+cv_answer monitor_rules (Edit e) block = Did (monitor_rules.answer e block)
+cv_answer monitor_rules (SignalFront t side) block = Signalled side (monitor_rules.ready side block)
 
 -- the thread that gives the lock on
 abbrev pub leave_caller : CvLeave → Tid
@@ -76,15 +76,15 @@ leave_answer (Leave t) block = Left
 leave_answer (Wait t side) block = Waited side
 
 -- the rules of a queuing lock with conditions
-abbrev pub cv_rules : {G B O : Type 0} → Deeds G B O → LockRules (CvEdit G) CvLeave B (CvOut O)
-cv_rules deeds = record {
-  caller = cv_caller deeds;
-  edited = cv_edited deeds;
-  answer = cv_answer deeds;
+abbrev pub cv_rules : {G B O : Type 0} → MonitorRules G B O → LockRules (CvEdit G) CvLeave B (CvOut O)
+cv_rules monitor_rules = record {
+  caller = cv_caller monitor_rules;
+  edited = cv_edited monitor_rules;
+  answer = cv_answer monitor_rules;
   signals = signals_in;
   last_caller = leave_caller;
   last_edited = λ leave block. block;
   last_answer = leave_answer;
   waits = waits_in;
-  allowed = deeds.allowed;
+  allowed = monitor_rules.allowed;
 }

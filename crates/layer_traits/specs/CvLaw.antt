@@ -14,18 +14,18 @@ use Rattle.layer_traits.specs.declared.locked.Side.{Side}
 use Rattle.layer_traits.specs.declared.conditions.CvLeave.TheVariants.{Leave, Wait}
 use Rattle.layer_traits.specs.declared.conditions.CvOut.{CvOut}
 use Rattle.layer_traits.specs.declared.conditions.CvOut.TheVariants as answer
-use Rattle.layer_traits.specs.declared.moves.Line.{Line}
+use Rattle.layer_traits.specs.declared.moves.WaitList.{WaitList}
 use Rattle.layer_traits.specs.declared.queues.QueueEvent.{QueueEvent}
 use Rattle.layer_traits.specs.declared.queue_edits.QueueEdit.{QueueEdit}
 use Rattle.layer_traits.specs.declared.queues.QueueAnswer.{QueueAnswer}
 use Rattle.layer_traits.specs.declared.passes.Pass.{Pass}
 use Rattle.layer_traits.specs.declared.scheds.SchedCall.{SchedCall}
 use Rattle.layer_traits.specs.declared.sleeps.Outcome.{Outcome}
-use Rattle.layer_traits.specs.Conditions.{Deeds, CvCall, cv_rules}
+use Rattle.layer_traits.specs.Conditions.{MonitorRules, CvCall, cv_rules}
 use Rattle.thread_blocks.specs.Queues.{is_in}
 use Rattle.layer_traits.specs.MoveRules.{MoveRules}
 use Rattle.layer_traits.specs.Queues.{Kernel, buffer_sections}
-use Rattle.layer_traits.specs.Locking.{LockState, lock_after, lock_caller, line_in}
+use Rattle.layer_traits.specs.Locking.{LockState, lock_after, lock_caller, wait_list_in}
 use Rattle.layer_traits.specs.LockLaw.{Locking, LockPolled, MustWait, at_start, slept_for, lock_plan, lock_pass_plan}
 use Rattle.layer_traits.specs.Plans.{Left, Plan, Now, raised}
 
@@ -60,48 +60,52 @@ left_released t b waits lock answer.Left outcome = waiting_with lock waits (Some
 left_released t b waits lock (answer.Waited side) outcome = waiting_with lock (slice_set waits t.0 (Some b)) None
 
 -- what a poll leaves where the lock answered this
-abbrev pub left_told : {O : Type 0} → Tid → BufId → List (Option BufId) → Locking (CvOut O) → QOut (CvOut O) → Outcome (QOut (CvOut O))
+abbrev pub left_reported : {O : Type 0} → Tid → BufId → List (Option BufId) → Locking (CvOut O) → QOut (CvOut O) → Outcome (QOut (CvOut O))
     → Left (Waiting O) (Outcome (QOut (CvOut O)))
-left_told t b waits lock Acquired outcome = waiting_with lock waits (Some outcome)
-left_told t b waits lock Queued outcome = waiting_with lock waits (Some outcome)
-left_told t b waits lock (Did out) outcome = waiting_with lock waits (Some outcome)
-left_told t b waits lock (Released out) outcome = left_released t b waits lock out outcome
+left_reported t b waits lock Acquired outcome = waiting_with lock waits (Some outcome)
+left_reported t b waits lock Queued outcome = waiting_with lock waits (Some outcome)
+left_reported t b waits lock (Did out) outcome = waiting_with lock waits (Some outcome)
+left_reported t b waits lock (Released out) outcome = left_released t b waits lock out outcome
 
 -- what a poll leaves, from what the lock's poll left
 abbrev pub left_waiting : {O : Type 0} → Tid → BufId → List (Option BufId) → Locking (CvOut O) → Option (Outcome (QOut (CvOut O)))
     → Left (Waiting O) (Outcome (QOut (CvOut O)))
 left_waiting t b waits lock None = waiting_with lock waits None
-left_waiting t b waits lock (Some outcome) = left_told t b waits lock outcome.out outcome
+left_waiting t b waits lock (Some outcome) = left_reported t b waits lock outcome.out outcome
 
 -- what a poll leaves where the caller was woken out of its wait
 abbrev pub left_woken : {O : Type 0} → Tid → Side → List (Option BufId) → Locking (CvOut O) → Left (Waiting O) (Outcome (QOut (CvOut O)))
 left_woken t side waits lock = waiting_with lock (slice_set waits t.0 None) (Some (waited side))
 
 -- a poll of a thread that does not wait is a poll of its lock
-pub record Waits {G B O : Type 0} (deeds : Deeds G B O) (k : Kernel (CvCall G) (LockState B) (Outcome (QOut (CvOut O)))) (ActsFor : CpuId → Type 0)
+pub record Waits {G B O : Type 0} (monitor_rules : MonitorRules G B O) (k : Kernel (CvCall G) (LockState B) (Outcome (QOut (CvOut O)))) (ActsFor : CpuId
+    → Type 0)
     (c : CpuId) (b : BufId) (call : CvCall G) (old new : List (QueueEvent (CvCall G))) (own : Waiting O)
     (under_way : Option (SchedCall (CvCall G))) (got : Left (Waiting O) (Outcome (QOut (CvOut O)))) : Type 0 where
   pub left : Left (Locking (CvOut O)) (Outcome (QOut (CvOut O)))
-  pub polled : LockPolled (cv_rules deeds) k ActsFor c b call (slept_for own.lock.slept (lock_caller (cv_rules deeds) call)) old new own.lock under_way left
-  pub leaves : got ≡ left_waiting (lock_caller (cv_rules deeds) call) b own.waits left.own left.answer
+  pub polled : LockPolled (cv_rules monitor_rules) k ActsFor c b call (slept_for own.lock.slept (lock_caller
+      (cv_rules monitor_rules) call)) old new own.lock under_way left
+  pub leaves : got ≡ left_waiting (lock_caller (cv_rules monitor_rules) call) b own.waits left.own left.answer
 
 -- a poll of a thread that waited does nothing but answer: the thread stands on no line of the buffer any more
-pub record WaitOver {G B O : Type 0} (deeds : Deeds G B O) (opening : LockId → Option (LockState B)) (b : BufId) (call : CvCall G)
+pub record WaitOver {G B O : Type 0} (monitor_rules : MonitorRules G B O) (opening : LockId → Option (LockState B)) (b : BufId) (call : CvCall G)
     (old : List (QueueEvent (CvCall G))) (own : Waiting O)
     (under_way : Option (SchedCall (CvCall G))) (got : Left (Waiting O) (Outcome (QOut (CvOut O)))) : Type 0 where
   pub side : Side
-  pub is : call ≡ Release (Wait (lock_caller (cv_rules deeds) call) side)
-  pub left : (line : Line)
-      → is_in (lock_caller (cv_rules deeds) call) (line_in line (lock_after (cv_rules deeds) opening (Buffer b) (buffer_sections old))) ≡ false
+  pub is : call ≡ Release (Wait (lock_caller (cv_rules monitor_rules) call) side)
+  pub left : (line : WaitList)
+      → is_in (lock_caller (cv_rules monitor_rules) call) (wait_list_in line (lock_after (cv_rules monitor_rules) opening (Buffer b)
+      (buffer_sections old))) ≡ false
   pub ends : under_way ≡ None
-  pub leaves : got ≡ left_woken (lock_caller (cv_rules deeds) call) side own.waits own.lock
+  pub leaves : got ≡ left_woken (lock_caller (cv_rules monitor_rules) call) side own.waits own.lock
 
 -- a poll of a call, by the buffer at which its caller waits
-abbrev pub CvPolled : {G B O : Type 0} → Deeds G B O → Kernel (CvCall G) (LockState B) (Outcome (QOut (CvOut O))) → (CpuId → Type 0) → CpuId → BufId → CvCall G
+abbrev pub CvPolled : {G B O : Type 0} → MonitorRules G B O → Kernel (CvCall G) (LockState B) (Outcome (QOut (CvOut O))) → (CpuId → Type 0) → CpuId → BufId
+    → CvCall G
     → Option BufId → List (QueueEvent (CvCall G)) → List (QueueEvent (CvCall G)) → Waiting O → Option (SchedCall (CvCall G))
     → Left (Waiting O) (Outcome (QOut (CvOut O))) → Type 0
-CvPolled deeds k ActsFor c b call None old new own under_way got = Waits deeds k ActsFor c b call old new own under_way got
-CvPolled deeds k ActsFor c b call (Some at) old new own under_way got = WaitOver deeds k.opening b call old own under_way got
+CvPolled monitor_rules k ActsFor c b call None old new own under_way got = Waits monitor_rules k ActsFor c b call old new own under_way got
+CvPolled monitor_rules k ActsFor c b call (Some at) old new own under_way got = WaitOver monitor_rules k.opening b call old own under_way got
 
 -- what the answer to a wait leaves; a thread that waited asks for nothing else
 abbrev pub left_over : {G O : Type 0} → Tid → CvCall G → Waiting O → Left (Waiting O) (Outcome (QOut (CvOut O)))

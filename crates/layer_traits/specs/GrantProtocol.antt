@@ -4,9 +4,9 @@ use Rattle.event_log.specs.declared.ids.CpuId.{CpuId}
 use Rattle.event_log.specs.declared.ids.LockId.{LockId}
 use Rattle.event_log.specs.declared.grants.GrantEvent.{GrantEvent}
 use Rattle.event_log.specs.declared.grants.GrantEvent.TheVariants.{Take, Peek, Give}
-use Rattle.event_log.specs.Grants.{MayFollowGrants, acts_of_grants, grant_standing}
+use Rattle.event_log.specs.Grants.{MayFollowGrants, acts_of_grants, grant_lock_phase}
 use Rattle.event_log.specs.Sections.{Section, sections_in}
-use Rattle.event_log.specs.WordsLog.{Inside}
+use Rattle.event_log.specs.WordsLog.{Holding}
 use Rattle.layer_traits.specs.declared.edits.Mark.{Mark}
 use Rattle.layer_traits.specs.WordsProtocol.{edit_of}
 
@@ -26,4 +26,4 @@ GrantMayCome Allowed past e = MayFollowGrants past e × KeepsGrantProtocol Allow
 
 -- some CPU is inside this lock
 abbrev pub SomeoneHasIt : {M : Type 0} → LockId → List (GrantEvent M) → Type 0
-SomeoneHasIt lock log = (cpu : CpuId) × (ticket : ℕ) × (grant_standing cpu log ≡ Inside lock ticket)
+SomeoneHasIt lock log = (cpu : CpuId) × (ticket : ℕ) × (grant_lock_phase cpu log ≡ Holding lock ticket)

@@ -5,8 +5,8 @@ use Rattle.event_log.specs.declared.ids.CpuId.{CpuId}
 use Rattle.event_log.specs.declared.ids.LockId.{LockId}
 use Rattle.event_log.specs.declared.ids.LockId.TheVariants.{Pending, Buffer}
 use Rattle.event_log.specs.declared.ids.Tid.{Tid}
-use Rattle.layer_traits.specs.declared.moves.Line.{Line}
-use Rattle.layer_traits.specs.Places.{Asleep, At, Step, count_in, one_if, berth_of, where_is}
+use Rattle.layer_traits.specs.declared.moves.WaitList.{WaitList}
+use Rattle.layer_traits.specs.Places.{Asleep, At, Step, count_in, one_if, wait_channel_of, where_is}
 use Rattle.layer_traits.specs.ListsAgree.{is_at}
 use Rattle.layer_traits.specs.declared.calls.Call.{Call}
 use Rattle.layer_traits.specs.declared.calls.Reply.{Reply}
@@ -20,10 +20,10 @@ use Rattle.layer_traits.specs.BufferLaw.{BufferPlan, Buffering, buffer_of, fifo_
 
 -- the waiting lists of the buffers and the threads' places agree by count: who sleeps stands once on the list of its place, and on no
 -- other list; nobody sleeps but at a buffer
-pub record LinesAgree (buffers : ℕ) (homes : List CpuId) (moves : List Step) (lines : BufId → Line → List Tid) : Type 0 where
-  pub once : (b : BufId) (line : Line) (t : Tid) → b.0 < buffers
-      → count_in t (lines b line) ≡ one_if (is_at (Buffer b) line (berth_of (where_is homes moves t)))
-  pub known : (t : Tid) (lock : LockId) (line : Line) → where_is homes moves t ≡ Asleep (At lock line)
+pub record WaitListsAgree (buffers : ℕ) (homes : List CpuId) (moves : List Step) (lines : BufId → WaitList → List Tid) : Type 0 where
+  pub once : (b : BufId) (line : WaitList) (t : Tid) → b.0 < buffers
+      → count_in t (lines b line) ≡ one_if (is_at (Buffer b) line (wait_channel_of (where_is homes moves t)))
+  pub known : (t : Tid) (lock : LockId) (line : WaitList) → where_is homes moves t ≡ Asleep (At lock line)
       → (b : BufId) × (lock ≡ Buffer b) × (b.0 < buffers)
 
 -- a call on a number that is no buffer's: nothing is done

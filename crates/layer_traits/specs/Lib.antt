@@ -3,7 +3,7 @@ pub mod WordsProtocol
 pub mod GrantProtocol
 pub mod Polls
 pub mod OneLock
-pub mod GrantsTold
+pub mod AsGrants
 pub mod Plans
 pub mod Acted
 pub mod Along
@@ -30,8 +30,8 @@ pub mod BufferEffects
 pub mod BufferLaw
 pub mod IpcLaw
 pub mod Owned
-pub mod Told
+pub mod Observed
 pub mod Openings
 pub mod EffectRuns
 pub mod Capacities
-pub mod Trays
+pub mod Payloads

@@ -11,7 +11,7 @@ use Rattle.layer_traits.specs.declared.locked.QEdit.{QEdit}
 use Rattle.layer_traits.specs.declared.locked.QEdit.TheVariants.{Acquire, Inside, Release}
 use Rattle.layer_traits.specs.declared.locked.QOut.{QOut}
 use Rattle.layer_traits.specs.declared.locked.QOut.TheVariants.{Acquired, Queued, Did, Released}
-use Rattle.layer_traits.specs.declared.moves.Line.{Line}
+use Rattle.layer_traits.specs.declared.moves.WaitList.{WaitList}
 use Rattle.layer_traits.specs.declared.queue_edits.QueueBlock.{QueueBlock}
 use Rattle.layer_traits.specs.declared.queue_edits.QueueEdit.{QueueEdit}
 use Rattle.layer_traits.specs.declared.queues.QueueAnswer.{QueueAnswer}
@@ -21,13 +21,13 @@ use Rattle.layer_traits.specs.declared.scheds.SchedCall.{SchedCall}
 use Rattle.layer_traits.specs.declared.scheds.SchedCall.TheVariants as call
 use Rattle.layer_traits.specs.declared.sleeps.Outcome.{Outcome}
 use Rattle.layer_traits.specs.ListsAgree.{is_at}
-use Rattle.layer_traits.specs.Locking.{LockRules, LockState, lock_caller, lock_rules, lock_moves, lock_after, owner_of, IsOwners, line_in}
+use Rattle.layer_traits.specs.Locking.{LockRules, LockState, lock_caller, lock_rules, lock_moves, lock_after, owner_of, IsOwners, wait_list_in}
 use Rattle.layer_traits.specs.MoveRules.{MoveRules}
-use Rattle.layer_traits.specs.Places.{one_if, count_in, berth_of, where_is, at_boot}
+use Rattle.layer_traits.specs.Places.{one_if, count_in, wait_channel_of, where_is, at_boot}
 use Rattle.layer_traits.specs.Plans.{Left, Plan, Now, raised}
 use Rattle.layer_traits.specs.Protocol.{section}
 use Rattle.layer_traits.specs.QueueBlocks.{inner, homes_in}
-use Rattle.layer_traits.specs.Queues.{Kernel, kernel, event_actor, buffer_sections, moves_in, QueueAllowed}
+use Rattle.layer_traits.specs.Queues.{Kernel, kernel, cpu_of_queue_event, buffer_sections, moves_in, QueueAllowed}
 use Rattle.layer_traits.specs.SleepLaw.{Sleeping, SleepPolled, MayCall, MustSend, sleep_plan, pass_plan}
 use Rattle.thread_blocks.specs.Queues.{is_in}
 
@@ -48,7 +48,7 @@ slept_for slept t = slice_index_or slept t.0 None
 
 -- a part's own state at boot
 abbrev pub at_start : {O : Type 0} → List CpuId → CpuId → Locking O
-at_start homes c = record { sleep = record { threads = at_boot homes c; kept = None }; slept = replicate THREADS None }
+at_start homes c = record { sleep = record { threads = at_boot homes c; deferred = None }; slept = replicate THREADS None }
 
 -- whether the current thread was handed a lock for which it slept
 abbrev pub is_handed : List (Option BufId) → Option Tid → Bool
@@ -60,7 +60,7 @@ pub record MayLock {F R B O : Type 0} (rules : LockRules F R B O) (k : Kernel (Q
     (past : List (QueueEvent (QEdit F R))) (hand : Option Tid) (b : BufId) (e : QEdit F R) : Type 0 where
   pub empty : hand ≡ None
   pub owners : IsOwners rules e (owner_of rules k.opening (buffer_sections past) (Buffer b))
-  pub stays : (more : List (QueueEvent (QEdit F R))) → AreOthers event_actor c more → IsLawful (QueueAllowed k) (more ++ past)
+  pub stays : (more : List (QueueEvent (QEdit F R))) → AreOthers cpu_of_queue_event c more → IsLawful (QueueAllowed k) (more ++ past)
       → rules.allowed k.opening (buffer_sections (more ++ past)) (section c (Buffer b) e)
 
 -- a call may be polled: as below, where its caller slept for no lock; and who slept for one polls its Acquire again
@@ -101,7 +101,7 @@ pub record Locks {F R B O : Type 0} (k : Kernel (QEdit F R) (LockState B) (Outco
   pub left : Left (Sleeping (QOut O)) (Outcome (QOut O))
   pub polled : SleepPolled k ActsFor c b e old new own.sleep left
   pub ends : under_way ≡ (if is_some left.answer then None else Some (call.OnBuffer b e))
-  pub asks : IsAcquire e → own.sleep.kept ≡ None
+  pub asks : IsAcquire e → own.sleep.deferred ≡ None
   pub leaves : got ≡ left_after (k.moves.caller e) b own.slept left.own left.answer
 
 -- a poll by which a thread that slept for the lock is told that it owns it
@@ -146,9 +146,9 @@ HasOrAwaits t (Some state) = (state.owner ≡ Some t) ⊎ (is_in t state.sleeper
 
 -- the waiting lists of each lock agree with the places of the threads, by count
 abbrev pub LocksAgree : {F R B O : Type 0} → LockRules F R B O → (LockId → Option (QueueBlock (LockState B))) → List (QueueEvent (QEdit F R)) → Type 0
-LocksAgree rules opening seen = (lock : LockId) (line : Line) (t : Tid) →
-    count_in t (line_in line (lock_after rules (inner opening) lock (buffer_sections seen)))
-    ≡ one_if (is_at lock line (berth_of (where_is (homes_in opening) (moves_in (lock_kernel rules opening) seen) t)))
+LocksAgree rules opening seen = (lock : LockId) (line : WaitList) (t : Tid) →
+    count_in t (wait_list_in line (lock_after rules (inner opening) lock (buffer_sections seen)))
+    ≡ one_if (is_at lock line (wait_channel_of (where_is (homes_in opening) (moves_in (lock_kernel rules opening) seen) t)))
 
 -- why the poll of a whole machine answers nothing: a woken thread is now to be sent home, or the caller now sleeps for the lock
 abbrev pub MustWait : {O : Type 0} → Tid → BufId → Locking O → Locking O → Type 0

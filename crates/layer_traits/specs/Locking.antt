@@ -9,10 +9,10 @@ use Rattle.layer_traits.specs.declared.locked.QOut.{QOut}
 use Rattle.layer_traits.specs.declared.locked.QOut.TheVariants.{Acquired, Queued, Did, Released}
 use Rattle.layer_traits.specs.declared.locked.Side.{Side}
 use Rattle.layer_traits.specs.declared.locked.Side.TheVariants.{Receivers, Senders}
-use Rattle.layer_traits.specs.declared.locked.Signal.{Signal}
-use Rattle.layer_traits.specs.declared.locked.Signal.TheVariants.{Nobody, Receiver, Sender}
-use Rattle.layer_traits.specs.declared.moves.Line.{Line}
-use Rattle.layer_traits.specs.declared.moves.Line.TheVariants as line
+use Rattle.layer_traits.specs.declared.locked.WakeWaiter.{WakeWaiter}
+use Rattle.layer_traits.specs.declared.locked.WakeWaiter.TheVariants.{Nobody, Receiver, Sender}
+use Rattle.layer_traits.specs.declared.moves.WaitList.{WaitList}
+use Rattle.layer_traits.specs.declared.moves.WaitList.TheVariants as wait_list
 use Rattle.layer_traits.specs.declared.sleeps.Outcome.{Outcome}
 use Rattle.layer_traits.specs.MoveRules.{MoveRules}
 use Rattle.layer_traits.specs.Protocol.{Rules}
@@ -38,7 +38,7 @@ pub record LockRules (F R B O : Type 0) : Type 1 where
   pub caller : F → Tid
   pub edited : F → B → B
   pub answer : F → B → O
-  pub signals : O → Signal
+  pub signals : O → WakeWaiter
   pub last_caller : R → Tid
   pub last_edited : R → B → B
   pub last_answer : R → B → O
@@ -55,7 +55,7 @@ waiting_with Receivers None t queue = queue
 waiting_with Senders None t queue = queue
 
 -- the list of this side after a signal
-abbrev pub waiting_without : Side → Signal → List Tid → List Tid
+abbrev pub waiting_without : Side → WakeWaiter → List Tid → List Tid
 waiting_without Receivers (Receiver u) queue = without u queue
 waiting_without Senders (Sender u) queue = without u queue
 waiting_without Receivers Nobody queue = queue
@@ -64,7 +64,7 @@ waiting_without Senders Nobody queue = queue
 waiting_without Senders (Receiver u) queue = queue
 
 -- whom a signal wakes, of these receivers and senders
-abbrev pub signalled : Signal → List Tid → List Tid → Option Tid
+abbrev pub signalled : WakeWaiter → List Tid → List Tid → Option Tid
 signalled Nobody receivers senders = None
 signalled (Receiver u) receivers senders = if is_in u receivers then Some u else None
 signalled (Sender u) receivers senders = if is_in u senders then Some u else None
@@ -87,20 +87,20 @@ asked t (Some owner) state = record {
 }
 
 -- what it is told
-abbrev pub told_asker : {O : Type 0} → Option Tid → QOut O
-told_asker None = Acquired
-told_asker (Some owner) = Queued
+abbrev pub asker_report : {O : Type 0} → Option Tid → QOut O
+asker_report None = Acquired
+asker_report (Some owner) = Queued
 
 -- which list it joins
-abbrev pub line_asked : Option Tid → Option Line
-line_asked None = None
-line_asked (Some owner) = Some line.Sleepers
+abbrev pub wait_list_asked : Option Tid → Option WaitList
+wait_list_asked None = None
+wait_list_asked (Some owner) = Some wait_list.Sleepers
 
 -- the list of those that wait on a side
-abbrev pub line_for : Option Side → Option Line
-line_for None = None
-line_for (Some Receivers) = Some line.Receivers
-line_for (Some Senders) = Some line.Senders
+abbrev pub wait_list_for : Option Side → Option WaitList
+wait_list_for None = None
+wait_list_for (Some Receivers) = Some wait_list.Receivers
+wait_list_for (Some Senders) = Some wait_list.Senders
 
 module _ {F R B O : Type 0} (rules : LockRules F R B O) where
   -- the thread that calls
@@ -128,10 +128,10 @@ module _ {F R B O : Type 0} (rules : LockRules F R B O) where
   }
 
   -- which list the caller joins
-  abbrev pub lock_slept : QEdit F R → LockState B → Option Line
-  lock_slept (Acquire t) state = line_asked state.owner
+  abbrev pub lock_slept : QEdit F R → LockState B → Option WaitList
+  lock_slept (Acquire t) state = wait_list_asked state.owner
   lock_slept (Inside f) state = None
-  lock_slept (Release r) state = line_for (rules.waits (rules.last_answer r state.above))
+  lock_slept (Release r) state = wait_list_for (rules.waits (rules.last_answer r state.above))
 
   -- whom a call wakes
   abbrev pub lock_woke : QEdit F R → LockState B → Option Tid
@@ -141,7 +141,7 @@ module _ {F R B O : Type 0} (rules : LockRules F R B O) where
 
   -- what a call is told
   abbrev pub lock_out : QEdit F R → LockState B → QOut O
-  lock_out (Acquire t) state = told_asker state.owner
+  lock_out (Acquire t) state = asker_report state.owner
   lock_out (Inside f) state = Did (rules.answer f state.above)
   lock_out (Release r) state = Released (rules.last_answer r state.above)
 
@@ -150,11 +150,11 @@ module _ {F R B O : Type 0} (rules : LockRules F R B O) where
   lock_answer e state = record { out = lock_out e state; slept = is_some (lock_slept e state); woke = lock_woke e state }
 
   -- which list a caller joined that was told this
-  abbrev pub line_slept : QOut O → Option Line
-  line_slept Acquired = None
-  line_slept Queued = Some line.Sleepers
-  line_slept (Did out) = None
-  line_slept (Released out) = line_for (rules.waits out)
+  abbrev pub wait_list_slept : QOut O → Option WaitList
+  wait_list_slept Acquired = None
+  wait_list_slept Queued = Some wait_list.Sleepers
+  wait_list_slept (Did out) = None
+  wait_list_slept (Released out) = wait_list_for (rules.waits out)
 
   -- a lock after these calls
   abbrev pub lock_after : (LockId → Option (LockState B)) → LockId → List (Section (QEdit F R)) → Option (LockState B)
@@ -182,14 +182,14 @@ lock_rules rules = record { edited = lock_edited rules; answer = lock_answer rul
 
 -- how they move threads
 abbrev pub lock_moves : {F R B O : Type 0} → LockRules F R B O → MoveRules (QEdit F R) (Outcome (QOut O))
-lock_moves rules = record { caller = lock_caller rules; slept = λ outcome. line_slept rules outcome.out; woke = λ outcome. outcome.woke }
+lock_moves rules = record { caller = lock_caller rules; slept = λ outcome. wait_list_slept rules outcome.out; woke = λ outcome. outcome.woke }
 
 -- the list of this line of a lock; empty where there is no such lock
-abbrev pub line_in : {B : Type 0} → Line → Option (LockState B) → List Tid
-line_in l None = []
-line_in line.Sleepers (Some state) = state.sleepers
-line_in line.Receivers (Some state) = state.receivers
-line_in line.Senders (Some state) = state.senders
+abbrev pub wait_list_in : {B : Type 0} → WaitList → Option (LockState B) → List Tid
+wait_list_in l None = []
+wait_list_in wait_list.Sleepers (Some state) = state.sleepers
+wait_list_in wait_list.Receivers (Some state) = state.receivers
+wait_list_in wait_list.Senders (Some state) = state.senders
 
 -- a lock has no owner, and nobody sleeps or waits there
 abbrev pub IsAtRest : {B : Type 0} → Option (LockState B) → Type 0

@@ -3,12 +3,12 @@ use Rattle.std.specs.Prelude.{◌≡◌, List, ◌∷◌, ◌++◌, ◌==◌}
 use Rattle.event_log.specs.declared.ids.CpuId.{CpuId}
 use Rattle.event_log.specs.declared.ids.LockId.{LockId}
 use Rattle.event_log.specs.History.{AreForeign}
-use Rattle.event_log.specs.Actions.{Action, Try, Waits, doer, gives, phase, spot_of}
+use Rattle.event_log.specs.Actions.{Action, Try, Waits, cpu_of_action, gives, phase, spot_of}
 
 -- foreign actions came first, and then this CPU, which waits at a lock, tried to enter it
 pub record Tries {N : Type 0} (ActsFor : CpuId → Type 0) (cpu : CpuId) (old new : List (Action N)) : Type 0 where
   pub others : List (Action N)
-  pub foreign : AreForeign ActsFor doer others
+  pub foreign : AreForeign ActsFor cpu_of_action others
   pub past : List (Action N)
   pub joined : past ≡ others ++ old
   pub lock : LockId

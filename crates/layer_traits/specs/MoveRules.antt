@@ -5,14 +5,14 @@ use Rattle.event_log.specs.declared.ids.Tid.{Tid}
 use Rattle.event_log.specs.History.{IsLawful}
 use Rattle.event_log.specs.Sections.{Section, block_after}
 use Rattle.thread_blocks.specs.Queues.{same_tid}
-use Rattle.layer_traits.specs.declared.moves.Line.{Line}
-use Rattle.layer_traits.specs.Places.{Berth, At, Move, Pushed, Took, Moved, Still, Step, step, is_thread, is_berth}
+use Rattle.layer_traits.specs.declared.moves.WaitList.{WaitList}
+use Rattle.layer_traits.specs.Places.{WaitChannel, At, Move, Pushed, Took, Moved, Still, Step, step, is_thread, is_wait_channel}
 use Rattle.layer_traits.specs.Protocol.{Rules}
 
 -- what edits do to places: the thread that calls an edit, the line in which the answer leaves the caller asleep, and whom it wakes
 pub record MoveRules (E O : Type 0) : Type 0 where
   pub caller : E → Tid
-  pub slept : O → Option Line
+  pub slept : O → Option WaitList
   pub woke : O → Option Tid
 
 -- the move of an edit with this answer
@@ -31,12 +31,12 @@ section_moves rules mv opening [] = []
 section_moves rules mv opening (s ∷ past) = step s.cpu (section_move rules mv opening past s) ∷ section_moves rules mv opening past
 
 -- where the caller of an edit sleeps after it
-abbrev pub slept_at : LockId → Option Line → Option Berth → Option Berth
+abbrev pub slept_at : LockId → Option WaitList → Option WaitChannel → Option WaitChannel
 slept_at lock None p = p
 slept_at lock (Some line) p = Some (At lock line)
 
 -- where a thread sleeps after a move
-abbrev pub asleep_after : Move → Tid → Option Berth → Option Berth
+abbrev pub asleep_after : Move → Tid → Option WaitChannel → Option WaitChannel
 asleep_after (Pushed d u) t p = p
 asleep_after (Took d) t p = p
 asleep_after (Moved lock caller slept woke) t p =
@@ -44,7 +44,7 @@ asleep_after (Moved lock caller slept woke) t p =
 asleep_after Still t p = p
 
 -- where a thread sleeps after these steps, if it does; no home is asked for
-abbrev pub asleep_by : List Step → Tid → Option Berth
+abbrev pub asleep_by : List Step → Tid → Option WaitChannel
 asleep_by [] t = None
 asleep_by (s ∷ past) t = asleep_after s.move t (asleep_by past t)
 
@@ -53,4 +53,4 @@ abbrev pub WakesSleepers : {E B O : Type 0} → Rules E B O → MoveRules E O �
 WakesSleepers {E} {B} {O} rules mv = (opening : LockId → Option B) (past : List (Section E)) (s : Section E) (out : O) (u : Tid)
     → IsLawful (rules.allowed opening) past → rules.allowed opening past s
     → option_map (rules.answer s.edit) (block_after rules.edited opening s.lock past) ≡ Some out
-    → mv.woke out ≡ Some u → is_berth (asleep_by (section_moves rules mv opening past) u) ≡ true
+    → mv.woke out ≡ Some u → is_wait_channel (asleep_by (section_moves rules mv opening past) u) ≡ true

@@ -4,18 +4,18 @@ use Rattle.event_log.specs.declared.ids.CpuId.{CpuId}
 use Rattle.event_log.specs.declared.ids.LockId.{LockId}
 use Rattle.event_log.specs.declared.events.Event.{Event}
 use Rattle.event_log.specs.History.{same_lock}
-use Rattle.event_log.specs.WordsLog.{standing, Inside}
+use Rattle.event_log.specs.WordsLog.{lock_phase, Holding}
 use Rattle.event_log.specs.Sections.{block_after}
 use Rattle.layer_traits.specs.declared.edits.Mark.{Mark}
 use Rattle.layer_traits.specs.WordsProtocol.{sections}
 
 -- some CPU is inside this lock
 abbrev pub SomeoneInside : {M : Type 0} → LockId → List (Event M) → Type 0
-SomeoneInside lock log = (cpu : CpuId) × (ticket : ℕ) × (standing cpu log ≡ Inside lock ticket)
+SomeoneInside lock log = (cpu : CpuId) × (ticket : ℕ) × (lock_phase cpu log ≡ Holding lock ticket)
 
 -- no CPU is inside this lock
 abbrev pub NobodyInside : {M : Type 0} → LockId → List (Event M) → Type 0
-NobodyInside lock log = (cpu : CpuId) (ticket : ℕ) → standing cpu log ≡ Inside lock ticket → ⊥
+NobodyInside lock log = (cpu : CpuId) (ticket : ℕ) → lock_phase cpu log ≡ Holding lock ticket → ⊥
 
 -- the home of a lock is empty exactly while a CPU is inside, and else it holds the block that the sections leave
 abbrev pub HomeFits : {E B : Type 0} → (E → B → B) → (LockId → Option B) → List (Event (Mark E)) → LockId → Option B → Type 0

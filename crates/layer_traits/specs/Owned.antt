@@ -3,8 +3,8 @@ use Rattle.std.specs.Prelude.{◌≡◌, ◌≢◌, ◌<◌, List, Option, Some,
 use Rattle.event_log.specs.declared.ids.CpuId.{CpuId}
 use Rattle.event_log.specs.declared.ids.Tid.{Tid}
 use Rattle.event_log.specs.declared.ids.TheConstants.{CPUS}
-use Rattle.layer_traits.specs.declared.moves.Line.{Line}
-use Rattle.layer_traits.specs.declared.moves.Line.TheVariants.{Sleepers, Receivers, Senders}
+use Rattle.layer_traits.specs.declared.moves.WaitList.{WaitList}
+use Rattle.layer_traits.specs.declared.moves.WaitList.TheVariants.{Sleepers, Receivers, Senders}
 use Rattle.layer_traits.specs.Locking.{LockState}
 use Rattle.layer_traits.specs.Sleeping.{SleepState}
 use Rattle.thread_blocks.specs.Queues.{is_in}
@@ -17,26 +17,26 @@ pub record IsHeld {P A : Type 0} (Fits : P → Type 0) (cpu_of : P → CpuId) (I
   pub has : (p : P) → cpu_of p ≡ cpu → Fits p → here p ≢ None
 
 -- what the machine or a part tells is the truth, and what the machine does not tell some CPU has in its hands
-pub record IsShown {P A : Type 0} (Fits : P → Type 0) (cpu_of : P → CpuId) (IsInside : CpuId → Type 0) (here : P → Option A)
+pub record IsObserved {P A : Type 0} (Fits : P → Type 0) (cpu_of : P → CpuId) (IsInside : CpuId → Type 0) (here : P → Option A)
     (home truth : Option A) : Type 0 where
   pub by_machine : (x : A) → home ≡ Some x → truth ≡ Some x
   pub by_part : (p : P) (x : A) → Fits p → here p ≡ Some x → truth ≡ Some x
   pub somewhere : home ≡ None → IsHeld Fits cpu_of IsInside here
 
 -- the first line among these in which a thread stands
-abbrev pub line_among : Tid → (Line → List Tid) → Option Line
-line_among t lines =
+abbrev pub wait_list_among : Tid → (WaitList → List Tid) → Option WaitList
+wait_list_among t lines =
     if is_in t (lines Sleepers) then Some Sleepers
     else (if is_in t (lines Receivers) then Some Receivers else (if is_in t (lines Senders) then Some Senders else None))
 
 -- the line of a lock in which a thread stands
-abbrev pub line_with : {B : Type 0} → Tid → SleepState B → Option Line
-line_with t state =
+abbrev pub wait_list_with : {B : Type 0} → Tid → SleepState B → Option WaitList
+wait_list_with t state =
     if is_in t state.sleepers then Some Sleepers
     else (if is_in t state.receivers then Some Receivers else (if is_in t state.senders then Some Senders else None))
 
 -- the same of a lock that has an owner
-abbrev pub line_under : {B : Type 0} → Tid → LockState B → Option Line
-line_under t state =
+abbrev pub wait_list_under : {B : Type 0} → Tid → LockState B → Option WaitList
+wait_list_under t state =
     if is_in t state.sleepers then Some Sleepers
     else (if is_in t state.receivers then Some Receivers else (if is_in t state.senders then Some Senders else None))

@@ -5,10 +5,10 @@ use Rattle.event_log.specs.declared.ids.CpuId.{CpuId}
 use Rattle.event_log.specs.declared.ids.Tid.{Tid}
 use Rattle.event_log.specs.History.{AreForeign}
 use Rattle.thread_blocks.specs.Queues.{first, rest}
-use Rattle.layer_traits.specs.declared.moves.Line.{Line}
+use Rattle.layer_traits.specs.declared.moves.WaitList.{WaitList}
 use Rattle.layer_traits.specs.declared.passes.Pass.{Pass}
 use Rattle.layer_traits.specs.declared.passes.Pass.TheVariants.{Switch, YieldNow, Drain, MakeReady, End}
-use Rattle.layer_traits.specs.Places.{Threads, Step, Pushed, Took, step, stepper, home_of, is_cpu, pending_by}
+use Rattle.layer_traits.specs.Places.{Threads, Step, Pushed, Took, step, cpu_of_step, home_of, is_cpu, pending_by}
 
 -- the home, or this CPU where there is none
 abbrev pub or_else : CpuId → Option CpuId → CpuId
@@ -41,7 +41,7 @@ abbrev pub finished : Threads → Threads
 finished own = record { current = None; hand = own.hand; ready = own.ready; ended = own.ended ++ as_list own.current }
 
 -- the thread that ran has gone to sleep, if it did
-abbrev pub own_slept : Option Line → Threads → Threads
+abbrev pub own_slept : Option WaitList → Threads → Threads
 own_slept None own = own
 own_slept (Some line) own = record { current = None; hand = own.hand; ready = own.ready; ended = own.ended }
 
@@ -93,7 +93,7 @@ IsLocalPass End = Unit {0}
 pub record PassPolled (homes : List CpuId) (ActsFor : CpuId → Type 0) (c : CpuId) (call : Pass) {A : Type 0} (result : Option A) (old new : List Step)
     (own own' : Threads) : Type 0 where
   pub others : List Step
-  pub foreign : AreForeign ActsFor stepper others
+  pub foreign : AreForeign ActsFor cpu_of_step others
   pub is : new ≡ (if is_some result then pass_steps homes c call ++ (others ++ old) else others ++ old)
   pub after : own' ≡ (if is_some result then pass_after call (pending_by (others ++ old) c) own else own)
   pub at_once : IsLocalPass call → IsSome result

@@ -7,7 +7,7 @@ use Rattle.event_log.specs.declared.ids.LockId.{LockId}
 use Rattle.event_log.specs.declared.ids.Tid.{Tid}
 use Rattle.event_log.specs.History.{same_cpu, IsLawful}
 use Rattle.thread_blocks.specs.Queues.{same_tid}
-use Rattle.layer_traits.specs.declared.moves.Line.{Line}
+use Rattle.layer_traits.specs.declared.moves.WaitList.{WaitList}
 
 -- the home of a thread, in the list of the homes of all threads; a thread without one does not exist
 abbrev pub home_of : List CpuId → Tid → Option CpuId
@@ -23,23 +23,23 @@ abbrev pub is_thread : Tid → Option Tid → Bool
 is_thread t None = false
 is_thread t (Some u) = same_tid u t
 
--- a berth, where a thread sleeps: one line of what a lock guards
-pub data Berth : Type 0 where
-  At : (lock : LockId) (line : Line) → Berth
+-- a wait channel, where a thread sleeps: one line of what a lock guards
+pub data WaitChannel : Type 0 where
+  At : (lock : LockId) (wait_list : WaitList) → WaitChannel
 
 -- where a thread stands: with the CPU that is its home, in the hand of a CPU that woke it, in a CPU's pending queue, or asleep
 pub data Where : Type 0 where
   Home : Where
   Hand : (cpu : CpuId) → Where
   Pend : (queue : CpuId) → Where
-  Asleep : (berth : Berth) → Where
+  Asleep : (wait_channel : WaitChannel) → Where
 
 -- what an event may do to places: push a thread into a pending queue, take all of one, edit what a lock guards, where the caller
 -- may go to sleep in a line and a sleeper may be woken, or nothing
 pub data Move : Type 0 where
   Pushed : (queue : CpuId) (thread : Tid) → Move
   Took : (queue : CpuId) → Move
-  Moved : (lock : LockId) (caller : Tid) (slept : Option Line) (woke : Option Tid) → Move
+  Moved : (lock : LockId) (caller : Tid) (slept : Option WaitList) (woke : Option Tid) → Move
   Still : Move
 
 -- a move, and the CPU that made it
@@ -52,8 +52,8 @@ abbrev pub step : CpuId → Move → Step
 step cpu move = record { cpu = cpu; move = move }
 
 -- the CPU that made a step
-abbrev pub stepper : Step → CpuId
-stepper s = s.cpu
+abbrev pub cpu_of_step : Step → CpuId
+cpu_of_step s = s.cpu
 
 -- where a woken thread stands: at home if the waker is its home, else in the waker's hand
 abbrev pub where_woken : CpuId → Option CpuId → Where
@@ -67,9 +67,9 @@ where_taken d (Pend c) = if same_cpu d c then Home else Pend c
 where_taken d (Asleep p) = Asleep p
 
 -- where the caller of an edit stands after it: asleep in the line that it joined, if it joined one
-abbrev pub where_slept : LockId → Option Line → Where → Where
+abbrev pub where_slept : LockId → Option WaitList → Where → Where
 where_slept lock None w = w
-where_slept lock (Some line) w = Asleep (At lock line)
+where_slept lock (Some wait_list) w = Asleep (At lock wait_list)
 
 -- where a thread stands after a move of this CPU
 abbrev pub where_after : List CpuId → CpuId → Move → Tid → Where → Where
@@ -85,20 +85,20 @@ where_is homes [] t = Home
 where_is homes (s ∷ past) t = where_after homes s.cpu s.move t (where_is homes past t)
 
 -- the line in which a thread sleeps, if it does
-abbrev pub berth_of : Where → Option Berth
-berth_of Home = None
-berth_of (Hand c) = None
-berth_of (Pend c) = None
-berth_of (Asleep p) = Some p
+abbrev pub wait_channel_of : Where → Option WaitChannel
+wait_channel_of Home = None
+wait_channel_of (Hand c) = None
+wait_channel_of (Pend c) = None
+wait_channel_of (Asleep p) = Some p
 
--- whether there is a berth
-abbrev pub is_berth : Option Berth → Bool
-is_berth None = false
-is_berth (Some p) = true
+-- whether there is a wait channel
+abbrev pub is_wait_channel : Option WaitChannel → Bool
+is_wait_channel None = false
+is_wait_channel (Some p) = true
 
 -- whether it is asleep
 abbrev pub is_asleep : Where → Bool
-is_asleep w = is_berth (berth_of w)
+is_asleep w = is_wait_channel (wait_channel_of w)
 
 -- whether it is at home
 abbrev pub is_home : Where → Bool

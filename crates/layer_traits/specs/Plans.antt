@@ -4,7 +4,7 @@ use Rattle.std.specs.Prelude.{◌≡◌, Bool, true, false, List, ◌∷◌, ◌
 use Rattle.event_log.specs.declared.ids.CpuId.{CpuId}
 use Rattle.event_log.specs.declared.ids.LockId.{LockId}
 use Rattle.event_log.specs.History.{AreForeign}
-use Rattle.event_log.specs.Actions.{Action, Phase, Rests, Waits, Holds, doer, phase, next_action}
+use Rattle.event_log.specs.Actions.{Action, Phase, Rests, Waits, Holds, cpu_of_action, phase, next_action}
 use Rattle.event_log.specs.Sections.{block_after, sections_in}
 use Rattle.layer_traits.specs.Protocol.{Rules}
 
@@ -52,7 +52,7 @@ reply table opening cpu lock name past =
 -- one action was done: foreign ones came first, then the one that was due to this CPU
 pub record Acted {N : Type 0} (ActsFor : CpuId → Type 0) (cpu : CpuId) (lock : LockId) (name : N) (old new past : List (Action N)) : Type 0 where
   pub others : List (Action N)
-  pub foreign : AreForeign ActsFor doer others
+  pub foreign : AreForeign ActsFor cpu_of_action others
   pub joined : past ≡ others ++ old
   pub grows : new ≡ next_action cpu lock name past ∷ past
 

@@ -3,7 +3,7 @@ use Rattle.std.specs.Prelude.{◌≡◌, List, ◌∷◌, ◌++◌, Option, Some
 use Rattle.event_log.specs.declared.ids.CpuId.{CpuId}
 use Rattle.event_log.specs.declared.ids.LockId.{LockId}
 use Rattle.event_log.specs.History.{AreForeign}
-use Rattle.event_log.specs.Sections.{Section, section_actor, block_after}
+use Rattle.event_log.specs.Sections.{Section, cpu_of_section, block_after}
 use Rattle.layer_traits.specs.Protocol.{Rules, StaysAllowed}
 
 -- a section may be polled: at its first poll it is allowed and stays so; after that it is the one under way
@@ -19,6 +19,6 @@ Answers rules opening past s out = option_map (rules.answer s.edit) (block_after
 pub record Polled {E B O : Type 0} (rules : Rules E B O) (opening : LockId → Option B) (ActsFor : CpuId → Type 0) (s : Section E)
     (result : Option O) (old new : List (Section E)) : Type 0 where
   pub others : List (Section E)
-  pub foreign : AreForeign ActsFor section_actor others
+  pub foreign : AreForeign ActsFor cpu_of_section others
   pub is : new ≡ (if is_some result then s ∷ (others ++ old) else others ++ old)
   pub answers : MatchOption result (Unit {0}) (λ out. Answers rules opening (others ++ old) s out)

@@ -4,7 +4,7 @@ use Rattle.event_log.specs.declared.ids.CpuId.{CpuId}
 use Rattle.event_log.specs.declared.ids.LockId.{LockId}
 use Rattle.event_log.specs.declared.ids.TheConstants.{CPUS}
 use Rattle.event_log.specs.History.{IsLawful, AreOthers}
-use Rattle.event_log.specs.Sections.{Section, section_actor}
+use Rattle.event_log.specs.Sections.{Section, cpu_of_section}
 
 -- what an edit means: the block that it leaves, its answer, and, from the opening blocks on, after which sections which CPU may do it
 pub record Rules (E B O : Type 0) : Type 1 where
@@ -19,7 +19,7 @@ section cpu lock edit = record { cpu = cpu; lock = lock; edit = edit }
 -- a section is allowed, and stays so whatever allowed sections of other CPUs come before it
 abbrev pub StaysAllowed : {E : Type 0} → (List (Section E) → Section E → Type 0) → List (Section E) → Section E → Type 0
 StaysAllowed Allowed past s =
-    (more : List _) → AreOthers section_actor s.cpu more → IsLawful Allowed (more ++ past) → Allowed (more ++ past) s
+    (more : List _) → AreOthers cpu_of_section s.cpu more → IsLawful Allowed (more ++ past) → Allowed (more ++ past) s
 
 -- the CPU of a section is one that a machine may have
 abbrev pub IsKnown : {E : Type 0} → List (Section E) → Section E → Type 0

@@ -38,8 +38,8 @@ abbrev pub event : {E : Type 0} → CpuId → QueueCall E → QueueEvent E
 event cpu call = record { cpu = cpu; call = call }
 
 -- the CPU whose call it is
-abbrev pub event_actor : {E : Type 0} → QueueEvent E → CpuId
-event_actor e = e.cpu
+abbrev pub cpu_of_queue_event : {E : Type 0} → QueueEvent E → CpuId
+cpu_of_queue_event e = e.cpu
 
 -- the sections above with that of this call, if it is one
 abbrev pub with_section : {E : Type 0} → CpuId → QueueCall E → List (Section E) → List (Section E)
@@ -90,7 +90,7 @@ IsKnownEvent past e = e.cpu.0 < CPUS
 -- a call is allowed, and stays so whatever allowed calls of other CPUs come before it
 abbrev pub StaysCallable : {E : Type 0} → (List (QueueEvent E) → QueueEvent E → Type 0) → List (QueueEvent E) → QueueEvent E → Type 0
 StaysCallable Allowed past e =
-    (more : List _) → AreOthers event_actor e.cpu more → IsLawful Allowed (more ++ past) → Allowed (more ++ past) e
+    (more : List _) → AreOthers cpu_of_queue_event e.cpu more → IsLawful Allowed (more ++ past) → Allowed (more ++ past) e
 
 -- a call may be polled: at its first poll it is allowed and stays so; after that it is the one under way
 abbrev pub MayQueue : {E : Type 0} → (List (QueueEvent E) → QueueEvent E → Type 0) → List (QueueEvent E) → Option (QueueEvent E) → QueueEvent E → Type 0
@@ -107,7 +107,7 @@ answer_of k past (OnBuffer b e) = option_map Answer (out_at k past b e)
 pub record QueuePolled {E B O : Type 0} (k : Kernel E B O) (ActsFor : CpuId → Type 0) (e : QueueEvent E) (result : Option (QueueAnswer O))
     (old new : List (QueueEvent E)) : Type 0 where
   pub others : List (QueueEvent E)
-  pub foreign : AreForeign ActsFor event_actor others
+  pub foreign : AreForeign ActsFor cpu_of_queue_event others
   pub is : new ≡ (if is_some result then e ∷ (others ++ old) else others ++ old)
   pub answers : MatchOption result (Unit {0}) (λ answer. answer_of k (others ++ old) e.call ≡ Some answer)
 

@@ -22,7 +22,7 @@ use Rattle.layer_traits.specs.Passes.{MayPass, IsLocalPass, own_slept, own_woken
 use Rattle.layer_traits.specs.Places.{Threads, pending_by}
 use Rattle.layer_traits.specs.Plans.{Left, Plan, Now, raised}
 use Rattle.layer_traits.specs.Protocol.{section}
-use Rattle.layer_traits.specs.Queues.{Kernel, QueueAllowed, buffer_sections, event, event_actor, moves_in, out_at, queue_plan}
+use Rattle.layer_traits.specs.Queues.{Kernel, QueueAllowed, buffer_sections, event, cpu_of_queue_event, moves_in, out_at, queue_plan}
 
 -- the call of a pass at the shared queues; a pass that touches nothing shared has none
 abbrev pub pass_call : {E : Type 0} → List CpuId → CpuId → Pass → Option (QueueCall E)
@@ -79,7 +79,7 @@ StateFor mv (call.OnBuffer b e) own = (own.current ≡ Some (mv.caller e)) × (o
 -- the layer above allows an edit, and goes on to whatever allowed calls of other CPUs come before it
 abbrev pub EditStays : {E B O : Type 0} → Kernel E B O → CpuId → List (QueueEvent E) → SchedCall E → Type 0
 EditStays k c past (call.Pass p) = Unit {0}
-EditStays k c past (call.OnBuffer b e) = (more : List (QueueEvent _)) → AreOthers event_actor c more → IsLawful (QueueAllowed k) (more ++ past)
+EditStays k c past (call.OnBuffer b e) = (more : List (QueueEvent _)) → AreOthers cpu_of_queue_event c more → IsLawful (QueueAllowed k) (more ++ past)
     → k.rules.allowed k.opening (buffer_sections (more ++ past)) (section c (Buffer b) e)
 
 -- a call may be polled: at its first poll the CPU's own threads and the layer above let it come; after that it is the one under way
@@ -92,7 +92,7 @@ MaySched k c past own (Some under_way) s = under_way ≡ s
 pub record SchedPolled {E B O : Type 0} (k : Kernel E B O) (ActsFor : CpuId → Type 0) (c : CpuId) (s : SchedCall E) (result : Option (SchedAnswer O))
     (old new : List (QueueEvent E)) (own own' : Threads) : Type 0 where
   pub others : List (QueueEvent E)
-  pub foreign : AreForeign ActsFor event_actor others
+  pub foreign : AreForeign ActsFor cpu_of_queue_event others
   pub is : new ≡ (if is_some result then events_of c (queue_call k.homes c s) ++ (others ++ old) else others ++ old)
   pub after : own' ≡ (if is_some result then own_after k c (others ++ old) s own else own)
   pub answers : MatchOption result (Unit {0}) (λ answer. answer_to k (others ++ old) s ≡ Some answer)

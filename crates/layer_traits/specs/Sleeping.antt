@@ -4,10 +4,10 @@ use Rattle.event_log.specs.declared.ids.LockId.{LockId}
 use Rattle.event_log.specs.declared.ids.TheConstants.{THREADS}
 use Rattle.event_log.specs.declared.ids.Tid.{Tid}
 use Rattle.event_log.specs.Sections.{Section}
-use Rattle.layer_traits.specs.declared.moves.Line.{Line}
-use Rattle.layer_traits.specs.declared.moves.Line.TheVariants.{Sleepers, Receivers, Senders}
-use Rattle.layer_traits.specs.declared.sleeps.Leave.{Leave}
-use Rattle.layer_traits.specs.declared.sleeps.Leave.TheVariants.{Nobody, First, Receiver, Sender}
+use Rattle.layer_traits.specs.declared.moves.WaitList.{WaitList}
+use Rattle.layer_traits.specs.declared.moves.WaitList.TheVariants.{Sleepers, Receivers, Senders}
+use Rattle.layer_traits.specs.declared.sleeps.Wake.{Wake}
+use Rattle.layer_traits.specs.declared.sleeps.Wake.TheVariants.{Nobody, FirstSleeper, Receiver, Sender}
 use Rattle.layer_traits.specs.declared.sleeps.Outcome.{Outcome}
 use Rattle.layer_traits.specs.MoveRules.{MoveRules, section_moves, asleep_by}
 use Rattle.layer_traits.specs.Protocol.{Rules}
@@ -26,8 +26,8 @@ pub record SleepRules (E B O : Type 0) : Type 1 where
   pub caller : E → Tid
   pub edited : E → Option Tid → B → B
   pub answer : E → Option Tid → B → O
-  pub joins : O → Option Line
-  pub leaves : O → Leave
+  pub joins : O → Option WaitList
+  pub leaves : O → Wake
   pub allowed : (LockId → Option (SleepState B)) → List (Section E) → Section E → Type 0
 
 -- a list that a thread joins at its end: a thread of the machine that is not in it yet
@@ -35,52 +35,52 @@ abbrev pub joined : Tid → List Tid → List Tid
 joined t queue = if nat_lt t.0 THREADS && not (is_in t queue) then queue ++ t ∷ [] else queue
 
 -- the list of this line, where a caller joins this one
-abbrev pub line_joined : Line → Option Line → Tid → List Tid → List Tid
-line_joined Sleepers (Some Sleepers) t queue = joined t queue
-line_joined Receivers (Some Receivers) t queue = joined t queue
-line_joined Senders (Some Senders) t queue = joined t queue
-line_joined Sleepers (Some Receivers) t queue = queue
-line_joined Sleepers (Some Senders) t queue = queue
-line_joined Receivers (Some Sleepers) t queue = queue
-line_joined Receivers (Some Senders) t queue = queue
-line_joined Senders (Some Sleepers) t queue = queue
-line_joined Senders (Some Receivers) t queue = queue
-line_joined Sleepers None t queue = queue
-line_joined Receivers None t queue = queue
-line_joined Senders None t queue = queue
+abbrev pub wait_list_joined : WaitList → Option WaitList → Tid → List Tid → List Tid
+wait_list_joined Sleepers (Some Sleepers) t queue = joined t queue
+wait_list_joined Receivers (Some Receivers) t queue = joined t queue
+wait_list_joined Senders (Some Senders) t queue = joined t queue
+wait_list_joined Sleepers (Some Receivers) t queue = queue
+wait_list_joined Sleepers (Some Senders) t queue = queue
+wait_list_joined Receivers (Some Sleepers) t queue = queue
+wait_list_joined Receivers (Some Senders) t queue = queue
+wait_list_joined Senders (Some Sleepers) t queue = queue
+wait_list_joined Senders (Some Receivers) t queue = queue
+wait_list_joined Sleepers None t queue = queue
+wait_list_joined Receivers None t queue = queue
+wait_list_joined Senders None t queue = queue
 
 -- the list of this line, where these leave
-abbrev pub left : Line → Leave → List Tid → List Tid
-left Sleepers First queue = rest queue
+abbrev pub left : WaitList → Wake → List Tid → List Tid
+left Sleepers FirstSleeper queue = rest queue
 left Receivers (Receiver u) queue = without u queue
 left Senders (Sender u) queue = without u queue
 left Sleepers Nobody queue = queue
 left Sleepers (Receiver u) queue = queue
 left Sleepers (Sender u) queue = queue
 left Receivers Nobody queue = queue
-left Receivers First queue = queue
+left Receivers FirstSleeper queue = queue
 left Receivers (Sender u) queue = queue
 left Senders Nobody queue = queue
-left Senders First queue = queue
+left Senders FirstSleeper queue = queue
 left Senders (Receiver u) queue = queue
 
 -- whom this wakes, of these sleepers, receivers and senders
-abbrev pub woken : Leave → List Tid → List Tid → List Tid → Option Tid
+abbrev pub woken : Wake → List Tid → List Tid → List Tid → Option Tid
 woken Nobody sleepers receivers senders = None
-woken First sleepers receivers senders = first sleepers
+woken FirstSleeper sleepers receivers senders = first sleepers
 woken (Receiver u) sleepers receivers senders = if is_in u receivers then Some u else None
 woken (Sender u) sleepers receivers senders = if is_in u senders then Some u else None
 
 -- the list of this line
-abbrev pub line_of : {B : Type 0} → Line → SleepState B → List Tid
-line_of Sleepers state = state.sleepers
-line_of Receivers state = state.receivers
-line_of Senders state = state.senders
+abbrev pub wait_list_of : {B : Type 0} → WaitList → SleepState B → List Tid
+wait_list_of Sleepers state = state.sleepers
+wait_list_of Receivers state = state.receivers
+wait_list_of Senders state = state.senders
 
 -- the list of this line of a lock; empty where there is no such lock
-abbrev pub line_at : {B : Type 0} → Line → Option (SleepState B) → List Tid
-line_at line None = []
-line_at line (Some state) = line_of line state
+abbrev pub wait_list_at : {B : Type 0} → WaitList → Option (SleepState B) → List Tid
+wait_list_at line None = []
+wait_list_at line (Some state) = wait_list_of line state
 
 module _ {E B O : Type 0} (rules : SleepRules E B O) where
   -- what the edit above answers
@@ -88,16 +88,16 @@ module _ {E B O : Type 0} (rules : SleepRules E B O) where
   answer_above e state = rules.answer e (first state.sleepers) state.above
 
   -- the list of this line after a section: who leaves has left, and then the caller joins
-  abbrev pub line_after : Line → E → SleepState B → List Tid → List Tid
-  line_after line e state queue =
-      line_joined line (rules.joins (answer_above e state)) (rules.caller e) (left line (rules.leaves (answer_above e state)) queue)
+  abbrev pub wait_list_after : WaitList → E → SleepState B → List Tid → List Tid
+  wait_list_after line e state queue =
+      wait_list_joined line (rules.joins (answer_above e state)) (rules.caller e) (left line (rules.leaves (answer_above e state)) queue)
 
   -- the block that a section leaves
   abbrev pub sleep_edited : E → SleepState B → SleepState B
   sleep_edited e state = record {
-    sleepers = line_after Sleepers e state state.sleepers;
-    receivers = line_after Receivers e state state.receivers;
-    senders = line_after Senders e state state.senders;
+    sleepers = wait_list_after Sleepers e state state.sleepers;
+    receivers = wait_list_after Receivers e state state.receivers;
+    senders = wait_list_after Senders e state state.senders;
     above = rules.edited e (first state.sleepers) state.above;
   }
 
@@ -123,7 +123,7 @@ module _ {E B O : Type 0} (rules : SleepRules E B O) where
 
 -- no lock's waiting lists hold a thread
 abbrev pub NobodySleeps : {B : Type 0} → (LockId → Option (SleepState B)) → Type 0
-NobodySleeps opening = (lock : LockId) (line : Line) → line_at line (opening lock) ≡ []
+NobodySleeps opening = (lock : LockId) (line : WaitList) → wait_list_at line (opening lock) ≡ []
 
 -- the caller of a section is a thread of the machine and does not sleep after these sections
 pub record IsAwake {E B O : Type 0} (rules : SleepRules E B O) (opening : LockId → Option (SleepState B))

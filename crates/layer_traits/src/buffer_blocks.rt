@@ -4,13 +4,13 @@ ghost use Rattle.std.specs.Prelude.{◌≡◌, ◌≤◌, ◌++◌, ◌∷◌, [
 ghost use Rattle.event_log.specs.declared.ids.TheConstants.{CAPACITY};
 ghost use Rattle.layer_traits.specs.declared.buffer_edits.BufferEdit.TheVariants.{Enter, TryPut, TryTake, Shut};
 ghost use Rattle.layer_traits.specs.declared.locked.Side.TheVariants.{Receivers, Senders};
-ghost use Rattle.layer_traits.specs.Trays.{buffer_brought};
+ghost use Rattle.layer_traits.specs.Payloads.{buffer_brought};
 ghost use Rattle.layer_traits.specs.BufferBlocks.{buffer_answer, buffer_edited, empty_block, front_ready, is_first, may_go, may_join};
 
 use crate::buffer_edits::{BufferEdit, BufferOut};
 use crate::conditions::Guarded;
 use crate::locked::Side;
-use crate::trays::{Meant, Tray};
+use crate::payloads::{Ghost, Payload};
 use arrayvec::ArrayVec;
 use event_log::{CAPACITY, Kind, Msg, Ring, THREADS, Tid};
 use std::marker::Model;
@@ -140,10 +140,10 @@ impl BufferBlock {
         let _ = self.send_line.pop();
         self.effects = op.wrapping_add(1);
         if self.closed {
-            return BufferOut::Done(Kind::SendClosed, op, Meant::of(message));
+            return BufferOut::Done(Kind::SendClosed, op, Ghost::of(message));
         }
         self.items.put(*message);
-        BufferOut::Done(Kind::Send, op, Meant::of(message))
+        BufferOut::Done(Kind::Send, op, Ghost::of(message))
     }
 
     /// Takes the first item for `t` into `message`, where it stands first in the receive line and there is one; a
@@ -165,11 +165,11 @@ impl BufferBlock {
         match self.items.take() {
             None => {
                 *message = Msg::none();
-                BufferOut::Done(Kind::RecvClosed, op, Meant::of(message))
+                BufferOut::Done(Kind::RecvClosed, op, Ghost::of(message))
             }
             Some(first) => {
                 *message = first;
-                BufferOut::Done(Kind::Recv, op, Meant::of(message))
+                BufferOut::Done(Kind::Recv, op, Ghost::of(message))
             }
         }
     }
@@ -237,14 +237,14 @@ fn leads(line: &ThreadQueue, t: Tid) -> bool
 }
 
 impl Guarded for BufferEdit {
-    ghost use Rattle.layer_traits.specs.BufferProtocol.{buffer_deeds};
-    ghost use Rattle.layer_traits.specs.Trays.{buffer_brought, buffer_carried};
+    ghost use Rattle.layer_traits.specs.BufferProtocol.{buffer_monitor_rules};
+    ghost use Rattle.layer_traits.specs.Payloads.{buffer_brought, buffer_carried};
 
     type Block = BufferBlock;
 
     type Out = BufferOut;
 
-    ghost deeds = { buffer_deeds };
+    ghost monitor_rules = { buffer_monitor_rules };
 
     ghost carried = { buffer_carried };
 
@@ -260,11 +260,11 @@ impl Guarded for BufferEdit {
     }
 
     #[inline(always)]
-    fn apply(&self, block: &mut BufferBlock, tray: &mut Tray) -> BufferOut {
+    fn apply(&self, block: &mut BufferBlock, payload: &mut Payload) -> BufferOut {
         match self {
             BufferEdit::Enter(t, side) => block.enter(*t, *side),
-            BufferEdit::TryPut(t, _) => block.put(*t, &tray.message),
-            BufferEdit::TryTake(t) => block.take(*t, &mut tray.message),
+            BufferEdit::TryPut(t, _) => block.put(*t, &payload.message),
+            BufferEdit::TryTake(t) => block.take(*t, &mut payload.message),
             BufferEdit::Shut(t) => block.shut(*t),
         }
     }

@@ -24,7 +24,7 @@ pub trait BufferLayer {
     ghost use Rattle.event_log.specs.Actions.{Action, AreLegal, phase};
     ghost use Rattle.event_log.specs.Sections.{sections_in};
     ghost use Rattle.layer_traits.specs.declared.buffer_edits.BufferEdit.{BufferEdit};
-    ghost use Rattle.layer_traits.specs.declared.moves.Line.{Line};
+    ghost use Rattle.layer_traits.specs.declared.moves.WaitList.{WaitList};
     ghost use Rattle.layer_traits.specs.declared.queue_edits.QueueEdit.{QueueEdit};
     ghost use Rattle.layer_traits.specs.declared.queue_edits.QueueBlock.{QueueBlock};
     ghost use Rattle.layer_traits.specs.Acted.{MovesAre};
@@ -39,9 +39,9 @@ pub trait BufferLayer {
     ghost use Rattle.layer_traits.specs.Locking.{lock_moves, lock_rules};
     ghost use Rattle.layer_traits.specs.BufferProtocol.{BufferLock, buffer_rules};
     ghost use Rattle.layer_traits.specs.BufferEffects.{MayTakeEffect, effects_in, opening_locks};
-    ghost use Rattle.layer_traits.specs.BufferLaw.{Buffering, Called, Calling, Doing, IsRefused, MayGoOn, MayTalk, MovesGrow, OthersSeen, Passing, RunsOn};
-    ghost use Rattle.layer_traits.specs.BufferLaw.{buffer_of, buffering_at_start, fifo_pass_plan, fifo_plan, still_calling, still_passing, talk_of};
-    ghost use Rattle.layer_traits.specs.IpcLaw.{LinesAgree};
+    ghost use Rattle.layer_traits.specs.BufferLaw.{Buffering, Called, Calling, UnderWay, IsRefused, MayGoOn, MayPollCall, MovesGrow, OthersSeen, Passing, RunsOn};
+    ghost use Rattle.layer_traits.specs.BufferLaw.{buffer_of, buffering_at_start, fifo_pass_plan, fifo_plan, still_calling, still_passing, call_state_of};
+    ghost use Rattle.layer_traits.specs.IpcLaw.{WaitListsAgree};
 
     /// What lies beneath.
     type Machine;
@@ -59,7 +59,7 @@ pub trait BufferLayer {
     ghost moves: { Self.Machine → List Step };
 
     /// Who sleeps at a buffer, as its last section left it.
-    ghost lines: { Self.Machine → BufId → Line → List Tid };
+    ghost wait_lists: { Self.Machine → BufId → WaitList → List Tid };
 
     /// For which CPUs the holder of the machine acts. It carries that the machine is sound.
     ghost ActsFor: { Self.Machine → CpuId → Type 0 };
@@ -84,7 +84,7 @@ pub trait BufferLayer {
     ghost is_inside: { Self → Bool };
 
     /// What the CPU does that has not ended.
-    ghost doing: { Self → Option Doing };
+    ghost under_way: { Self → Option UnderWay };
 
     /// The part and the machine agree.
     ghost Fits: { Self → Self.Machine → Type 0 };
@@ -104,7 +104,7 @@ pub trait BufferLayer {
         requires { length homes.now ≤ THREADS }
         ensures cpu { cpu_of result ≡ cpu }
         ensures own { own result ≡ buffering_at_start homes.now cpu }
-        ensures doing { doing result ≡ None }
+        ensures under_way { under_way result ≡ None }
         ensures fits { (m : Self.Machine) → ActsFor m cpu → IsOutside m cpu → seen m ≡ [] → moves m ≡ []
             → homes_in (opening m) ≡ homes.now → IsSome (opening m (Pending cpu)) → inner (opening m) ≡ opening_locks (caps m)
             → Fits result m };
@@ -130,12 +130,12 @@ pub trait BufferLayer {
     /// next call begins.
     fn effect(&self, t: Tid) -> Option<Effect>
         requires { t.0 < THREADS }
-        ensures { result ≡ (talk_of (own self.now).talks t).effect };
+        ensures { result ≡ (call_state_of (own self.now).call_states t).effect };
 
     /// The same effect where it lies: nothing is copied.
     fn effect_here(&self, t: Tid) -> &Option<Effect>
         requires { t.0 < THREADS }
-        ensures { result.now ≡ (talk_of (own self.now).talks t).effect };
+        ensures { result.now ≡ (call_state_of (own self.now).call_states t).effect };
 
     /// Looks again for a section that waits at its lock, and tells whether it did: a poll that ends
     /// nothing, so it needs no call and has no answer. Where it tells `false` nothing has changed,
@@ -149,7 +149,7 @@ pub trait BufferLayer {
         ensures cpu { cpu_of self.new ≡ cpu_of self.old }
         ensures own { own self.new ≡ own self.old }
         ensures inside { is_inside self.new ≡ is_inside self.old }
-        ensures doing { doing self.new ≡ doing self.old }
+        ensures under_way { under_way self.new ≡ under_way self.old }
         ensures seen { OthersSeen (ActsFor m.old) (seen m.old) (seen m.new) }
         ensures moves { MovesGrow (ActsFor m.old) (cpu_of self.old) (moves m.old) (moves m.new) }
         ensures opening { opening m.new ≡ opening m.old }
@@ -167,13 +167,13 @@ pub trait BufferLayer {
         requires buffer { (buffer_of call.now).0 < length (caps m.old) }
         requires room { 0 < room m.old }
         requires runs { (own self.old).cv.lock.sleep.threads.current ≡ Some t }
-        requires hand { doing self.old ≡ None → (own self.old).cv.lock.sleep.threads.hand ≡ None }
-        requires same { MayTalk (talk_of (own self.old).talks t) call.now }
-        requires goes_on { MayGoOn (doing self.old) (Calling t) }
-        ensures called { Called (ActsFor m.old) (cpu_of self.old) t call.now (own self.old).talks (own self.new).talks
+        requires hand { under_way self.old ≡ None → (own self.old).cv.lock.sleep.threads.hand ≡ None }
+        requires same { MayPollCall (call_state_of (own self.old).call_states t) call.now }
+        requires goes_on { MayGoOn (under_way self.old) (Calling t) }
+        ensures called { Called (ActsFor m.old) (cpu_of self.old) t call.now (own self.old).call_states (own self.new).call_states
             (seen m.old) (seen m.new) result }
         ensures runs { RunsOn t (own self.old).cv.lock.sleep.threads (own self.new).cv.lock.sleep.threads result }
-        ensures doing { doing self.new ≡ still_calling t (own self.new).cv.lock.sleep.threads.current result }
+        ensures under_way { under_way self.new ≡ still_calling t (own self.new).cv.lock.sleep.threads.current result }
         ensures moves { MovesGrow (ActsFor m.old) (cpu_of self.old) (moves m.old) (moves m.new) }
         ensures prompt { IsWhole → result ≡ None
             → IsRefused call.now (caps m.old) (seen m.new) × ((own self.new).cv.lock.sleep.threads.current ≡ None) }
@@ -190,17 +190,17 @@ pub trait BufferLayer {
             (opening m.old) (cpu_of self.old) (fifo_plan (homes_in (opening m.old)) (cpu_of self.old) t call.now (own self.old))
             (acts m.old) (acts m.new) (record { own = own self.new; answer = result }) };
 
-    /// Passes a call on to the scheduler. The talks stay.
+    /// Passes a call on to the scheduler. The call states stay.
     fn pass(&mut self, m: &mut Self::Machine, call: Pass) -> Option<()>
         requires fits { Fits self.old m.old }
         requires room { 0 < room m.old }
         requires may { MayPass call (own self.old).cv.lock.sleep.threads }
-        requires goes_on { MayGoOn (doing self.old) (Passing call) }
+        requires goes_on { MayGoOn (under_way self.old) (Passing call) }
         ensures seen { OthersSeen (ActsFor m.old) (seen m.old) (seen m.new) }
         ensures passed { PassPolled (homes_in (opening m.old)) (ActsFor m.old) (cpu_of self.old) call result (moves m.old) (moves m.new)
             (own self.old).cv.lock.sleep.threads (own self.new).cv.lock.sleep.threads }
-        ensures doing { doing self.new ≡ still_passing call result }
-        ensures talks { (own self.new).talks ≡ (own self.old).talks }
+        ensures under_way { under_way self.new ≡ still_passing call result }
+        ensures call_states { (own self.new).call_states ≡ (own self.old).call_states }
         ensures still { IsLocalPass call → m.new ≡ m.old }
         ensures prompt { IsWhole → IsSome result }
         ensures fits { Fits self.new m.new }
@@ -227,11 +227,11 @@ pub trait BufferLayer {
         → Stands (homes_in (opening m)) (cpu_of p) (moves m) (own p).cv.lock.sleep.threads };
 
     /// Law: each move that was seen may follow those before it.
-    ghost moved: { (m : Self.Machine) (c : CpuId) → ActsFor m c → AreMoves (homes_in (opening m)) (moves m) };
+    ghost moves_legal: { (m : Self.Machine) (c : CpuId) → ActsFor m c → AreMoves (homes_in (opening m)) (moves m) };
 
     /// Law: the waiting lists of the buffers and the threads' places agree.
     ghost lists: { (p : Self) (m : Self.Machine) → Fits p m
-        → LinesAgree (length (caps m)) (homes_in (opening m)) (moves m) (lines m) };
+        → WaitListsAgree (length (caps m)) (homes_in (opening m)) (moves m) (wait_lists m) };
 
     /// Law: the opening blocks are those of a machine that may start.
     ghost opens: { (m : Self.Machine) (c : CpuId) → ActsFor m c → StartsWell (opening m) };
@@ -247,12 +247,12 @@ pub trait BufferLayer {
     /// Law: where a poll is one action, what the layer tells of threads, their moves and the waiting
     /// lists, is what the sections of the actions make of it, and so are the pending queues.
     ghost moves_are: { IsStepwise → (m : Self.Machine) (c : CpuId) → ActsFor m c
-        → MovesAre (opening m) (acts m) (moves m) (lines m) };
+        → MovesAre (opening m) (acts m) (moves m) (wait_lists m) };
 
     /// Law: where a poll is one action, a part has a section under way exactly while its CPU waits
     /// at a lock or holds one.
     ghost busy: { (p : Self) (m : Self.Machine) → Fits p m → IsStepwise → is_inside p ≡ is_in_section (phase (cpu_of p) (acts m)) };
 
     /// Law: where the CPU has nothing begun, no section is under way.
-    ghost rests: { (p : Self) (m : Self.Machine) → Fits p m → doing p ≡ None → is_inside p ≡ false };
+    ghost idle: { (p : Self) (m : Self.Machine) → Fits p m → under_way p ≡ None → is_inside p ≡ false };
 }

@@ -3,8 +3,8 @@
 
 ghost use Rattle.std.specs.Prelude.{◌≡◌, Option};
 
-use crate::locked::{Locked, Side, Signal};
-use crate::trays::Tray;
+use crate::locked::{Locked, Side, WakeWaiter};
+use crate::payloads::Payload;
 use event_log::Tid;
 
 /// What the owner of a lock with conditions does inside.
@@ -42,7 +42,7 @@ pub enum CvOut<O> {
 /// tells whether the first of a line may go on.
 pub trait Guarded: Drop {
     ghost use Rattle.event_log.specs.declared.messages.Msg.{Msg};
-    ghost use Rattle.layer_traits.specs.Conditions.{Deeds};
+    ghost use Rattle.layer_traits.specs.Conditions.{MonitorRules};
 
     /// What the lock guards.
     type Block: Drop;
@@ -52,11 +52,11 @@ pub trait Guarded: Drop {
 
     /// What an edit means: its caller, the block that it leaves and its answer; who stands at the
     /// front of a side's line and may go on; and after which sections which CPU may do which.
-    ghost deeds: { Deeds Self Self.Block Self.Out };
+    ghost monitor_rules: { MonitorRules Self Self.Block Self.Out };
 
     /// The thread that edits.
     fn caller(&self) -> Tid
-        ensures { result ≡ deeds.caller self.now };
+        ensures { result ≡ monitor_rules.caller self.now };
 
     /// The message is what the edit puts, if it puts one.
     ghost carried: { Self → Msg → Type 0 } = { λ _ _. Unit {0} };
@@ -65,20 +65,20 @@ pub trait Guarded: Drop {
     ghost brought: { Self.Out → Msg → Type 0 } = { λ _ _. Unit {0} };
 
     /// Edits `block` and gives the edit's answer. Takes no memory.
-    fn apply(&self, block: &mut Self::Block, tray: &mut Tray) -> Self::Out
-        requires carried { carried self.now tray.old.message }
-        ensures block { block.new ≡ deeds.edited self.now block.old }
-        ensures answer { result ≡ deeds.answer self.now block.old }
-        ensures brought { brought result tray.new.message };
+    fn apply(&self, block: &mut Self::Block, payload: &mut Payload) -> Self::Out
+        requires carried { carried self.now payload.old.message }
+        ensures block { block.new ≡ monitor_rules.edited self.now block.old }
+        ensures answer { result ≡ monitor_rules.answer self.now block.old }
+        ensures brought { brought result payload.new.message };
 
     /// The front of this side's line, where it may go on.
     fn ready(side: Side, block: &Self::Block) -> Option<Tid>
-        ensures { result ≡ deeds.ready side block.now };
+        ensures { result ≡ monitor_rules.ready side block.now };
 }
 
 impl<G: Guarded> Locked for CvEdit<G> {
     ghost use Rattle.layer_traits.specs.Conditions.{cv_rules};
-    ghost use Rattle.layer_traits.specs.Trays.{cv_brought, cv_carried};
+    ghost use Rattle.layer_traits.specs.Payloads.{cv_brought, cv_carried};
 
     type Block = G::Block;
 
@@ -86,7 +86,7 @@ impl<G: Guarded> Locked for CvEdit<G> {
 
     type Release = CvLeave;
 
-    ghost rules = { cv_rules G.deeds };
+    ghost rules = { cv_rules G.monitor_rules };
 
     ghost carried = { cv_carried G.carried };
 
@@ -100,19 +100,19 @@ impl<G: Guarded> Locked for CvEdit<G> {
     }
 
     #[inline(always)]
-    fn apply(&self, block: &mut G::Block, tray: &mut Tray) -> CvOut<G::Out> {
+    fn apply(&self, block: &mut G::Block, payload: &mut Payload) -> CvOut<G::Out> {
         match self {
-            CvEdit::Edit(edit) => CvOut::Did(edit.apply(block, tray)),
+            CvEdit::Edit(edit) => CvOut::Did(edit.apply(block, payload)),
             CvEdit::SignalFront(_, side) => CvOut::Signalled(*side, G::ready(*side, block)),
         }
     }
 
-    fn signals(out: &CvOut<G::Out>) -> Signal {
+    fn signals(out: &CvOut<G::Out>) -> WakeWaiter {
         match out {
-            CvOut::Signalled(Side::Receivers, Some(front)) => Signal::Receiver(*front),
-            CvOut::Signalled(Side::Senders, Some(front)) => Signal::Sender(*front),
+            CvOut::Signalled(Side::Receivers, Some(front)) => WakeWaiter::Receiver(*front),
+            CvOut::Signalled(Side::Senders, Some(front)) => WakeWaiter::Sender(*front),
             CvOut::Signalled(_, None) | CvOut::Did(_) | CvOut::Left | CvOut::Waited(_) => {
-                Signal::Nobody
+                WakeWaiter::Nobody
             }
         }
     }

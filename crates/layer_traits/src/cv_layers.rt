@@ -6,8 +6,8 @@ ghost use Rattle.std.specs.Prelude.{Some, None, IsSome, IfSome, OnSome, is_some,
 use crate::conditions::{CvEdit, CvLeave, CvOut, Guarded};
 use crate::locked::{QEdit, QOut};
 use crate::passes::Pass;
+use crate::payloads::Payload;
 use crate::sleeps::Outcome;
-use crate::trays::Tray;
 use event_log::{BufId, CpuId, Tid};
 
 /// One CPU's part of a layer of queuing locks with Mesa conditions (Anderson and Dahlin): the
@@ -36,7 +36,7 @@ pub trait CvLayer<G: Guarded> {
     ghost use Rattle.layer_traits.specs.Plans.{Follows, IsWhole, table_of, is_in_section};
     ghost use Rattle.layer_traits.specs.Looks.{Tries};
     ghost use Rattle.layer_traits.specs.QueueBlocks.{StartsWell, homes_in, inner};
-    ghost use Rattle.layer_traits.specs.Queues.{QueueAllowed, IsKnownEvent, buffer_sections, event_actor, event_of, moves_in};
+    ghost use Rattle.layer_traits.specs.Queues.{QueueAllowed, IsKnownEvent, buffer_sections, cpu_of_queue_event, event_of, moves_in};
     ghost use Rattle.layer_traits.specs.QueueRules.{AreProper, queue_rules};
     ghost use Rattle.layer_traits.specs.Passes.{MayPass, IsLocalPass};
     ghost use Rattle.layer_traits.specs.Scheds.{SchedPolled};
@@ -44,7 +44,7 @@ pub trait CvLayer<G: Guarded> {
     ghost use Rattle.layer_traits.specs.Locking.{LockState, AreAtRest, lock_after, lock_caller, lock_moves, lock_rules};
     ghost use Rattle.layer_traits.specs.LockLaw.{HasOrAwaits, LocksAgree, MayGo, MayLock, is_handed, lock_kernel, slept_for};
     ghost use Rattle.layer_traits.specs.Conditions.{CvCall, cv_rules};
-    ghost use Rattle.layer_traits.specs.Trays.{cv_brought, cv_carried, lock_brought, lock_carried};
+    ghost use Rattle.layer_traits.specs.Payloads.{cv_brought, cv_carried, lock_brought, lock_carried};
     ghost use Rattle.layer_traits.specs.CvLaw.{CvPolled, MayWait, MustStay, Waiting, cv_pass_plan, cv_plan, waiting_at_start};
 
     /// What lies beneath.
@@ -143,7 +143,7 @@ pub trait CvLayer<G: Guarded> {
         ensures call { under_way self.new ≡ under_way self.old }
         ensures own { own self.new ≡ own self.old }
         ensures inside { is_inside self.new ≡ is_inside self.old }
-        ensures seen { Grows (ActsFor m.old) event_actor (seen m.old) (seen m.new) }
+        ensures seen { Grows (ActsFor m.old) cpu_of_queue_event (seen m.old) (seen m.new) }
         ensures opening { opening m.new ≡ opening m.old }
         ensures site { site m.new ≡ site m.old }
         ensures room { room m.old ≤ room m.new + 1 }
@@ -158,24 +158,24 @@ pub trait CvLayer<G: Guarded> {
         m: &mut Self::Machine,
         buffer: BufId,
         call: QEdit<CvEdit<G>, CvLeave>,
-        tray: &mut Tray,
+        payload: &mut Payload,
     ) -> Option<Outcome<QOut<CvOut<G::Out>>>>
         requires fits { Fits self.old m.old }
         requires buffer { IsSome (opening m.old (Buffer buffer)) }
         requires room { 0 < room m.old }
-        requires caller { (own self.old).lock.sleep.threads.current ≡ Some (lock_caller (cv_rules G.deeds) call) }
-        requires call { MayWait (slept_for (own self.old).waits (lock_caller (cv_rules G.deeds) call)) (under_way self.old) buffer
-            call (lock_caller (cv_rules G.deeds) call)
-            (MayGo (slept_for (own self.old).lock.slept (lock_caller (cv_rules G.deeds) call)) (under_way self.old) buffer call
-            (lock_caller (cv_rules G.deeds) call)
-            (MayLock (cv_rules G.deeds) (lock_kernel (cv_rules G.deeds) (opening m.old)) (cpu_of self.old) (seen m.old)
+        requires caller { (own self.old).lock.sleep.threads.current ≡ Some (lock_caller (cv_rules G.monitor_rules) call) }
+        requires call { MayWait (slept_for (own self.old).waits (lock_caller (cv_rules G.monitor_rules) call)) (under_way self.old) buffer
+            call (lock_caller (cv_rules G.monitor_rules) call)
+            (MayGo (slept_for (own self.old).lock.slept (lock_caller (cv_rules G.monitor_rules) call)) (under_way self.old) buffer call
+            (lock_caller (cv_rules G.monitor_rules) call)
+            (MayLock (cv_rules G.monitor_rules) (lock_kernel (cv_rules G.monitor_rules) (opening m.old)) (cpu_of self.old) (seen m.old)
             (own self.old).lock.sleep.threads.hand buffer call)) }
-        requires carried { lock_carried (cv_carried G.carried) call tray.old.message }
-        ensures seen { CvPolled G.deeds (lock_kernel (cv_rules G.deeds) (opening m.old)) (ActsFor m.old) (cpu_of self.old) buffer call
-            (slept_for (own self.old).waits (lock_caller (cv_rules G.deeds) call)) (seen m.old) (seen m.new) (own self.old)
+        requires carried { lock_carried (cv_carried G.carried) call payload.old.message }
+        ensures seen { CvPolled G.monitor_rules (lock_kernel (cv_rules G.monitor_rules) (opening m.old)) (ActsFor m.old) (cpu_of self.old) buffer call
+            (slept_for (own self.old).waits (lock_caller (cv_rules G.monitor_rules) call)) (seen m.old) (seen m.new) (own self.old)
             (under_way self.new) (record { own = own self.new; answer = result }) }
-        ensures woken { IsSome (slept_for (own self.old).waits (lock_caller (cv_rules G.deeds) call)) → m.new ≡ m.old }
-        ensures handed { IsSome (slept_for (own self.old).lock.slept (lock_caller (cv_rules G.deeds) call)) → m.new ≡ m.old }
+        ensures woken { IsSome (slept_for (own self.old).waits (lock_caller (cv_rules G.monitor_rules) call)) → m.new ≡ m.old }
+        ensures handed { IsSome (slept_for (own self.old).lock.slept (lock_caller (cv_rules G.monitor_rules) call)) → m.new ≡ m.old }
         ensures fits { Fits self.new m.new }
         ensures cpu { cpu_of self.new ≡ cpu_of self.old }
         ensures opening { opening m.new ≡ opening m.old }
@@ -183,23 +183,23 @@ pub trait CvLayer<G: Guarded> {
         ensures room { room m.old ≤ room m.new + 1 }
         ensures acts { (c : CpuId) → ActsFor m.old c → ActsFor m.new c }
         ensures others { (p : Self) → cpu_of p ≢ cpu_of self.old → Fits p m.old → Fits p m.new }
-        ensures brought { IfSome result (λ outcome. lock_brought (cv_brought G.brought) outcome.out tray.new.message) }
+        ensures brought { IfSome result (λ outcome. lock_brought (cv_brought G.brought) outcome.out payload.new.message) }
         ensures prompt { IsWhole IsStepwise → result ≡ None
-            → MustStay (lock_caller (cv_rules G.deeds) call) buffer (own self.old) (own self.new) }
+            → MustStay (lock_caller (cv_rules G.monitor_rules) call) buffer (own self.old) (own self.new) }
         ensures follows { IsStepwise
-            → Follows (ActsFor m.old) (table_of (queue_rules (lock_rules (cv_rules G.deeds)) (lock_moves (cv_rules G.deeds))))
+            → Follows (ActsFor m.old) (table_of (queue_rules (lock_rules (cv_rules G.monitor_rules)) (lock_moves (cv_rules G.monitor_rules))))
             (opening m.old) (cpu_of self.old)
-            (cv_plan (lock_moves (cv_rules G.deeds)) (homes_in (opening m.old)) (cpu_of self.old) buffer call (own self.old))
+            (cv_plan (lock_moves (cv_rules G.monitor_rules)) (homes_in (opening m.old)) (cpu_of self.old) buffer call (own self.old))
             (acts m.old) (acts m.new) (record { own = own self.new; answer = result }) };
 
     /// Passes a call on to the scheduler. Who sleeps and who waits stay.
-    fn pass(&mut self, m: &mut Self::Machine, call: Pass, tray: &mut Tray) -> Option<()>
+    fn pass(&mut self, m: &mut Self::Machine, call: Pass, payload: &mut Payload) -> Option<()>
         requires fits { Fits self.old m.old }
         requires room { 0 < room m.old }
         requires call { MayCall (under_way self.old) (sched.Pass call) (MayPass call (own self.old).lock.sleep.threads) }
-        ensures seen { SchedPolled (lock_kernel (cv_rules G.deeds) (opening m.old)) (ActsFor m.old) (cpu_of self.old) (sched.Pass call)
+        ensures seen { SchedPolled (lock_kernel (cv_rules G.monitor_rules) (opening m.old)) (ActsFor m.old) (cpu_of self.old) (sched.Pass call)
             (done_if result) (seen m.old) (seen m.new) (own self.old).lock.sleep.threads (own self.new).lock.sleep.threads }
-        ensures kept { (own self.new).lock.sleep.kept ≡ (own self.old).lock.sleep.kept }
+        ensures deferred { (own self.new).lock.sleep.deferred ≡ (own self.old).lock.sleep.deferred }
         ensures slept { (own self.new).lock.slept ≡ (own self.old).lock.slept }
         ensures waits { (own self.new).waits ≡ (own self.old).waits }
         ensures call { under_way self.new ≡ (if is_some result then None else Some (sched.Pass call)) }
@@ -214,9 +214,9 @@ pub trait CvLayer<G: Guarded> {
         ensures others { (p : Self) → cpu_of p ≢ cpu_of self.old → Fits p m.old → Fits p m.new }
         ensures prompt { IsWhole IsStepwise → IsSome result }
         ensures follows { IsStepwise
-            → Follows (ActsFor m.old) (table_of (queue_rules (lock_rules (cv_rules G.deeds)) (lock_moves (cv_rules G.deeds))))
+            → Follows (ActsFor m.old) (table_of (queue_rules (lock_rules (cv_rules G.monitor_rules)) (lock_moves (cv_rules G.monitor_rules))))
             (opening m.old) (cpu_of self.old)
-            (cv_pass_plan (lock_moves (cv_rules G.deeds)) (homes_in (opening m.old)) (cpu_of self.old) call (own self.old))
+            (cv_pass_plan (lock_moves (cv_rules G.monitor_rules)) (homes_in (opening m.old)) (cpu_of self.old) call (own self.old))
             (acts m.old) (acts m.new) (record { own = own self.new; answer = result }) };
 
     /// Law: a part that agrees with a machine is of a CPU for which the machine's holder acts.
@@ -224,26 +224,26 @@ pub trait CvLayer<G: Guarded> {
 
     /// Law: a CPU's threads stand where the moves say.
     ghost stands: { (p : Self) (m : Self.Machine) → Fits p m
-        → Stands (homes_in (opening m)) (cpu_of p) (moves_in (lock_kernel (cv_rules G.deeds) (opening m)) (seen m))
+        → Stands (homes_in (opening m)) (cpu_of p) (moves_in (lock_kernel (cv_rules G.monitor_rules) (opening m)) (seen m))
         (own p).lock.sleep.threads };
 
     /// Law: the waiting lists of each lock and the threads' places agree.
-    ghost lists: { (p : Self) (m : Self.Machine) → Fits p m → LocksAgree (cv_rules G.deeds) (opening m) (seen m) };
+    ghost lists: { (p : Self) (m : Self.Machine) → Fits p m → LocksAgree (cv_rules G.monitor_rules) (opening m) (seen m) };
 
     /// Law: a thread that slept for a lock owns it or sleeps for it still.
     ghost awaits: { (p : Self) (m : Self.Machine) → Fits p m → (t : Tid) (b : BufId) → slept_for (own p).lock.slept t ≡ Some b
-        → HasOrAwaits t (lock_after (cv_rules G.deeds) (inner (opening m)) (Buffer b) (buffer_sections (seen m))) };
+        → HasOrAwaits t (lock_after (cv_rules G.monitor_rules) (inner (opening m)) (Buffer b) (buffer_sections (seen m))) };
 
     /// Law: the opening blocks are those of a machine that may start.
     ghost opens: { (m : Self.Machine) (c : CpuId) → ActsFor m c → StartsWell (opening m) };
 
     /// Law: each event that was seen keeps the protocol.
     ghost lawful: { (m : Self.Machine) (c : CpuId) → ActsFor m c
-        → IsLawful (QueueAllowed (lock_kernel (cv_rules G.deeds) (opening m))) (seen m) };
+        → IsLawful (QueueAllowed (lock_kernel (cv_rules G.monitor_rules) (opening m))) (seen m) };
 
     /// Law: each move that was seen may follow those before it.
-    ghost moving: { (m : Self.Machine) (c : CpuId) → ActsFor m c
-        → AreMoves (homes_in (opening m)) (moves_in (lock_kernel (cv_rules G.deeds) (opening m)) (seen m)) };
+    ghost moves_legal: { (m : Self.Machine) (c : CpuId) → ActsFor m c
+        → AreMoves (homes_in (opening m)) (moves_in (lock_kernel (cv_rules G.monitor_rules) (opening m)) (seen m)) };
 
     /// Law: each event that was seen is of a CPU that a machine may have.
     ghost known: { (m : Self.Machine) (c : CpuId) → ActsFor m c → IsLawful IsKnownEvent (seen m) };

@@ -2,7 +2,7 @@
 
 ghost use Rattle.std.specs.Prelude.{◌≡◌};
 
-use crate::trays::Tray;
+use crate::payloads::Payload;
 
 /// What a section leaves in the event that ends it: its edit. So a words log tells each section's
 /// edit and, by the fold of the edits, its answer.
@@ -14,7 +14,7 @@ pub struct Mark<E> {
 
 /// A pure edit of a lock's block: one section applies one edit.
 pub trait Edit: Drop {
-    ghost use Rattle.layer_traits.specs.declared.trays.Tray.{Tray};
+    ghost use Rattle.layer_traits.specs.declared.payloads.Payload.{Payload};
     ghost use Rattle.layer_traits.specs.Protocol.{Rules};
 
     /// What the lock guards.
@@ -27,16 +27,16 @@ pub trait Edit: Drop {
     /// it finds; and after which sections which CPU may do it.
     ghost rules: { Rules Self Self.Block Self.Out };
 
-    /// The tray holds what the edit puts.
-    ghost carried: { Self → Tray → Type 0 } = { λ _ _. Unit {0} };
+    /// The payload holds what the edit puts.
+    ghost carried: { Self → Payload → Type 0 } = { λ _ _. Unit {0} };
 
-    /// The tray holds what the answer brings.
-    ghost brought: { Self.Out → Tray → Type 0 } = { λ _ _. Unit {0} };
+    /// The payload holds what the answer brings.
+    ghost brought: { Self.Out → Payload → Type 0 } = { λ _ _. Unit {0} };
 
     /// Edits `block` and gives the edit's answer. Takes no memory.
-    fn apply(&self, block: &mut Self::Block, tray: &mut Tray) -> Self::Out
-        requires carried { carried self.now tray.old }
+    fn apply(&self, block: &mut Self::Block, payload: &mut Payload) -> Self::Out
+        requires carried { carried self.now payload.old }
         ensures block { block.new ≡ rules.edited self.now block.old }
         ensures answer { result ≡ rules.answer self.now block.old }
-        ensures brought { brought result tray.new };
+        ensures brought { brought result payload.new };
 }

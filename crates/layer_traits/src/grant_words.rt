@@ -17,9 +17,9 @@ pub trait GrantWords {
     ghost use Rattle.event_log.specs.declared.grants.GrantEvent.{GrantEvent};
     ghost use Rattle.event_log.specs.declared.grants.GrantEvent.TheVariants.{Take, Peek, Give};
     ghost use Rattle.layer_traits.specs.declared.edits.Mark.{Mark};
-    ghost use Rattle.event_log.specs.Grants.{grant_actor, grant_standing};
+    ghost use Rattle.event_log.specs.Grants.{cpu_of_grant, grant_lock_phase};
     ghost use Rattle.event_log.specs.History.{Adds, IsLawful};
-    ghost use Rattle.event_log.specs.WordsLog.{Outside, Waiting, Inside};
+    ghost use Rattle.event_log.specs.WordsLog.{Idle, Waiting, Holding};
     ghost use Rattle.event_log.specs.Sections.{block_after};
     ghost use Rattle.layer_traits.specs.GrantProtocol.{grant_sections, GrantMayCome};
     ghost use Rattle.layer_traits.specs.Protocol.{section, StaysAllowed};
@@ -60,8 +60,8 @@ pub trait GrantWords {
         requires cpu { ActsFor self.old cpu }
         requires lock { IsSome (opening self.old lock) }
         requires room { 0 < room self.old }
-        requires outside { grant_standing cpu (seen self.old) ≡ Outside }
-        ensures adds { Adds (ActsFor self.old) grant_actor (Take cpu lock result) (seen self.old) (seen self.new) }
+        requires outside { grant_lock_phase cpu (seen self.old) ≡ Idle }
+        ensures adds { Adds (ActsFor self.old) cpu_of_grant (Take cpu lock result) (seen self.old) (seen self.new) }
         ensures opening { opening self.new ≡ opening self.old }
         ensures site { site self.new ≡ site self.old }
         ensures room { room self.old ≤ room self.new + 1 }
@@ -73,11 +73,11 @@ pub trait GrantWords {
         requires cpu { ActsFor self.old cpu }
         requires lock { IsSome (opening self.old lock) }
         requires room { 0 < room self.old }
-        requires waiting { grant_standing cpu (seen self.old) ≡ Waiting lock ticket }
-        ensures adds { (read : ℕ) × Adds (ActsFor self.old) grant_actor (Peek cpu lock ticket read) (seen self.old) (seen self.new) }
+        requires waiting { grant_lock_phase cpu (seen self.old) ≡ Waiting lock ticket }
+        ensures adds { (read : ℕ) × Adds (ActsFor self.old) cpu_of_grant (Peek cpu lock ticket read) (seen self.old) (seen self.new) }
         ensures hits { MatchOption result
-            (grant_standing cpu (seen self.new) ≡ Waiting lock ticket)
-            (λ block. (grant_standing cpu (seen self.new) ≡ Inside lock ticket)
+            (grant_lock_phase cpu (seen self.new) ≡ Waiting lock ticket)
+            (λ block. (grant_lock_phase cpu (seen self.new) ≡ Holding lock ticket)
             × (block_after Self.Edit.rules.edited (opening self.new) lock (grant_sections (seen self.new)) ≡ Some block)) }
         ensures opening { opening self.new ≡ opening self.old }
         ensures site { site self.new ≡ site self.old }
@@ -97,12 +97,12 @@ pub trait GrantWords {
         requires cpu { ActsFor self.old cpu }
         requires lock { IsSome (opening self.old lock) }
         requires room { 0 < room self.old }
-        requires inside { (ticket : ℕ) × (grant_standing cpu (seen self.old) ≡ Inside lock ticket) }
+        requires inside { (ticket : ℕ) × (grant_lock_phase cpu (seen self.old) ≡ Holding lock ticket) }
         requires edited { option_map (Self.Edit.rules.edited (edit_in mark))
             (block_after Self.Edit.rules.edited (opening self.old) lock (grant_sections (seen self.old))) ≡ Some block }
         requires allowed { StaysAllowed (Self.Edit.rules.allowed (opening self.old)) (grant_sections (seen self.old))
             (section cpu lock (edit_in mark)) }
-        ensures adds { Adds (ActsFor self.old) grant_actor (Give cpu lock (mark_of (edit_in mark))) (seen self.old) (seen self.new) }
+        ensures adds { Adds (ActsFor self.old) cpu_of_grant (Give cpu lock (mark_of (edit_in mark))) (seen self.old) (seen self.new) }
         ensures opening { opening self.new ≡ opening self.old }
         ensures site { site self.new ≡ site self.old }
         ensures room { room self.old ≤ room self.new + 1 }

@@ -23,10 +23,10 @@ pub trait IpcLayer {
     ghost use Rattle.event_log.specs.Actions.{Action, AreLegal, phase};
     ghost use Rattle.event_log.specs.Sections.{sections_in};
     ghost use Rattle.layer_traits.specs.declared.buffer_edits.BufferEdit.{BufferEdit};
-    ghost use Rattle.layer_traits.specs.declared.moves.Line.{Line};
+    ghost use Rattle.layer_traits.specs.declared.moves.WaitList.{WaitList};
     ghost use Rattle.layer_traits.specs.declared.queue_edits.QueueEdit.{QueueEdit};
     ghost use Rattle.layer_traits.specs.declared.queue_edits.QueueBlock.{QueueBlock};
-    ghost use Rattle.layer_traits.specs.declared.talks.Talk.{Talk};
+    ghost use Rattle.layer_traits.specs.declared.call_states.CallState.{CallState};
     ghost use Rattle.layer_traits.specs.Acted.{MovesAre};
     ghost use Rattle.layer_traits.specs.Conditions.{CvCall};
     ghost use Rattle.layer_traits.specs.Places.{Step, Stands, Threads, AreMoves, at_boot};
@@ -39,9 +39,9 @@ pub trait IpcLayer {
     ghost use Rattle.layer_traits.specs.Locking.{lock_moves, lock_rules};
     ghost use Rattle.layer_traits.specs.BufferProtocol.{BufferLock, buffer_rules};
     ghost use Rattle.layer_traits.specs.BufferEffects.{MayTakeEffect, effects_in};
-    ghost use Rattle.layer_traits.specs.BufferLaw.{Buffering, Called, Calling, Doing, IsRefused, MayGoOn, MayTalk, MovesGrow, OthersSeen, Passing, RunsOn};
-    ghost use Rattle.layer_traits.specs.BufferLaw.{buffer_of, buffering_at_start, fifo_pass_plan, quiet, still_calling, still_passing, talk_of};
-    ghost use Rattle.layer_traits.specs.IpcLaw.{LinesAgree, NothingDone, OpensSo, ipc_plan};
+    ghost use Rattle.layer_traits.specs.BufferLaw.{Buffering, Called, Calling, UnderWay, IsRefused, MayGoOn, MayPollCall, MovesGrow, OthersSeen, Passing, RunsOn};
+    ghost use Rattle.layer_traits.specs.BufferLaw.{buffer_of, buffering_at_start, fifo_pass_plan, no_call, still_calling, still_passing, call_state_of};
+    ghost use Rattle.layer_traits.specs.IpcLaw.{WaitListsAgree, NothingDone, OpensSo, ipc_plan};
 
     /// What lies beneath.
     type Machine;
@@ -59,7 +59,7 @@ pub trait IpcLayer {
     ghost moves: { Self.Machine → List Step };
 
     /// Who sleeps at a buffer, as its last section left it.
-    ghost lines: { Self.Machine → BufId → Line → List Tid };
+    ghost wait_lists: { Self.Machine → BufId → WaitList → List Tid };
 
     /// For which CPUs the holder of the machine acts. It carries that the machine is sound.
     ghost ActsFor: { Self.Machine → CpuId → Type 0 };
@@ -81,14 +81,14 @@ pub trait IpcLayer {
     /// The CPU's threads.
     ghost threads: { Self → Threads };
 
-    /// The talk of each thread.
-    ghost talks: { Self → List Talk };
+    /// The call state of each thread.
+    ghost call_states: { Self → List CallState };
 
     /// Whether a section is under way.
     ghost is_inside: { Self → Bool };
 
     /// What the CPU does that has not ended.
-    ghost doing: { Self → Option Doing };
+    ghost under_way: { Self → Option UnderWay };
 
     /// The part and the machine agree.
     ghost Fits: { Self → Self.Machine → Type 0 };
@@ -116,8 +116,8 @@ pub trait IpcLayer {
         requires { length homes.now ≤ THREADS }
         ensures cpu { cpu_of result ≡ cpu }
         ensures threads { threads result ≡ at_boot homes.now cpu }
-        ensures talks { talks result ≡ replicate THREADS quiet }
-        ensures doing { doing result ≡ None }
+        ensures call_states { call_states result ≡ replicate THREADS no_call }
+        ensures under_way { under_way result ≡ None }
         ensures own { IsStepwise → own result ≡ buffering_at_start homes.now cpu }
         ensures fits { (m : Self.Machine) → IsFresh m homes.now cpu → length (caps m) ≡ buffers → Fits result m };
 
@@ -142,12 +142,12 @@ pub trait IpcLayer {
     /// next call begins.
     fn effect(&self, t: Tid) -> Option<Effect>
         requires { t.0 < THREADS }
-        ensures { result ≡ (talk_of (talks self.now) t).effect };
+        ensures { result ≡ (call_state_of (call_states self.now) t).effect };
 
     /// The same effect where it lies: nothing is copied.
     fn effect_here(&self, t: Tid) -> &Option<Effect>
         requires { t.0 < THREADS }
-        ensures { result.now ≡ (talk_of (talks self.now) t).effect };
+        ensures { result.now ≡ (call_state_of (call_states self.now) t).effect };
 
     /// Looks again for a section that waits at its lock, and tells whether it did: a poll that ends
     /// nothing, so it needs no call and has no answer. Where it tells `false` nothing has changed,
@@ -160,10 +160,10 @@ pub trait IpcLayer {
         ensures fits { Fits self.new m.new }
         ensures cpu { cpu_of self.new ≡ cpu_of self.old }
         ensures threads { threads self.new ≡ threads self.old }
-        ensures talks { talks self.new ≡ talks self.old }
+        ensures call_states { call_states self.new ≡ call_states self.old }
         ensures own { IsStepwise → own self.new ≡ own self.old }
         ensures inside { is_inside self.new ≡ is_inside self.old }
-        ensures doing { doing self.new ≡ doing self.old }
+        ensures under_way { under_way self.new ≡ under_way self.old }
         ensures seen { OthersSeen (ActsFor m.old) (seen m.old) (seen m.new) }
         ensures moves { MovesGrow (ActsFor m.old) (cpu_of self.old) (moves m.old) (moves m.new) }
         ensures homes { homes_of m.new ≡ homes_of m.old }
@@ -182,15 +182,15 @@ pub trait IpcLayer {
         requires fits { Fits self.old m.old }
         requires room { 0 < room m.old }
         requires runs { (threads self.old).current ≡ Some t }
-        requires hand { doing self.old ≡ None → (threads self.old).hand ≡ None }
-        requires same { MayTalk (talk_of (talks self.old) t) call.now }
-        requires goes_on { MayGoOn (doing self.old) (Calling t) }
+        requires hand { under_way self.old ≡ None → (threads self.old).hand ≡ None }
+        requires same { MayPollCall (call_state_of (call_states self.old) t) call.now }
+        requires goes_on { MayGoOn (under_way self.old) (Calling t) }
         ensures nothing { length (caps m.old) ≤ (buffer_of call.now).0 → NothingDone m.old m.new self.old self.new result }
         ensures called { (buffer_of call.now).0 < length (caps m.old)
-            → Called (ActsFor m.old) (cpu_of self.old) t call.now (talks self.old) (talks self.new) (seen m.old) (seen m.new) result }
+            → Called (ActsFor m.old) (cpu_of self.old) t call.now (call_states self.old) (call_states self.new) (seen m.old) (seen m.new) result }
         ensures runs { (buffer_of call.now).0 < length (caps m.old) → RunsOn t (threads self.old) (threads self.new) result }
-        ensures doing { (buffer_of call.now).0 < length (caps m.old)
-            → doing self.new ≡ still_calling t (threads self.new).current result }
+        ensures under_way { (buffer_of call.now).0 < length (caps m.old)
+            → under_way self.new ≡ still_calling t (threads self.new).current result }
         ensures moves { MovesGrow (ActsFor m.old) (cpu_of self.old) (moves m.old) (moves m.new) }
         ensures prompt { IsWhole → result ≡ None
             → IsRefused call.now (caps m.old) (seen m.new) × ((threads self.new).current ≡ None) }
@@ -209,17 +209,17 @@ pub trait IpcLayer {
             (ipc_plan (length (caps m.old)) (homes_in (opening m.old)) (cpu_of self.old) t call.now (own self.old))
             (acts m.old) (acts m.new) (record { own = own self.new; answer = result }) };
 
-    /// Passes a call on to the scheduler. The talks stay.
+    /// Passes a call on to the scheduler. The call states stay.
     fn pass(&mut self, m: &mut Self::Machine, call: Pass) -> Option<()>
         requires fits { Fits self.old m.old }
         requires room { 0 < room m.old }
         requires may { MayPass call (threads self.old) }
-        requires goes_on { MayGoOn (doing self.old) (Passing call) }
+        requires goes_on { MayGoOn (under_way self.old) (Passing call) }
         ensures seen { OthersSeen (ActsFor m.old) (seen m.old) (seen m.new) }
         ensures passed { PassPolled (homes_of m.old) (ActsFor m.old) (cpu_of self.old) call result (moves m.old) (moves m.new)
             (threads self.old) (threads self.new) }
-        ensures doing { doing self.new ≡ still_passing call result }
-        ensures talks { talks self.new ≡ talks self.old }
+        ensures under_way { under_way self.new ≡ still_passing call result }
+        ensures call_states { call_states self.new ≡ call_states self.old }
         ensures still { IsLocalPass call → m.new ≡ m.old }
         ensures prompt { IsWhole → IsSome result }
         ensures fits { Fits self.new m.new }
@@ -246,19 +246,19 @@ pub trait IpcLayer {
     ghost stands: { (p : Self) (m : Self.Machine) → Fits p m → Stands (homes_of m) (cpu_of p) (moves m) (threads p) };
 
     /// Law: each move that was seen may follow those before it.
-    ghost moved: { (m : Self.Machine) (c : CpuId) → ActsFor m c → AreMoves (homes_of m) (moves m) };
+    ghost moves_legal: { (m : Self.Machine) (c : CpuId) → ActsFor m c → AreMoves (homes_of m) (moves m) };
 
     /// Law: the waiting lists of the buffers and the threads' places agree.
-    ghost lists: { (p : Self) (m : Self.Machine) → Fits p m → LinesAgree (length (caps m)) (homes_of m) (moves m) (lines m) };
+    ghost lists: { (p : Self) (m : Self.Machine) → Fits p m → WaitListsAgree (length (caps m)) (homes_of m) (moves m) (wait_lists m) };
 
     /// Law: where the CPU has nothing begun, no section is under way.
-    ghost rests: { (p : Self) (m : Self.Machine) → Fits p m → doing p ≡ None → is_inside p ≡ false };
+    ghost idle: { (p : Self) (m : Self.Machine) → Fits p m → under_way p ≡ None → is_inside p ≡ false };
 
-    /// Law: where a poll is one action, the own state holds the threads and the talks.
-    ghost tells: { IsStepwise → (p : Self) → ((own p).cv.lock.sleep.threads ≡ threads p) × ((own p).talks ≡ talks p) };
+    /// Law: where a poll is one action, the own state holds the threads and the call states.
+    ghost reads_own: { IsStepwise → (p : Self) → ((own p).cv.lock.sleep.threads ≡ threads p) × ((own p).call_states ≡ call_states p) };
 
     /// Law: where a poll is one action, the opening blocks hold the homes.
-    ghost tells_homes: { IsStepwise → (m : Self.Machine) → homes_in (opening m) ≡ homes_of m };
+    ghost reads_homes: { IsStepwise → (m : Self.Machine) → homes_in (opening m) ≡ homes_of m };
 
     /// Law: the actions are legal.
     ghost legal: { (m : Self.Machine) (c : CpuId) → ActsFor m c → AreLegal (acts m) };
@@ -271,7 +271,7 @@ pub trait IpcLayer {
     /// Law: where a poll is one action, what the layer tells of threads, their moves and the waiting
     /// lists, is what the sections of the actions make of it, and so are the pending queues.
     ghost moves_are: { IsStepwise → (m : Self.Machine) (c : CpuId) → ActsFor m c
-        → MovesAre (opening m) (acts m) (moves m) (lines m) };
+        → MovesAre (opening m) (acts m) (moves m) (wait_lists m) };
 
     /// Law: where a poll is one action, a part has a section under way exactly while its CPU waits
     /// at a lock or holds one.

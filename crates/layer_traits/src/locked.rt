@@ -2,7 +2,7 @@
 
 ghost use Rattle.std.specs.Prelude.{◌≡◌};
 
-use crate::trays::Tray;
+use crate::payloads::Payload;
 use event_log::Tid;
 
 /// On which side of a buffer a thread waits.
@@ -16,7 +16,7 @@ pub enum Side {
 
 /// Whom an edit inside the lock wakes.
 #[derive(Clone, Copy, Debug, PartialEq, Eq)]
-pub enum Signal {
+pub enum WakeWaiter {
     /// Nobody.
     Nobody,
     /// This thread, if it waits among the receivers.
@@ -82,14 +82,14 @@ pub trait Locked: Drop {
     ghost brought: { Self.Out → Msg → Type 0 } = { λ _ _. Unit {0} };
 
     /// Edits `block` and gives the edit's answer. Takes no memory.
-    fn apply(&self, block: &mut Self::Block, tray: &mut Tray) -> Self::Out
-        requires carried { carried self.now tray.old.message }
+    fn apply(&self, block: &mut Self::Block, payload: &mut Payload) -> Self::Out
+        requires carried { carried self.now payload.old.message }
         ensures block { block.new ≡ rules.edited self.now block.old }
         ensures answer { result ≡ rules.answer self.now block.old }
-        ensures brought { brought result tray.new.message };
+        ensures brought { brought result payload.new.message };
 
     /// Whom the edit that answered this signals.
-    fn signals(out: &Self::Out) -> Signal
+    fn signals(out: &Self::Out) -> WakeWaiter
         ensures { result ≡ rules.signals out.now };
 
     /// The thread that calls with this last edit.

@@ -3,7 +3,7 @@
 ghost use Rattle.std.specs.Prelude.{◌≡◌, ◌≢◌, ℕ, ◌+◌, ◌<◌, ◌≤◌, true, false, List, [], Option, IsSome, IfSome, OnSome, is_some, if◌then◌else◌};
 
 use crate::edits::Edit;
-use crate::trays::Tray;
+use crate::payloads::Payload;
 use event_log::{CpuId, LockId};
 
 /// One CPU's part of a layer of critical sections. A poll does at most one atomic action of the
@@ -16,7 +16,7 @@ pub trait LockLayer<E: Edit> {
     ghost use Rattle.event_log.specs.declared.ids.LockId.{LockId};
     ghost use Rattle.event_log.specs.History.{IsLawful, Grows};
     ghost use Rattle.event_log.specs.Actions.{Action, AreLegal, phase};
-    ghost use Rattle.event_log.specs.Sections.{Section, section_actor, sections_in};
+    ghost use Rattle.event_log.specs.Sections.{Section, cpu_of_section, sections_in};
     ghost use Rattle.layer_traits.specs.Looks.{Tries};
     ghost use Rattle.layer_traits.specs.Protocol.{IsKnown, section};
     ghost use Rattle.layer_traits.specs.Polls.{MayPoll, Polled};
@@ -82,7 +82,7 @@ pub trait LockLayer<E: Edit> {
         ensures fits { Fits self.new m.new }
         ensures cpu { cpu_of self.new ≡ cpu_of self.old }
         ensures call { under_way self.new ≡ under_way self.old }
-        ensures seen { Grows (ActsFor m.old) section_actor (seen m.old) (seen m.new) }
+        ensures seen { Grows (ActsFor m.old) cpu_of_section (seen m.old) (seen m.new) }
         ensures opening { opening m.new ≡ opening m.old }
         ensures site { site m.new ≡ site m.old }
         ensures room { room m.old ≤ room m.new + 1 }
@@ -98,20 +98,20 @@ pub trait LockLayer<E: Edit> {
         m: &mut Self::Machine,
         lock: LockId,
         edit: E,
-        tray: &mut Tray,
+        payload: &mut Payload,
     ) -> Option<E::Out>
         requires fits { Fits self.old m.old }
         requires lock { IsSome (opening m.old lock) }
         requires room { 0 < room m.old }
         requires call { MayPoll (E.rules.allowed (opening m.old)) (seen m.old) (under_way self.old)
             (section (cpu_of self.old) lock edit) }
-        requires carried { E.carried edit tray.old }
+        requires carried { E.carried edit payload.old }
         ensures fits { Fits self.new m.new }
         ensures cpu { cpu_of self.new ≡ cpu_of self.old }
         ensures call { under_way self.new
             ≡ (if is_some result then None else Some (section (cpu_of self.old) lock edit)) }
         ensures prompt { IsWhole IsStepwise → IsSome result }
-        ensures brought { IfSome result (λ out. E.brought out tray.new) }
+        ensures brought { IfSome result (λ out. E.brought out payload.new) }
         ensures seen { Polled E.rules (opening m.old) (ActsFor m.old)
             (section (cpu_of self.old) lock edit) result (seen m.old) (seen m.new) }
         ensures opening { opening m.new ≡ opening m.old }

@@ -7,7 +7,7 @@ use event_log::Tid;
 
 /// The lines in which a thread may sleep at what a lock guards.
 #[derive(Clone, Copy, Debug, PartialEq, Eq)]
-pub enum Line {
+pub enum WaitList {
     /// Those who wait for the block itself.
     Sleepers,
     /// Those who wait in a buffer for a message.
@@ -25,7 +25,7 @@ pub trait Moves: Edit {
     ghost moves: { MoveRules Self Self.Out };
 
     /// The line in which the caller went to sleep; None where it stays awake.
-    fn slept(out: &Self::Out) -> Option<Line>
+    fn slept(out: &Self::Out) -> Option<WaitList>
         ensures { result ≡ moves.slept out.now };
 
     /// The thread that was woken; None where nobody was.

@@ -26,7 +26,7 @@ pub trait Owned: IpcLayer {
     ghost use Rattle.layer_traits.specs.Openings.{AreOpenable, Opened};
     ghost use Rattle.layer_traits.specs.Places.{home_of, where_is};
     ghost use Rattle.layer_traits.specs.Plans.{is_in_section};
-    ghost use Rattle.layer_traits.specs.Told.{IsOwnPlace, IsTold, Tells, queue_place};
+    ghost use Rattle.layer_traits.specs.Observed.{IsOwnPlace, IsObservedAs, ReadsPlace, queue_place};
 
     /// The owner of the lock of a buffer, as its last section left it.
     ghost owner: { Self.Machine → BufId → Option Tid };
@@ -105,7 +105,7 @@ pub trait Owned: IpcLayer {
     fn place_at(&self, m: &Self::Machine, t: Tid) -> Option<Place>
         requires fits { Self.Fits self.now m.now }
         requires thread { t.0 < length (Self.homes_of m.now) }
-        ensures told { (x : Place) → result ≡ Some x
+        ensures observed { (x : Place) → result ≡ Some x
             → IsOwnPlace (Self.cpu_of self.now) (Self.threads self.now) t x
             ⊎ (queue_place (where_is (Self.homes_of m.now) (Self.moves m.now) t) ≡ Some x) }
         ensures silent { result ≡ None → IsSilent self.now m.now t };
@@ -116,20 +116,20 @@ pub trait Owned: IpcLayer {
     /// Law: the items that the machine or a part tells of a buffer are those that the effects leave
     /// in it.
     ghost items: { (m : Self.Machine) (c : CpuId) (b : BufId) → Self.ActsFor m c → b.0 < length (Self.caps m)
-        → IsTold (λ (p : Self). Self.Fits p m) (λ p. Self.cpu_of p) (λ d. Self.IsStepwise × (is_in_section (phase d (Self.acts m)) ≡ true))
+        → IsObservedAs (λ (p : Self). Self.Fits p m) (λ p. Self.cpu_of p) (λ d. Self.IsStepwise × (is_in_section (phase d (Self.acts m)) ≡ true))
         (λ p. items_here p b) (items_in m b)
         (items_of (contents_of (Self.caps m) (Self.seen m)) b.0) };
 
     /// Law: what the machine or a part tells of whether a buffer is closed is what the effects say.
     ghost closed: { (m : Self.Machine) (c : CpuId) (b : BufId) → Self.ActsFor m c → b.0 < length (Self.caps m)
-        → IsTold (λ (p : Self). Self.Fits p m) (λ p. Self.cpu_of p) (λ d. Self.IsStepwise × (is_in_section (phase d (Self.acts m)) ≡ true))
+        → IsObservedAs (λ (p : Self). Self.Fits p m) (λ p. Self.cpu_of p) (λ d. Self.IsStepwise × (is_in_section (phase d (Self.acts m)) ≡ true))
         (λ p. closed_here p b) (closed_in m b)
         (is_closed (Self.seen m) b.0) };
 
     /// Law: the owner that the machine or a part tells of a buffer's lock is the one that its last
     /// section left.
     ghost owners: { (m : Self.Machine) (c : CpuId) (b : BufId) → Self.ActsFor m c → b.0 < length (Self.caps m)
-        → IsTold (λ (p : Self). Self.Fits p m) (λ p. Self.cpu_of p) (λ d. Self.IsStepwise × (is_in_section (phase d (Self.acts m)) ≡ true))
+        → IsObservedAs (λ (p : Self). Self.Fits p m) (λ p. Self.cpu_of p) (λ d. Self.IsStepwise × (is_in_section (phase d (Self.acts m)) ≡ true))
         (λ p. owner_here p b) (owner_in m b)
         (owner m b) };
 
@@ -147,6 +147,6 @@ pub trait Owned: IpcLayer {
     /// Law: of each thread some CPU can tell where it stands: its home, the CPU that has it in its
     /// hand, or one that is in a section.
     ghost place: { (p : Self) (m : Self.Machine) (t : Tid) → Self.Fits p m → t.0 < length (Self.homes_of m)
-        → Tells (λ (q : Self). Self.Fits q m) (λ q. Self.cpu_of q) (λ d. Self.IsStepwise × (is_in_section (phase d (Self.acts m)) ≡ true)) (λ q. IsSilent q m t)
+        → ReadsPlace (λ (q : Self). Self.Fits q m) (λ q. Self.cpu_of q) (λ d. Self.IsStepwise × (is_in_section (phase d (Self.acts m)) ≡ true)) (λ q. IsSilent q m t)
         (home_of (Self.homes_of m) t) (where_is (Self.homes_of m) (Self.moves m) t) };
 }

@@ -3,7 +3,7 @@
 ghost use Rattle.std.specs.Prelude.{◌≡◌, ◌<◌, Bool, true, List, Option, Some, IsSome, length, option_and_then, option_map, slice_index};
 
 use crate::buffer_layers::BufferLayer;
-use crate::moves::Line;
+use crate::moves::WaitList;
 use arrayvec::ArrayVec;
 use event_log::{BufId, CAPACITY, CpuId, Msg, Tid};
 
@@ -20,13 +20,13 @@ pub trait OwnedBuffers: BufferLayer {
     ghost use Rattle.event_log.specs.Buffers.{items_of};
     ghost use Rattle.event_log.specs.Messages.{Message};
     ghost use Rattle.event_log.specs.Runs.{is_closed};
-    ghost use Rattle.layer_traits.specs.declared.moves.Line.{Line};
+    ghost use Rattle.layer_traits.specs.declared.moves.WaitList.{WaitList};
     ghost use Rattle.layer_traits.specs.Acted.{ItemsAre, owner_after};
     ghost use Rattle.layer_traits.specs.BufferEffects.{contents_of};
-    ghost use Rattle.layer_traits.specs.Owned.{line_among};
+    ghost use Rattle.layer_traits.specs.Owned.{wait_list_among};
     ghost use Rattle.layer_traits.specs.Places.{pending_by};
     ghost use Rattle.layer_traits.specs.Plans.{is_in_section};
-    ghost use Rattle.layer_traits.specs.Told.{IsTold};
+    ghost use Rattle.layer_traits.specs.Observed.{IsObservedAs};
     ghost use Rattle.thread_blocks.specs.Queues.{is_in};
 
     /// The owner of the lock of a buffer, as its last section left it.
@@ -51,10 +51,10 @@ pub trait OwnedBuffers: BufferLayer {
     ghost owner_with: { Self → BufId → Option (Option Tid) };
 
     /// The waiting lists of a buffer, where its block is at home in the machine.
-    ghost lines_at: { Self.Machine → BufId → Option (Line → List Tid) };
+    ghost wait_lists_at: { Self.Machine → BufId → Option (WaitList → List Tid) };
 
     /// The waiting lists of a buffer, where its block is in the hands of the part's CPU.
-    ghost lines_with: { Self → BufId → Option (Line → List Tid) };
+    ghost wait_lists_with: { Self → BufId → Option (WaitList → List Tid) };
 
     /// The pending queue of a CPU where it is at home in the machine, front first.
     ghost queue_at: { Self.Machine → CpuId → Option (List Tid) };
@@ -102,14 +102,14 @@ pub trait OwnedBuffers: BufferLayer {
 
     /// The waiting list of the buffer `b` in which `t` stands; `None` where it stands in none or the
     /// block is in the hands of a CPU.
-    fn line_in(m: &Self::Machine, b: BufId, t: Tid) -> Option<Line>
+    fn wait_list_in(m: &Self::Machine, b: BufId, t: Tid) -> Option<WaitList>
         requires acts { (c : CpuId) × Self.ActsFor m.now c }
         requires buffer { b.0 < length (Self.caps m.now) }
-        ensures { result ≡ option_and_then (line_among t) (lines_at m.now b) };
+        ensures { result ≡ option_and_then (wait_list_among t) (wait_lists_at m.now b) };
 
     /// The same of a block in this CPU's hands; `None` where it is not there.
-    fn line_here(&self, b: BufId, t: Tid) -> Option<Line>
-        ensures { result ≡ option_and_then (line_among t) (lines_with self.now b) };
+    fn wait_list_here(&self, b: BufId, t: Tid) -> Option<WaitList>
+        ensures { result ≡ option_and_then (wait_list_among t) (wait_lists_with self.now b) };
 
     /// Whether `t` stands in the pending queue of `d`, which there is; `None` where that queue is in
     /// the hands of a CPU.
@@ -128,20 +128,20 @@ pub trait OwnedBuffers: BufferLayer {
     /// Law: the items that the machine or a part tells of a buffer are those that the effects leave
     /// in it.
     ghost items: { (m : Self.Machine) (c : CpuId) (b : BufId) → Self.ActsFor m c → b.0 < length (Self.caps m)
-        → IsTold (λ (p : Self). Self.Fits p m) (λ p. Self.cpu_of p) (λ d. Self.IsStepwise × (is_in_section (phase d (Self.acts m)) ≡ true))
+        → IsObservedAs (λ (p : Self). Self.Fits p m) (λ p. Self.cpu_of p) (λ d. Self.IsStepwise × (is_in_section (phase d (Self.acts m)) ≡ true))
         (λ p. items_with p b) (items_at m b)
         (items_of (contents_of (Self.caps m) (Self.seen m)) b.0) };
 
     /// Law: what the machine or a part tells of whether a buffer is closed is what the effects say.
     ghost closed: { (m : Self.Machine) (c : CpuId) (b : BufId) → Self.ActsFor m c → b.0 < length (Self.caps m)
-        → IsTold (λ (p : Self). Self.Fits p m) (λ p. Self.cpu_of p) (λ d. Self.IsStepwise × (is_in_section (phase d (Self.acts m)) ≡ true))
+        → IsObservedAs (λ (p : Self). Self.Fits p m) (λ p. Self.cpu_of p) (λ d. Self.IsStepwise × (is_in_section (phase d (Self.acts m)) ≡ true))
         (λ p. closed_with p b) (closed_at m b)
         (is_closed (Self.seen m) b.0) };
 
     /// Law: the owner that the machine or a part tells of a buffer's lock is the one that its last
     /// section left.
     ghost owners: { (m : Self.Machine) (c : CpuId) (b : BufId) → Self.ActsFor m c → b.0 < length (Self.caps m)
-        → IsTold (λ (p : Self). Self.Fits p m) (λ p. Self.cpu_of p) (λ d. Self.IsStepwise × (is_in_section (phase d (Self.acts m)) ≡ true))
+        → IsObservedAs (λ (p : Self). Self.Fits p m) (λ p. Self.cpu_of p) (λ d. Self.IsStepwise × (is_in_section (phase d (Self.acts m)) ≡ true))
         (λ p. owner_with p b) (owner_at m b)
         (owner m b) };
 
@@ -158,15 +158,15 @@ pub trait OwnedBuffers: BufferLayer {
 
     /// Law: the waiting lists that the machine or a part tells of a buffer are those that its last
     /// section left.
-    ghost beds: { (m : Self.Machine) (c : CpuId) (b : BufId) → Self.ActsFor m c → b.0 < length (Self.caps m)
-        → IsTold (λ (p : Self). Self.Fits p m) (λ p. Self.cpu_of p) (λ d. Self.IsStepwise × (is_in_section (phase d (Self.acts m)) ≡ true))
-        (λ p. lines_with p b) (lines_at m b)
-        (Self.lines m b) };
+    ghost waiters_law: { (m : Self.Machine) (c : CpuId) (b : BufId) → Self.ActsFor m c → b.0 < length (Self.caps m)
+        → IsObservedAs (λ (p : Self). Self.Fits p m) (λ p. Self.cpu_of p) (λ d. Self.IsStepwise × (is_in_section (phase d (Self.acts m)) ≡ true))
+        (λ p. wait_lists_with p b) (wait_lists_at m b)
+        (Self.wait_lists m b) };
 
     /// Law: the threads that the machine or a part tells of a pending queue are those that the moves
     /// leave in it.
     ghost queues: { (m : Self.Machine) (c d : CpuId) → Self.ActsFor m c → IsSome (Self.opening m (Pending d))
-        → IsTold (λ (p : Self). Self.Fits p m) (λ p. Self.cpu_of p) (λ d. Self.IsStepwise × (is_in_section (phase d (Self.acts m)) ≡ true))
+        → IsObservedAs (λ (p : Self). Self.Fits p m) (λ p. Self.cpu_of p) (λ d. Self.IsStepwise × (is_in_section (phase d (Self.acts m)) ≡ true))
         (λ p. queue_with p d) (queue_at m d)
         (pending_by (Self.moves m) d) };
 }

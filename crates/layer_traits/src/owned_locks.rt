@@ -16,7 +16,7 @@ pub trait OwnedLocks<E: Edit>: LockLayer<E> {
     ghost use Rattle.event_log.specs.Actions.{phase};
     ghost use Rattle.event_log.specs.Sections.{block_after};
     ghost use Rattle.layer_traits.specs.OneLock.{AreDistinct, opened};
-    ghost use Rattle.layer_traits.specs.Owned.{IsShown};
+    ghost use Rattle.layer_traits.specs.Owned.{IsObserved};
     ghost use Rattle.layer_traits.specs.Plans.{is_in_section};
 
     /// The block of a lock where it is at home in the machine.
@@ -54,7 +54,7 @@ pub trait OwnedLocks<E: Edit>: LockLayer<E> {
 
     /// Law: what the machine or a part tells of a block is what the sections make of it.
     ghost shown: { (m : Self.Machine) (c : CpuId) (lock : LockId) → Self.ActsFor m c → IsSome (Self.opening m lock)
-        → IsShown (λ (p : Self). Self.Fits p m) (λ p. Self.cpu_of p) (λ d. Self.IsStepwise × (is_in_section (phase d (Self.acts m)) ≡ true))
+        → IsObserved (λ (p : Self). Self.Fits p m) (λ p. Self.cpu_of p) (λ d. Self.IsStepwise × (is_in_section (phase d (Self.acts m)) ≡ true))
         (λ p. block_with p lock) (block_at m lock)
         (block_after E.rules.edited (Self.opening m) lock (Self.seen m)) };
 }

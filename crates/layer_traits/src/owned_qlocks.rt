@@ -3,7 +3,7 @@
 ghost use Rattle.std.specs.Prelude.{◌≡◌, true, List, Option, Some, IsSome, option_and_then, option_map};
 
 use crate::locked::Locked;
-use crate::moves::Line;
+use crate::moves::WaitList;
 use crate::qlock_layers::QLockLayer;
 use event_log::{BufId, CpuId, Tid};
 
@@ -17,7 +17,7 @@ pub trait OwnedQLocks<F: Locked>: QLockLayer<F> {
     ghost use Rattle.event_log.specs.declared.ids.Tid.{Tid};
     ghost use Rattle.event_log.specs.Actions.{phase};
     ghost use Rattle.event_log.specs.Sections.{block_after};
-    ghost use Rattle.layer_traits.specs.Owned.{IsShown, line_under};
+    ghost use Rattle.layer_traits.specs.Owned.{IsObserved, wait_list_under};
     ghost use Rattle.layer_traits.specs.Places.{pending_by};
     ghost use Rattle.layer_traits.specs.Plans.{is_in_section};
     ghost use Rattle.layer_traits.specs.QueueBlocks.{inner};
@@ -62,14 +62,14 @@ pub trait OwnedQLocks<F: Locked>: QLockLayer<F> {
 
     /// The waiting list of `b`, which there is, in which `t` stands; `None` where it stands in none
     /// or the block is in the hands of a CPU.
-    fn line_in(m: &Self::Machine, b: BufId, t: Tid) -> Option<Line>
+    fn wait_list_in(m: &Self::Machine, b: BufId, t: Tid) -> Option<WaitList>
         requires acts { (c : CpuId) × Self.ActsFor m.now c }
         requires buffer { IsSome (Self.opening m.now (Buffer b)) }
-        ensures { result ≡ option_and_then (line_under t) (lock_at m.now b) };
+        ensures { result ≡ option_and_then (wait_list_under t) (lock_at m.now b) };
 
     /// The same of a block in this CPU's hands; `None` where it is not there.
-    fn line_here(&self, b: BufId, t: Tid) -> Option<Line>
-        ensures { result ≡ option_and_then (line_under t) (lock_with self.now b) };
+    fn wait_list_here(&self, b: BufId, t: Tid) -> Option<WaitList>
+        ensures { result ≡ option_and_then (wait_list_under t) (lock_with self.now b) };
 
     /// Whether `t` stands in the pending queue of `d`, which there is; `None` where that queue is
     /// in
@@ -85,13 +85,13 @@ pub trait OwnedQLocks<F: Locked>: QLockLayer<F> {
 
     /// Law: what the machine or a part tells of a buffer is what the events make of it.
     ghost shown: { (m : Self.Machine) (c : CpuId) (b : BufId) → Self.ActsFor m c → IsSome (Self.opening m (Buffer b))
-        → IsShown (λ (p : Self). Self.Fits p m) (λ p. Self.cpu_of p) (λ d. Self.IsStepwise × (is_in_section (phase d (Self.acts m)) ≡ true))
+        → IsObserved (λ (p : Self). Self.Fits p m) (λ p. Self.cpu_of p) (λ d. Self.IsStepwise × (is_in_section (phase d (Self.acts m)) ≡ true))
         (λ p. lock_with p b) (lock_at m b)
         (lock_after F.rules (inner (Self.opening m)) (Buffer b) (buffer_sections (Self.seen m))) };
 
     /// Law: what the machine or a part tells of a pending queue is what the moves make of it.
     ghost queues: { (m : Self.Machine) (c d : CpuId) → Self.ActsFor m c → IsSome (Self.opening m (Pending d))
-        → IsShown (λ (p : Self). Self.Fits p m) (λ p. Self.cpu_of p) (λ d. Self.IsStepwise × (is_in_section (phase d (Self.acts m)) ≡ true))
+        → IsObserved (λ (p : Self). Self.Fits p m) (λ p. Self.cpu_of p) (λ d. Self.IsStepwise × (is_in_section (phase d (Self.acts m)) ≡ true))
         (λ p. queue_with p d) (queue_at m d)
         (Some (pending_by (moves_in (lock_kernel F.rules (Self.opening m)) (Self.seen m)) d)) };
 }

@@ -5,9 +5,9 @@ ghost use Rattle.std.specs.Prelude.{map, Option, Some, None, IsSome, IfSome, OnS
 
 use crate::locked::{Locked, QEdit, QOut};
 use crate::passes::Pass;
+use crate::payloads::Payload;
 use crate::scheds::SchedCall;
 use crate::sleeps::Outcome;
-use crate::trays::Tray;
 use event_log::{BufId, CpuId, Tid};
 
 /// One CPU's part of a layer of queuing locks (Gu et al., OSDI 2016): each buffer's lock has an
@@ -41,10 +41,10 @@ pub trait QLockLayer<F: Locked> {
     ghost use Rattle.layer_traits.specs.Plans.{Follows, IsWhole, is_in_section, table_of};
     ghost use Rattle.layer_traits.specs.QueueBlocks.{StartsWell, homes_in, inner};
     ghost use Rattle.layer_traits.specs.QueueRules.{AreProper, queue_rules};
-    ghost use Rattle.layer_traits.specs.Queues.{IsKnownEvent, QueueAllowed, buffer_sections, event_actor, event_of, moves_in};
+    ghost use Rattle.layer_traits.specs.Queues.{IsKnownEvent, QueueAllowed, buffer_sections, cpu_of_queue_event, event_of, moves_in};
     ghost use Rattle.layer_traits.specs.Scheds.{SchedPolled};
     ghost use Rattle.layer_traits.specs.SleepLaw.{MayCall, done_if};
-    ghost use Rattle.layer_traits.specs.Trays.{lock_brought, lock_carried};
+    ghost use Rattle.layer_traits.specs.Payloads.{lock_brought, lock_carried};
     ghost use Rattle.thread_blocks.specs.Queues.{is_in};
 
     /// What lies beneath.
@@ -147,7 +147,7 @@ pub trait QLockLayer<F: Locked> {
         ensures own { own self.new ≡ own self.old }
         ensures call { under_way self.new ≡ under_way self.old }
         ensures inside { is_inside self.new ≡ is_inside self.old }
-        ensures seen { Grows (ActsFor m.old) event_actor (seen m.old) (seen m.new) }
+        ensures seen { Grows (ActsFor m.old) cpu_of_queue_event (seen m.old) (seen m.new) }
         ensures opening { opening m.new ≡ opening m.old }
         ensures site { site m.new ≡ site m.old }
         ensures room { room m.old ≤ room m.new + 1 }
@@ -164,7 +164,7 @@ pub trait QLockLayer<F: Locked> {
         m: &mut Self::Machine,
         buffer: BufId,
         edit: QEdit<F, F::Release>,
-        tray: &mut Tray,
+        payload: &mut Payload,
     ) -> Option<Outcome<QOut<F::Out>>>
         requires fits { Fits self.old m.old }
         requires buffer { IsSome (opening m.old (Buffer buffer)) }
@@ -173,7 +173,7 @@ pub trait QLockLayer<F: Locked> {
         requires call { MayGo (slept_for (own self.old).slept (lock_caller F.rules edit)) (under_way self.old) buffer edit
             (lock_caller F.rules edit)
             (MayLock F.rules (lock_kernel F.rules (opening m.old)) (cpu_of self.old) (seen m.old) (own self.old).sleep.threads.hand buffer edit) }
-        requires carried { lock_carried F.carried edit tray.old.message }
+        requires carried { lock_carried F.carried edit payload.old.message }
         ensures fits { Fits self.new m.new }
         ensures cpu { cpu_of self.new ≡ cpu_of self.old }
         ensures seen { LockPolled F.rules (lock_kernel F.rules (opening m.old)) (ActsFor m.old) (cpu_of self.old) buffer edit
@@ -185,7 +185,7 @@ pub trait QLockLayer<F: Locked> {
         ensures room { room m.old ≤ room m.new + 1 }
         ensures acts { (c : CpuId) → ActsFor m.old c → ActsFor m.new c }
         ensures others { (p : Self) → cpu_of p ≢ cpu_of self.old → Fits p m.old → Fits p m.new }
-        ensures brought { IfSome result (λ outcome. lock_brought F.brought outcome.out tray.new.message) }
+        ensures brought { IfSome result (λ outcome. lock_brought F.brought outcome.out payload.new.message) }
         ensures prompt { IsWhole IsStepwise → result ≡ None → MustWait (lock_caller F.rules edit) buffer (own self.old) (own self.new) }
         ensures follows { IsStepwise → Follows (ActsFor m.old) (table_of (queue_rules (lock_rules F.rules) (lock_moves F.rules))) (opening m.old)
             (cpu_of self.old)
@@ -194,7 +194,7 @@ pub trait QLockLayer<F: Locked> {
 
     /// Does at most one action of a call on the scheduler, which goes through unchanged. Answers
     /// once the call has ended, and gives `None` while the same call is to be polled again.
-    fn pass(&mut self, m: &mut Self::Machine, call: Pass, tray: &mut Tray) -> Option<()>
+    fn pass(&mut self, m: &mut Self::Machine, call: Pass, payload: &mut Payload) -> Option<()>
         requires fits { Fits self.old m.old }
         requires room { 0 < room m.old }
         requires call { MayCall (under_way self.old) (sched.Pass call) (MayPass call (own self.old).sleep.threads) }
@@ -203,7 +203,7 @@ pub trait QLockLayer<F: Locked> {
         ensures call { under_way self.new ≡ (if is_some result then None else Some (sched.Pass call)) }
         ensures seen { SchedPolled (lock_kernel F.rules (opening m.old)) (ActsFor m.old) (cpu_of self.old) (sched.Pass call) (done_if result)
             (seen m.old) (seen m.new) (own self.old).sleep.threads (own self.new).sleep.threads }
-        ensures kept { (own self.new).sleep.kept ≡ (own self.old).sleep.kept }
+        ensures deferred { (own self.new).sleep.deferred ≡ (own self.old).sleep.deferred }
         ensures slept { (own self.new).slept ≡ (own self.old).slept }
         ensures still { IsLocalPass call → m.new ≡ m.old }
         ensures opening { opening m.new ≡ opening m.old }
@@ -239,7 +239,7 @@ pub trait QLockLayer<F: Locked> {
     ghost lawful: { (m : Self.Machine) (c : CpuId) → ActsFor m c → IsLawful (QueueAllowed (lock_kernel F.rules (opening m))) (seen m) };
 
     /// Law: each thread moves from where it stands.
-    ghost moving: { (m : Self.Machine) (c : CpuId) → ActsFor m c → AreMoves (homes_in (opening m)) (moves_in (lock_kernel F.rules (opening m)) (seen m)) };
+    ghost moves_legal: { (m : Self.Machine) (c : CpuId) → ActsFor m c → AreMoves (homes_in (opening m)) (moves_in (lock_kernel F.rules (opening m)) (seen m)) };
 
     /// Law: each event that was seen is of a CPU that a machine may have.
     ghost known: { (m : Self.Machine) (c : CpuId) → ActsFor m c → IsLawful IsKnownEvent (seen m) };

@@ -1,10 +1,10 @@
 //! The edits of shared queues, and the blocks that they edit.
 
+use crate::block_box::{BlockBox, edit_in_box, push_in, take_from};
 use crate::edits::Edit;
 use crate::moves::Moves;
+use crate::payloads::{Ghost, Payload};
 use crate::queues::QueueAnswer;
-use crate::room::{Room, edit_room, push_in, take_from};
-use crate::trays::{Meant, Tray};
 use arrayvec::ArrayVec;
 use event_log::{CpuId, THREADS, Tid};
 use std::snapshot::Snapshot;
@@ -27,14 +27,14 @@ pub enum QueueEdit<E> {
 pub enum QueueBlock<B> {
     /// A queue of pending threads. The homes of all threads stand beside it for the proofs alone:
     /// they cost nothing at run time.
-    Queue(Room<ThreadQueue>, Snapshot<ArrayVec<CpuId, THREADS>>),
+    Queue(BlockBox<ThreadQueue>, Snapshot<ArrayVec<CpuId, THREADS>>),
     /// A block of the layer above.
-    Above(Room<B>),
+    Above(BlockBox<B>),
 }
 
 impl<E: Moves> Edit for QueueEdit<E> {
     ghost use Rattle.layer_traits.specs.QueueRules.{queue_rules};
-    ghost use Rattle.layer_traits.specs.Trays.{queue_brought, queue_carried};
+    ghost use Rattle.layer_traits.specs.Payloads.{queue_brought, queue_carried};
 
     type Block = QueueBlock<E::Block>;
 
@@ -47,7 +47,11 @@ impl<E: Moves> Edit for QueueEdit<E> {
     ghost brought = { queue_brought E.brought };
 
     #[inline(always)]
-    fn apply(&self, block: &mut QueueBlock<E::Block>, tray: &mut Tray) -> QueueAnswer<E::Out> {
+    fn apply(
+        &self,
+        block: &mut QueueBlock<E::Block>,
+        payload: &mut Payload,
+    ) -> QueueAnswer<E::Out> {
         match self {
             QueueEdit::Push(t) => {
                 if let QueueBlock::Queue(queue, _) = block {
@@ -59,14 +63,14 @@ impl<E: Moves> Edit for QueueEdit<E> {
             }
             QueueEdit::TakeAll => match block {
                 QueueBlock::Queue(queue, _) => {
-                    tray.taken = take_from(queue);
-                    QueueAnswer::Taken(Meant::of(&tray.taken))
+                    payload.taken = take_from(queue);
+                    QueueAnswer::Taken(Ghost::of(&payload.taken))
                 }
                 QueueBlock::Above(_) => QueueAnswer::Done,
             },
             QueueEdit::Above(edit) => match block {
                 QueueBlock::Queue(_, _) => QueueAnswer::Done,
-                QueueBlock::Above(above) => QueueAnswer::Answer(edit_room(above, edit, tray)),
+                QueueBlock::Above(above) => QueueAnswer::Answer(edit_in_box(above, edit, payload)),
             },
         }
     }

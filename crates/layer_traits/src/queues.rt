@@ -3,7 +3,7 @@
 ghost use Rattle.std.specs.Prelude.{◌≡◌, ◌≢◌, ℕ, ◌+◌, ◌<◌, ◌≤◌, true, false, List, [], Option, IsSome, IfSome, OnSome, is_some, map, if◌then◌else◌};
 
 use crate::moves::Moves;
-use crate::trays::{Meant, Tray};
+use crate::payloads::{Ghost, Payload};
 use event_log::{BufId, CpuId, LockId, Tid};
 use thread_blocks::ThreadList;
 
@@ -32,8 +32,8 @@ pub struct QueueEvent<E> {
 pub enum QueueAnswer<O> {
     /// The thread was pushed.
     Done,
-    /// The threads that were taken, in their order: they lie in the tray.
-    Taken(Meant<ThreadList>),
+    /// The threads that were taken, in their order: they lie in the payload.
+    Taken(Ghost<ThreadList>),
     /// What the edit answers.
     Answer(O),
 }
@@ -57,8 +57,8 @@ pub trait QueueLayer<E: Moves> {
     ghost use Rattle.layer_traits.specs.Plans.{Follows, IsWhole, table_of, answered, is_in_section};
     ghost use Rattle.layer_traits.specs.QueueBlocks.{StartsWell};
     ghost use Rattle.layer_traits.specs.QueueRules.{AreProper, queue_rules};
-    ghost use Rattle.layer_traits.specs.Trays.{call_carried, queue_brought};
-    ghost use Rattle.layer_traits.specs.Queues.{IsKnownEvent, MayQueue, QueueAllowed, QueuePolled, event, event_actor, event_of, kernel, lock_of, queue_plan};
+    ghost use Rattle.layer_traits.specs.Payloads.{call_carried, queue_brought};
+    ghost use Rattle.layer_traits.specs.Queues.{IsKnownEvent, MayQueue, QueueAllowed, QueuePolled, event, cpu_of_queue_event, event_of, kernel, lock_of, queue_plan};
 
     /// What lies beneath.
     type Machine;
@@ -121,7 +121,7 @@ pub trait QueueLayer<E: Moves> {
         ensures fits { Fits self.new m.new }
         ensures cpu { cpu_of self.new ≡ cpu_of self.old }
         ensures call { under_way self.new ≡ under_way self.old }
-        ensures seen { Grows (ActsFor m.old) event_actor (seen m.old) (seen m.new) }
+        ensures seen { Grows (ActsFor m.old) cpu_of_queue_event (seen m.old) (seen m.new) }
         ensures opening { opening m.new ≡ opening m.old }
         ensures site { site m.new ≡ site m.old }
         ensures room { room m.old ≤ room m.new + 1 }
@@ -137,19 +137,19 @@ pub trait QueueLayer<E: Moves> {
         &mut self,
         m: &mut Self::Machine,
         call: QueueCall<E>,
-        tray: &mut Tray,
+        payload: &mut Payload,
     ) -> Option<QueueAnswer<E::Out>>
         requires fits { Fits self.old m.old }
         requires lock { IsSome (opening m.old (lock_of call)) }
         requires room { 0 < room m.old }
         requires call { MayQueue (QueueAllowed (kernel E.rules E.moves (opening m.old))) (seen m.old) (under_way self.old)
             (event (cpu_of self.old) call) }
-        requires carried { call_carried E.carried call tray.old }
+        requires carried { call_carried E.carried call payload.old }
         ensures fits { Fits self.new m.new }
         ensures cpu { cpu_of self.new ≡ cpu_of self.old }
         ensures call { under_way self.new ≡ (if is_some result then None else Some (event (cpu_of self.old) call)) }
         ensures prompt { IsWhole IsStepwise → IsSome result }
-        ensures brought { IfSome result (λ answer. queue_brought E.brought answer tray.new) }
+        ensures brought { IfSome result (λ answer. queue_brought E.brought answer payload.new) }
         ensures seen { QueuePolled (kernel E.rules E.moves (opening m.old)) (ActsFor m.old)
             (event (cpu_of self.old) call) result (seen m.old) (seen m.new) }
         ensures opening { opening m.new ≡ opening m.old }

@@ -5,7 +5,7 @@ ghost use Rattle.event_log.specs.declared.ids.TheConstants.{THREADS};
 
 use crate::moves::Moves;
 use crate::passes::Pass;
-use crate::trays::Tray;
+use crate::payloads::Payload;
 use event_log::{BufId, CpuId, LockId, Tid};
 
 /// A call of a CPU's scheduler.
@@ -51,8 +51,8 @@ pub trait SchedLayer<E: Moves> {
     ghost use Rattle.layer_traits.specs.Plans.{Follows, IsWhole, table_of, is_in_section};
     ghost use Rattle.layer_traits.specs.QueueBlocks.{StartsWell, homes_in};
     ghost use Rattle.layer_traits.specs.QueueRules.{AreProper, queue_rules};
-    ghost use Rattle.layer_traits.specs.Queues.{IsKnownEvent, QueueAllowed, event_actor, event_of, kernel, moves_in};
-    ghost use Rattle.layer_traits.specs.Trays.{sched_brought, sched_carried};
+    ghost use Rattle.layer_traits.specs.Queues.{IsKnownEvent, QueueAllowed, cpu_of_queue_event, event_of, kernel, moves_in};
+    ghost use Rattle.layer_traits.specs.Payloads.{sched_brought, sched_carried};
     ghost use Rattle.layer_traits.specs.Scheds.{BufferIsThere, IsLocal, IsShared, MaySched, SchedPolled, left, sched_plan};
 
     /// What lies beneath.
@@ -145,7 +145,7 @@ pub trait SchedLayer<E: Moves> {
         ensures cpu { cpu_of self.new ≡ cpu_of self.old }
         ensures threads { threads self.new ≡ threads self.old }
         ensures call { under_way self.new ≡ under_way self.old }
-        ensures seen { Grows (ActsFor m.old) event_actor (seen m.old) (seen m.new) }
+        ensures seen { Grows (ActsFor m.old) cpu_of_queue_event (seen m.old) (seen m.new) }
         ensures opening { opening m.new ≡ opening m.old }
         ensures site { site m.new ≡ site m.old }
         ensures room { room m.old ≤ room m.new + 1 }
@@ -160,19 +160,19 @@ pub trait SchedLayer<E: Moves> {
         &mut self,
         m: &mut Self::Machine,
         call: SchedCall<E>,
-        tray: &mut Tray,
+        payload: &mut Payload,
     ) -> Option<SchedAnswer<E::Out>>
         requires fits { Fits self.old m.old }
         requires buffer { BufferIsThere (opening m.old) call }
         requires room { 0 < room m.old }
         requires call { MaySched (kernel E.rules E.moves (opening m.old)) (cpu_of self.old) (seen m.old) (threads self.old)
             (under_way self.old) call }
-        requires carried { sched_carried E.carried call tray.old }
+        requires carried { sched_carried E.carried call payload.old }
         ensures fits { Fits self.new m.new }
         ensures cpu { cpu_of self.new ≡ cpu_of self.old }
         ensures call { under_way self.new ≡ (if is_some result then None else Some call) }
         ensures prompt { IsWhole IsStepwise → IsSome result }
-        ensures brought { IfSome result (λ answer. sched_brought E.brought answer tray.new) }
+        ensures brought { IfSome result (λ answer. sched_brought E.brought answer payload.new) }
         ensures seen { SchedPolled (kernel E.rules E.moves (opening m.old)) (ActsFor m.old) (cpu_of self.old) call result
             (seen m.old) (seen m.new) (threads self.old) (threads self.new) }
         ensures still { IsLocal call → m.new ≡ m.old }

@@ -4,9 +4,9 @@ ghost use Rattle.std.specs.Prelude.{◌≡◌, ◌≢◌, ℕ, ◌+◌, ◌<◌,
 ghost use Rattle.std.specs.Prelude.{map, Option, Some, None, IsSome, IfSome, OnSome, is_some, if◌then◌else◌};
 
 use crate::passes::Pass;
+use crate::payloads::Payload;
 use crate::scheds::SchedCall;
 use crate::sleeps::{Outcome, Sleeps};
-use crate::trays::Tray;
 use event_log::{BufId, CpuId, Tid};
 
 /// One CPU's part of a layer whose sections put threads to sleep and wake them (Gu et al., PLDI
@@ -39,7 +39,7 @@ pub trait SleepLayer<E: Sleeps> {
     ghost use Rattle.layer_traits.specs.Plans.{Follows, IsWhole, is_in_section, table_of};
     ghost use Rattle.layer_traits.specs.QueueBlocks.{StartsWell, homes_in, inner};
     ghost use Rattle.layer_traits.specs.QueueRules.{AreProper, queue_rules};
-    ghost use Rattle.layer_traits.specs.Queues.{IsKnownEvent, QueueAllowed, event_actor, event_of, moves_in};
+    ghost use Rattle.layer_traits.specs.Queues.{IsKnownEvent, QueueAllowed, cpu_of_queue_event, event_of, moves_in};
     ghost use Rattle.layer_traits.specs.Scheds.{SchedPolled};
     ghost use Rattle.layer_traits.specs.SleepLaw.{MayCall, MaySleep, MustSend, SleepPolled, Sleeping, done_if, pass_plan, sleep_kernel, sleep_plan};
     ghost use Rattle.layer_traits.specs.Sleeping.{NobodySleeps, SleepState, sleep_moves, sleep_rules};
@@ -96,7 +96,7 @@ pub trait SleepLayer<E: Sleeps> {
     fn part(cpu: CpuId, homes: &[CpuId], buffers: u8) -> Self
         requires { length homes.now ≤ THREADS }
         ensures cpu { cpu_of result ≡ cpu }
-        ensures own { own result ≡ record { threads = at_boot homes.now cpu; kept = None } }
+        ensures own { own result ≡ record { threads = at_boot homes.now cpu; deferred = None } }
         ensures call { under_way result ≡ None }
         ensures fits { (m : Self.Machine) → ActsFor m cpu → IsOutside m cpu → seen m ≡ [] → homes_in (opening m) ≡ homes.now
             → IsSome (opening m (Pending cpu)) → NobodySleeps (inner (opening m)) → Fits result m };
@@ -139,7 +139,7 @@ pub trait SleepLayer<E: Sleeps> {
         ensures own { own self.new ≡ own self.old }
         ensures call { under_way self.new ≡ under_way self.old }
         ensures inside { is_inside self.new ≡ is_inside self.old }
-        ensures seen { Grows (ActsFor m.old) event_actor (seen m.old) (seen m.new) }
+        ensures seen { Grows (ActsFor m.old) cpu_of_queue_event (seen m.old) (seen m.new) }
         ensures opening { opening m.new ≡ opening m.old }
         ensures site { site m.new ≡ site m.old }
         ensures room { room m.old ≤ room m.new + 1 }
@@ -155,14 +155,14 @@ pub trait SleepLayer<E: Sleeps> {
         m: &mut Self::Machine,
         buffer: BufId,
         edit: E,
-        tray: &mut Tray,
+        payload: &mut Payload,
     ) -> Option<Outcome<E::Out>>
         requires fits { Fits self.old m.old }
         requires buffer { IsSome (opening m.old (Buffer buffer)) }
         requires room { 0 < room m.old }
         requires call { MayCall (under_way self.old) (sched.OnBuffer buffer edit)
             (MaySleep (sleep_kernel E.rules (opening m.old)) (cpu_of self.old) (seen m.old) (own self.old).threads buffer edit) }
-        requires carried { E.carried edit tray.old.message }
+        requires carried { E.carried edit payload.old.message }
         ensures fits { Fits self.new m.new }
         ensures cpu { cpu_of self.new ≡ cpu_of self.old }
         ensures call { under_way self.new ≡ (if is_some result then None else Some (sched.OnBuffer buffer edit)) }
@@ -174,7 +174,7 @@ pub trait SleepLayer<E: Sleeps> {
         ensures acts { (c : CpuId) → ActsFor m.old c → ActsFor m.new c }
         ensures outside { OnSome result (IsOutside m.new (cpu_of self.old)) }
         ensures others { (p : Self) → cpu_of p ≢ cpu_of self.old → Fits p m.old → Fits p m.new }
-        ensures brought { IfSome result (λ outcome. E.brought outcome.out tray.new.message) }
+        ensures brought { IfSome result (λ outcome. E.brought outcome.out payload.new.message) }
         ensures prompt { IsWhole IsStepwise → result ≡ None → MustSend (own self.old) (own self.new) }
         ensures follows { IsStepwise → Follows (ActsFor m.old) (table_of (queue_rules (sleep_rules E.rules) (sleep_moves E.rules))) (opening m.old)
             (cpu_of self.old)
@@ -183,7 +183,7 @@ pub trait SleepLayer<E: Sleeps> {
 
     /// Does at most one action of a call on the scheduler, which goes through unchanged. Answers
     /// once the call has ended, and gives `None` while the same call is to be polled again.
-    fn pass(&mut self, m: &mut Self::Machine, call: Pass, tray: &mut Tray) -> Option<()>
+    fn pass(&mut self, m: &mut Self::Machine, call: Pass, payload: &mut Payload) -> Option<()>
         requires fits { Fits self.old m.old }
         requires room { 0 < room m.old }
         requires call { MayCall (under_way self.old) (sched.Pass call) (MayPass call (own self.old).threads) }
@@ -192,7 +192,7 @@ pub trait SleepLayer<E: Sleeps> {
         ensures call { under_way self.new ≡ (if is_some result then None else Some (sched.Pass call)) }
         ensures seen { SchedPolled (sleep_kernel E.rules (opening m.old)) (ActsFor m.old) (cpu_of self.old) (sched.Pass call) (done_if result)
             (seen m.old) (seen m.new) (own self.old).threads (own self.new).threads }
-        ensures kept { (own self.new).kept ≡ (own self.old).kept }
+        ensures deferred { (own self.new).deferred ≡ (own self.old).deferred }
         ensures still { IsLocalPass call → m.new ≡ m.old }
         ensures opening { opening m.new ≡ opening m.old }
         ensures site { site m.new ≡ site m.old }
@@ -223,7 +223,7 @@ pub trait SleepLayer<E: Sleeps> {
     ghost lawful: { (m : Self.Machine) (c : CpuId) → ActsFor m c → IsLawful (QueueAllowed (sleep_kernel E.rules (opening m))) (seen m) };
 
     /// Law: each thread moves from where it stands.
-    ghost moving: { (m : Self.Machine) (c : CpuId) → ActsFor m c → AreMoves (homes_in (opening m)) (moves_in (sleep_kernel E.rules (opening m)) (seen m)) };
+    ghost moves_legal: { (m : Self.Machine) (c : CpuId) → ActsFor m c → AreMoves (homes_in (opening m)) (moves_in (sleep_kernel E.rules (opening m)) (seen m)) };
 
     /// Law: each event that was seen is of a CPU that a machine may have.
     ghost known: { (m : Self.Machine) (c : CpuId) → ActsFor m c → IsLawful IsKnownEvent (seen m) };

@@ -2,17 +2,17 @@
 
 ghost use Rattle.std.specs.Prelude.{◌≡◌};
 
-use crate::moves::Line;
-use crate::trays::Tray;
+use crate::moves::WaitList;
+use crate::payloads::Payload;
 use event_log::Tid;
 
 /// Who leaves the waiting lists of a lock in a section.
 #[derive(Clone, Copy, Debug, PartialEq, Eq)]
-pub enum Leave {
+pub enum Wake {
     /// Nobody.
     Nobody,
     /// The first of those that sleep for the lock itself.
-    First,
+    FirstSleeper,
     /// This thread, if it waits among the receivers.
     Receiver(Tid),
     /// This thread, if it waits among the senders.
@@ -59,17 +59,17 @@ pub trait Sleeps: Drop {
 
     /// Edits `block`, where `first` is the first of those that sleep for the lock, and gives the
     /// edit's answer. Takes no memory.
-    fn apply(&self, first: Option<Tid>, block: &mut Self::Block, tray: &mut Tray) -> Self::Out
-        requires carried { carried self.now tray.old.message }
+    fn apply(&self, first: Option<Tid>, block: &mut Self::Block, payload: &mut Payload) -> Self::Out
+        requires carried { carried self.now payload.old.message }
         ensures block { block.new ≡ rules.edited self.now first block.old }
         ensures answer { result ≡ rules.answer self.now first block.old }
-        ensures brought { brought result tray.new.message };
+        ensures brought { brought result payload.new.message };
 
     /// Which waiting list the caller joins; `None` where it does not fall asleep.
-    fn joins(out: &Self::Out) -> Option<Line>
+    fn joins(out: &Self::Out) -> Option<WaitList>
         ensures { result ≡ rules.joins out.now };
 
     /// Who leaves the lock's waiting lists.
-    fn leaves(out: &Self::Out) -> Leave
+    fn leaves(out: &Self::Out) -> Wake
         ensures { result ≡ rules.leaves out.now };
 }

@@ -20,7 +20,7 @@ pub trait Words {
     ghost use Rattle.event_log.specs.declared.events.Event.TheVariants.{Draw, Look, Free};
     ghost use Rattle.layer_traits.specs.declared.edits.Mark.{Mark};
     ghost use Rattle.event_log.specs.History.{Adds, IsLawful};
-    ghost use Rattle.event_log.specs.WordsLog.{actor, standing, Outside, Waiting, Inside};
+    ghost use Rattle.event_log.specs.WordsLog.{cpu_of_event, lock_phase, Idle, Waiting, Holding};
     ghost use Rattle.event_log.specs.Sections.{Section, block_after};
     ghost use Rattle.layer_traits.specs.Protocol.{section, StaysAllowed};
     ghost use Rattle.layer_traits.specs.WordsProtocol.{mark_of, sections, MayCome};
@@ -60,8 +60,8 @@ pub trait Words {
         requires cpu { ActsFor self.old cpu }
         requires lock { IsSome (opening self.old lock) }
         requires room { 0 < room self.old }
-        requires outside { standing cpu (seen self.old) ≡ Outside }
-        ensures adds { Adds (ActsFor self.old) actor (Draw cpu lock result) (seen self.old) (seen self.new) }
+        requires outside { lock_phase cpu (seen self.old) ≡ Idle }
+        ensures adds { Adds (ActsFor self.old) cpu_of_event (Draw cpu lock result) (seen self.old) (seen self.new) }
         ensures opening { opening self.new ≡ opening self.old }
         ensures site { site self.new ≡ site self.old }
         ensures room { room self.old ≤ room self.new + 1 }
@@ -73,11 +73,11 @@ pub trait Words {
         requires cpu { ActsFor self.old cpu }
         requires lock { IsSome (opening self.old lock) }
         requires room { 0 < room self.old }
-        requires waiting { standing cpu (seen self.old) ≡ Waiting lock ticket }
-        ensures adds { (read : ℕ) × Adds (ActsFor self.old) actor (Look cpu lock ticket read) (seen self.old) (seen self.new) }
+        requires waiting { lock_phase cpu (seen self.old) ≡ Waiting lock ticket }
+        ensures adds { (read : ℕ) × Adds (ActsFor self.old) cpu_of_event (Look cpu lock ticket read) (seen self.old) (seen self.new) }
         ensures hits { MatchOption result
-            (standing cpu (seen self.new) ≡ Waiting lock ticket)
-            (λ block. (standing cpu (seen self.new) ≡ Inside lock ticket)
+            (lock_phase cpu (seen self.new) ≡ Waiting lock ticket)
+            (λ block. (lock_phase cpu (seen self.new) ≡ Holding lock ticket)
             × (block_after Self.Edit.rules.edited (opening self.new) lock (sections (seen self.new)) ≡ Some block)) }
         ensures opening { opening self.new ≡ opening self.old }
         ensures site { site self.new ≡ site self.old }
@@ -97,12 +97,12 @@ pub trait Words {
         requires cpu { ActsFor self.old cpu }
         requires lock { IsSome (opening self.old lock) }
         requires room { 0 < room self.old }
-        requires inside { (ticket : ℕ) × (standing cpu (seen self.old) ≡ Inside lock ticket) }
+        requires inside { (ticket : ℕ) × (lock_phase cpu (seen self.old) ≡ Holding lock ticket) }
         requires edited { option_map (Self.Edit.rules.edited (edit_in mark))
             (block_after Self.Edit.rules.edited (opening self.old) lock (sections (seen self.old))) ≡ Some block }
         requires allowed { StaysAllowed (Self.Edit.rules.allowed (opening self.old)) (sections (seen self.old))
             (section cpu lock (edit_in mark)) }
-        ensures adds { Adds (ActsFor self.old) actor (Free cpu lock (mark_of (edit_in mark))) (seen self.old) (seen self.new) }
+        ensures adds { Adds (ActsFor self.old) cpu_of_event (Free cpu lock (mark_of (edit_in mark))) (seen self.old) (seen self.new) }
         ensures opening { opening self.new ≡ opening self.old }
         ensures site { site self.new ≡ site self.old }
         ensures room { room self.old ≤ room self.new + 1 }

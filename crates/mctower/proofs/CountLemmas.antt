@@ -8,16 +8,16 @@ use Rattle.event_log.specs.declared.ids.LockId.{LockId}
 use Rattle.event_log.specs.History.{same_lock}
 use Rattle.event_log.specs.Sections.{Section, block_after, sections_in}
 use Rattle.event_log.specs.Actions.{Action, Take, Try, Give, Rests, gives, phase}
-use Rattle.layer_traits.specs.Owned.{IsShown}
+use Rattle.layer_traits.specs.Owned.{IsObserved}
 use Rattle.layer_traits.specs.Plans.{is_in_section}
 use Rattle.std.specs.Prelude.{IsSome}
 use Rattle.cpu_workers.specs.declared.counting.AddOne.{AddOne}
 use Rattle.cpu_workers.proofs.Counts.{number_is}
-use Rattle.mctower.specs.Count.{AreReady, IsReady, counting, sections_at}
+use Rattle.mctower.specs.Count.{AreReady, IsCountReady, counting, sections_at}
 
 -- one ready part more
 pub one_part_more : {P M S : Type 0} (cpu_of : P → CpuId) (under_way : P → Option S) (Fits : P → M → Type 0) (parts : List P) (part : P) (m : M)
-    → AreReady cpu_of under_way Fits parts m → IsReady cpu_of under_way Fits (length parts) part m → AreReady cpu_of under_way Fits (parts ++ part ∷ []) m
+    → AreReady cpu_of under_way Fits parts m → IsCountReady cpu_of under_way Fits (length parts) part m → AreReady cpu_of under_way Fits (parts ++ part ∷ []) m
 one_part_more cpu_of under_way Fits parts part m ready last i d below = elim (cases_lt i (length parts)) [
   | inl before ↦ rw (get_or_append_left parts (part ∷ []) d i before) (ready i d before)
   | inr at ↦
@@ -48,7 +48,7 @@ block_counts opening lock acts past block zeroth seen leaves =
 
 -- the block of a number that no CPU has in its hands is there
 pub there_at_rest : {P A : Type 0} (Fits : P → Type 0) (cpu_of : P → CpuId) (IsStepwise : Type 0) (acts : List (Action AddOne)) (here : P → Option A)
-    (home truth : Option A) → IsShown Fits cpu_of (λ c. IsStepwise × (is_in_section (phase c acts) ≡ true)) here home truth
+    (home truth : Option A) → IsObserved Fits cpu_of (λ c. IsStepwise × (is_in_section (phase c acts) ≡ true)) here home truth
     → ((c : CpuId) → phase c acts ≡ Rests) → home ≡ None → ⊥
 there_at_rest Fits cpu_of IsStepwise acts here home truth shown rests away =
     let held = shown.somewhere away in

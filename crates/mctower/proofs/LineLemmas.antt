@@ -20,7 +20,7 @@ use Rattle.clap.specs.declared.parser.matches.Found.{Found}
 use Rattle.clap.proofs.OnLiterals.{clap_on_literals}
 use Rattle.clap.proofs.ValueTestLemmas.{accepts-Accepts, Accepts-accepts}
 use Rattle.clap.proofs.WalkLemmas.{first_value-rows}
-use Rattle.mctower.specs.Line.{found_in, is_faultless, is_taken, lock_asked, run_in, Meant, run, number_at, number_in, program}
+use Rattle.mctower.specs.Line.{found_in, is_faultless, is_taken, lock_asked, run_in, Ghost, run, number_at, number_in, program}
 
 abbrev pub Text : Type 0
 Text = List ℕ
@@ -53,7 +53,7 @@ number_found least most name found text e = ap (option_and_then (number_in least
 -- the schedule of `run` is its option's first value
 pub schedule_found : (found : Found) (text : Option Text) → text ≡ first_value found (codes "schedule")
     → run_in (rows_of found) ≡ Some (run text)
-schedule_found found text e = let as_order : Option Text → Option Meant = λ t. Some (run t) in sym (ap as_order (e ∙ first_value-rows found (codes "schedule")))
+schedule_found found text e = let as_order : Option Text → Option Ghost = λ t. Some (run t) in sym (ap as_order (e ∙ first_value-rows found (codes "schedule")))
 
 -- the lock that is asked for is that of its option's first value
 pub lock_found : (found : Found) (text : Option Text) → text ≡ first_value found (codes "lock")

@@ -3,6 +3,7 @@ use Rattle.std.proofs.Common.{◌≡◌, ℕ, true, false, List, length, map, re
 use Rattle.std.specs.Prelude.{Result, Ok, Err, IsErrAnd}
 use Rattle.std.proofs.lemmas.Bool.{false≢true}
 use Rattle.event_log.specs.declared.ids.CpuId.{CpuId}
+use Rattle.event_log.proofs.Streams.{taken_put}
 use Rattle.boot.specs.Plan.{BootPlan}
 use Rattle.std.proofs.lemmas.List.{length-map}
 use Rattle.cpu.specs.Boots.{guests_for, homes_for, tables_for}
@@ -12,11 +13,11 @@ use Rattle.cpu.specs.Claims.{CpuShown, FollowPrograms, HasOneOrder, Shown, Stand
 use Rattle.cpu.specs.Sound.{BootsByTable, IsSetupFor, RanByTable, SoundByTable, after_steps, setup_for}
 use Rattle.cpu.specs.Systems.{Ran, SamePlan, whole_of}
 use Rattle.cpu.specs.Table.Steps.{Whole, whole_at_boot}
-use Rattle.cpu.specs.Told.{ToldByTable}
+use Rattle.cpu.specs.Observed.{ObservedByTable}
 use Rattle.cpu.proofs.Sounding.{setup_on}
 use Rattle.mctower.specs.Output.{IsUntouched, Output}
 use Rattle.mctower.specs.Plans.{IsOpened, IsSystemOf, table_run}
-use Rattle.mctower.specs.Running.{AreCpus, IsRunOf, IsTold, RunsPlan}
+use Rattle.mctower.specs.Running.{AreCpus, IsRunOf, IsPrinted, RunsPlan}
 use Rattle.mctower.specs.Texts.{IsOut, Writes}
 use Rattle.mctower.proofs.TabledLemmas.{text_of_run}
 use Rattle.mctower.specs.declared.run.Fault.{Fault}
@@ -60,7 +61,7 @@ by_table plan steps first last of boots planned table =
 -- a plan's system that took a schedule's steps
 pub run_of : (IsStepwise : Type 0) (plan : BootPlan) (steps : List CpuId) (first last : Shown) → IsOpened plan (length steps) first
     → Ran IsStepwise first steps last → (IsStepwise → BootsByTable first) → IsSetupFor (setup_for plan) first
-    → (IsStepwise → RanByTable first steps last) → (IsStepwise → SoundByTable last) → (IsStepwise → ToldByTable last)
+    → (IsStepwise → RanByTable first steps last) → (IsStepwise → SoundByTable last) → (IsStepwise → ObservedByTable last)
     → SamePlan first last → HasOneOrder last → FollowPrograms last → StayHome last → StandsOnce last → IsRunOf IsStepwise plan steps last
 run_of IsStepwise plan steps first last of ran boots planned table sound told same one follow stay once = record {
   start = first;
@@ -98,11 +99,12 @@ bad_cpu IsStepwise plan steps first r out of unknown untouched is =
 out_ran : (IsStepwise : Type 0) (plan : BootPlan) (steps : List CpuId) (caps : List ℕ) (first last : Shown) (out : Output)
     → caps ≡ plan.caps → IsSystemOf plan first → AreCpus (length first.cpus) steps → IsRunOf IsStepwise plan steps last
     → IsOut caps (traces_of last) last.contents out
-    → IsTold IsStepwise plan steps last out
+    → IsPrinted IsStepwise plan steps last out
 out_ran IsStepwise plan steps caps first last out same of known ran text = record {
   cpus = subst (λ c. AreCpus c steps) of.cpus known;
   ran = ran;
   out = written_out;
+  fifo = taken_put plan.caps written_out.is.order last.contents written_out.is.run;
   table = λ step. text_of_run IsStepwise plan steps last ran step written_out.text written_out.is;
 }
   where

@@ -21,13 +21,13 @@ use Rattle.cpu.specs.Sound.{IsSetupFor, setup_for}
 use Rattle.cpu.specs.Systems.{halted_in, own_reason_in, whole_of}
 use Rattle.cpu.specs.Table.Setups.{Private, Setup}
 use Rattle.cpu.specs.Table.Steps.{Whole, block_at, boots_from, cpu_numbered}
-use Rattle.cpu.specs.Told.{IsPlaceByTable, ToldByTable}
+use Rattle.cpu.specs.Observed.{IsPlaceByTable, ObservedByTable}
 use Rattle.cpu.specs.Wakeups.Quiet.{IsQuiet}
 use Rattle.cpu.proofs.ListReads.{map_twice, shows_at, there_is}
 use Rattle.mctower.specs.Plans.{table_run}
 use Rattle.mctower.specs.Running.{IsRunOf}
 use Rattle.mctower.specs.State.{IsStateOf, places_in}
-use Rattle.mctower.specs.Tabled.{IsStateOfRun, IsTextOfRun, NothingIsTold, contents_at, items_in, reason_at, reason_by, traces_at}
+use Rattle.mctower.specs.Tabled.{IsStateOfRun, IsTextOfRun, NothingIsPrinted, contents_at, items_held, reason_at, reason_by, traces_at}
 use Rattle.mctower.specs.Texts.{IsTextOf}
 use Rattle.mctower.specs.declared.states.State.{State}
 
@@ -71,7 +71,7 @@ module _ (IsStepwise : Type 0) (plan : BootPlan) (steps : List CpuId) (s : Shown
   abbrev setup : Setup
   setup = setup_for plan
 
-  told : ToldByTable s
+  told : ObservedByTable s
   told = ran.told step
 
   planned : IsSetupFor (setup_for plan) s
@@ -92,10 +92,10 @@ module _ (IsStepwise : Type 0) (plan : BootPlan) (steps : List CpuId) (s : Shown
 
   contents_are : s.contents ≡ contents_at setup (whole_of s)
   contents_are =
-      listed_is s.contents (λ b. items_in (block_at setup (AtBuffer (buffer_at b)) s.log)) (length plan.caps) 0 [] contents_wide
+      listed_is s.contents (λ b. items_held (block_at setup (AtBuffer (buffer_at b)) s.log)) (length plan.caps) 0 [] contents_wide
       (λ b within. let wide = caps_long in let has = told.buffers setup planned b (omega (arith, within, wide)) in
       let zero_plus : b ≡ 0 + b = omega arith in
-      has.told.items ∙ sym (ap items_in has.there) ∙ ap (λ k. items_in (block_at setup (AtBuffer (buffer_at k)) s.log)) zero_plus)
+      has.told.items ∙ sym (ap items_held has.there) ∙ ap (λ k. items_held (block_at setup (AtBuffer (buffer_at k)) s.log)) zero_plus)
 
   -- the text is the table's
   pub text_of_run : (text : List ℕ) → IsTextOf plan.caps (traces_of s) s.contents text → IsTextOfRun plan steps text
@@ -131,7 +131,8 @@ module _ (IsStepwise : Type 0) (plan : BootPlan) (steps : List CpuId) (s : Shown
   }
 
 -- at boot no trace has an entry
-boots_bare : (setup_is : Setup) (n k j : ℕ) (trace : List Entry) → slice_get (traces_at (record { cpus = boots_from setup_is n k; log = []; room = 0; taken = 0 })) j
+boots_bare : (setup_is : Setup) (n k j : ℕ) (trace : List Entry)
+    → slice_get (traces_at (record { cpus = boots_from setup_is n k; log = []; room = 0; taken = 0 })) j
     ≡ Some trace → trace ≡ []
 boots_bare setup_is n zero j trace at = absurd cc
 boots_bare setup_is n (suc k) zero trace at = let same : [] ≡ trace = cc in sym same
@@ -142,6 +143,6 @@ none_first : (traces : List (List Entry)) (order : List Entry) → ((j : ℕ) (t
 none_first traces [] bare keeps = refl
 none_first traces (e ∷ es) bare keeps = let none : e ∷ keeps.1 ≡ [] = bare keeps.0 (e ∷ keeps.1) keeps.2 in absurd (cc none)
 
-pub nothing_told : NothingIsTold
-nothing_told plan text told =
+pub nothing_printed : NothingIsPrinted
+nothing_printed plan text told =
     none_first (traces_at (table_run plan [])) told.order (λ j trace at. boots_bare (setup_for plan) 0 plan.cpus j trace at) told.keeps.0

@@ -7,6 +7,7 @@ use Rattle.std.specs.Io.KnownBytes.{Appends}
 use Rattle.std.proofs.lemmas.List.{append-nil}
 use Rattle.std.proofs.lemmas.Option.{slice_get_within}
 use Rattle.event_log.specs.declared.entries.Entry.{Entry}
+use Rattle.event_log.proofs.Streams.{taken_put}
 use Rattle.layer_traits.specs.OnePlace.{cpu_at}
 use Rattle.boot.specs.declared.refusals.BootError.{BootError}
 use Rattle.boot.specs.Plan.{BootPlan, IsPlan}
@@ -16,7 +17,7 @@ use Rattle.cpu.specs.Boots.{homes_for}
 use Rattle.cpu.specs.Cpus.{IsOfHome}
 use Rattle.cpu.specs.Sound.{setup_for}
 use Rattle.cpu_workers.specs.declared.stops.Stop.{Stop}
-use Rattle.cpu_workers.specs.Lawful.{IsLawfulReport, Line, Shown, TellsTrue, left_in}
+use Rattle.cpu_workers.specs.Lawful.{IsLawfulReport, CpuReport, Shown, ReportsTrue, left_in}
 use Rattle.mctower.specs.declared.refusals.Refusal.{Refusal}
 use Rattle.mctower.specs.declared.refusals.Refusal.TheVariants.{NoMemory, WriteFault}
 use Rattle.mctower.specs.declared.run.Fault.{Fault}
@@ -26,8 +27,8 @@ use Rattle.mctower.specs.declared.serve.Done.TheVariants.{Worked}
 use Rattle.mctower.specs.Output.{Output}
 use Rattle.mctower.specs.Refusals.{from_fault}
 use Rattle.mctower.specs.Serve.{OfPlan, RefusedBy, WorksPlan}
-use Rattle.mctower.specs.Texts.{HaveText, IsOut, Writes}
-use Rattle.mctower.specs.Threads.{Never}
+use Rattle.mctower.specs.Texts.{HaveText, IsOut, IsTextOf, Writes}
+use Rattle.mctower.specs.Threads.{IsWorked, AlwaysOpen}
 
 -- what is so for a plan that was read
 pub of_read : (Means : BootPlan → Result Done Refusal → Output → Type 0) (plan : BootPlan) (read : Result BootPlan BootError) (answer : Result Done Refusal)
@@ -36,15 +37,15 @@ of_read Means plan read answer out is (inl refused) = inl refused
 of_read Means plan read answer out is (inr means) = inr (subst (λ r. OfPlan Means r answer out) (sym is) means)
 
 -- the traces of a lawful report have a text with what is left
-pub report_has : (plan : BootPlan) (turns : ℕ) (r : Shown) → IsPlan plan → IsLawfulReport (setup_for plan) Never turns r
+pub report_has : (plan : BootPlan) (turns : ℕ) (r : Shown) → IsPlan plan → IsLawfulReport (setup_for plan) AlwaysOpen turns r
     → HaveText plan.caps r.traces (left_in (length plan.caps) r)
 report_has plan turns r within lawful = record {
   plan = plan;
   within = within;
   caps_are = refl;
   count = lawful.report.traces_count;
-  fit = λ c trace at. let line = line_at c trace at in subst (λ (l : List Entry). length l ≤ plan.trace) line.1 line.2.room;
-  stay = λ c trace at. let line = line_at c trace at in
+  fit = λ c trace at. let line = report_at c trace at in subst (λ (l : List Entry). length l ≤ plan.trace) line.1 line.2.room;
+  stay = λ c trace at. let line = report_at c trace at in
       subst (λ (l : List Entry). AllByRecursion (IsOfHome (homes_for plan) (record { 0 = c })) l) line.1 line.2.stays;
   order = lawful.report.order;
   keeps = lawful.report.keeps;
@@ -52,17 +53,28 @@ report_has plan turns r within lawful = record {
 }
   where
     -- what is told of the CPU whose trace this is
-    line_at : (c : ℕ) (trace : List Entry) → slice_get r.traces c ≡ Some trace
-        → (line : Line) × (line.trace ≡ trace) × TellsTrue (setup_for plan) (Never (cpu_at c)) turns (cpu_at c) line
-    line_at c trace at =
+    report_at : (c : ℕ) (trace : List Entry) → slice_get r.traces c ≡ Some trace
+        → (line : CpuReport) × (line.trace ≡ trace) × ReportsTrue (setup_for plan) (AlwaysOpen (cpu_at c)) turns (cpu_at c) line
+    report_at c trace at =
         let below : c < plan.cpus = subst (λ n. c < n) lawful.report.traces_count (slice_get_within r.traces c trace at) in
         let one = lawful.report.each (cpu_at c) below in
         let known = one.1.trace in
         (one.0, cc (known, at), one.2)
 
+-- the plan's workers have run, and this is their text
+has_worked : (turns : ℕ) (plan : BootPlan) (r : Shown) (stops : Vec Stop Global) (text : List ℕ) → IsLawfulReport (setup_for plan) AlwaysOpen turns r
+    → stops.items ≡ r.stops → IsTextOf plan.caps r.traces (left_in (length plan.caps) r) text → IsWorked plan turns stops.items text
+has_worked turns plan r stops text lawful same is = record {
+  report = r;
+  lawful = lawful;
+  stops_are = same;
+  is = is;
+  fifo = taken_put plan.caps is.order (left_in (length plan.caps) r) is.run;
+}
+
 -- the plan's workers have run, their text is out, and nothing more was put out behind it
 pub worked : (turns : ℕ) (plan : BootPlan) (r : Shown) (stops : Vec Stop Global) (answer : Result Done Refusal) (first whole : Output)
-    → IsLawfulReport (setup_for plan) Never turns r → stops.items ≡ r.stops
+    → IsLawfulReport (setup_for plan) AlwaysOpen turns r → stops.items ≡ r.stops
     → (first.failed ≡ false) × IsOut plan.caps r.traces (left_in (length plan.caps) r) first
     → answer ≡ (if whole.failed then Err WriteFault else Ok (Worked stops)) → Outs whole.failed first.new whole.new [] → first.old ≡ whole.old
     → WorksPlan turns plan answer whole
@@ -73,7 +85,7 @@ worked turns plan r stops answer first whole lawful same writes given more old =
     inr (record {
       stops = stops;
       trace = trace;
-      worked = record { report = r; lawful = lawful; stops_are = same; is = writes.1.is };
+      worked = has_worked turns plan r stops trace lawful same writes.1.is;
       put = (
         given,
         subst (λ o. Outs whole.failed o whole.new trace) old (subst (λ t. Outs whole.failed first.old whole.new t) (append-nil trace) outs),
@@ -82,7 +94,7 @@ worked turns plan r stops answer first whole lawful same writes given more old =
 
 -- their text could not be written
 pub not_written : (A : Type 0) (turns : ℕ) (plan : BootPlan) (r : Shown) (stops : Vec Stop Global) (fault : Fault) (refusal : Refusal) (out : Output)
-    → IsLawfulReport (setup_for plan) Never turns r → stops.items ≡ r.stops
+    → IsLawfulReport (setup_for plan) AlwaysOpen turns r → stops.items ≡ r.stops
     → Writes {A = A} plan.caps r.traces (left_in (length plan.caps) r) (Err fault) out → refusal ≡ from_fault fault
     → RefusedBy NoMemory (Err refusal) out ⊎ WorksPlan turns plan (Err refusal) out
 not_written A turns plan r stops run.NoMemory refusal out lawful same writes is = inl (ap Err is, writes)
@@ -92,6 +104,6 @@ not_written A turns plan r stops run.NoOrder refusal out lawful same writes is =
 not_written A turns plan r stops run.WriteFault refusal out lawful same writes is = inr (inr (record {
   stops = stops;
   trace = writes.1.text;
-  worked = record { report = r; lawful = lawful; stops_are = same; is = writes.1.is };
+  worked = has_worked turns plan r stops writes.1.text lawful same writes.1.is;
   put = (ap Err is ∙ ap (λ (b : Bool). if b then Err WriteFault else Ok (Worked stops)) (sym writes.0), writes.1.out);
 }))

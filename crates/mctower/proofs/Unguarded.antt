@@ -12,10 +12,10 @@ use Rattle.cpu.specs.Systems.{Ran, WentOn, goes, starts, stayed, took}
 use Rattle.mctower.specs.declared.refusals.Refusal.{Refusal}
 use Rattle.mctower.specs.declared.serve.Done.{Done}
 use Rattle.mctower.specs.declared.states.State.{State}
-use Rattle.mctower.specs.Line.{Meant, check, count, run, threads}
+use Rattle.mctower.specs.Line.{Ghost, check, count, run, threads}
 use Rattle.mctower.specs.Output.{Output}
 use Rattle.mctower.specs.Running.{IsRunOf}
-use Rattle.mctower.specs.Serve.{Ends, OfInput, OfPlan, RunsAsked, RunsPlan, Serves, TellsRun}
+use Rattle.mctower.specs.Serve.{Ends, OfInput, OfPlan, RunsAsked, RunsPlan, Serves, ReportsRun}
 use Rattle.mctower.specs.State.{IsStateOf}
 
 -- what is meant for a plan is so for the input's, where it follows for any plan
@@ -69,8 +69,8 @@ module _ (If Where : Type 0) (follows : Where → If) where
     still = λ here. is.still (follows here);
   }
 
-  tells : (plan : BootPlan) (steps : List CpuId) (s : Shown) (answer : Result Done Refusal) (failed : Bool) → TellsRun If plan steps s answer failed
-      → TellsRun Where plan steps s answer failed
+  tells : (plan : BootPlan) (steps : List CpuId) (s : Shown) (answer : Result Done Refusal) (failed : Bool) → ReportsRun If plan steps s answer failed
+      → ReportsRun Where plan steps s answer failed
   tells plan steps s answer false (state, is, table, given) = (state, state_of s state is, (λ here. table (follows here)), given)
   tells plan steps s answer true given = given
 
@@ -84,6 +84,7 @@ module _ (If Where : LockKind → Type 0) (follows : (lock : LockKind) → Where
     ran = run_of (If plan.lock) (Where plan.lock) (follows plan.lock) plan steps runs.system runs.ran;
     trace = runs.trace;
     traced = runs.traced;
+    fifo = runs.fifo;
     table = λ here. runs.table (follows plan.lock here);
     put = (tells (If plan.lock) (Where plan.lock) (follows plan.lock) plan steps runs.system answer out.failed runs.put.0, runs.put.1);
   })
@@ -93,15 +94,15 @@ module _ (If Where : LockKind → Type 0) (follows : (lock : LockKind) → Where
   asked None input answer out refused = refused
   asked (Some steps) input answer out runs = of_input (runs_plan steps) input answer out runs
 
-  serves : (meant : Option Meant) (input : Option (List ℕ)) (answer : Result Done Refusal) (out : Output)
-      → Serves If meant input answer out → Serves Where meant input answer out
+  serves : (ghost_of : Option Ghost) (input : Option (List ℕ)) (answer : Result Done Refusal) (out : Output)
+      → Serves If ghost_of input answer out → Serves Where ghost_of input answer out
   serves None input answer out served = served
   serves (Some (count cpus times lock)) input answer out served = served
   serves (Some check) input answer out served = served
   serves (Some (run schedule)) input answer out served = asked _ input answer out served
   serves (Some (threads turns)) input answer out served = served
 
-  pub ends : {words : List Text} {meant : Option Meant} {input : Option (List ℕ)} {status : ℕ} {out err : Output}
-      → Ends If words meant input status out err → Ends Where words meant input status out err
-  ends {meant = meant} {input = input} {out = out} is =
-      record { answer = is.answer; ends = is.ends; served = serves meant input is.answer out is.served; told = is.told }
+  pub ends : {words : List Text} {ghost_of : Option Ghost} {input : Option (List ℕ)} {status : ℕ} {out err : Output}
+      → Ends If words ghost_of input status out err → Ends Where words ghost_of input status out err
+  ends {ghost_of = ghost_of} {input = input} {out = out} is =
+      record { answer = is.answer; ends = is.ends; served = serves ghost_of input is.answer out is.served; told = is.told }

@@ -24,8 +24,8 @@ use Rattle.mctower.specs.declared.line.LineError.TheVariants.{NoMemory, Refused}
 -- ---- the commands and their options
 
 -- an option `--name VALUE` that has to be there
-abbrev pub wanted : Text → Rule
-wanted name = record (new_rule name) { long = Some name; required = true }
+abbrev pub required_option : Text → Rule
+required_option name = record (new_rule name) { long = Some name; required = true }
 
 -- an option `--name VALUE` that may be left out
 abbrev pub optional : Text → Rule
@@ -33,7 +33,7 @@ optional name = record (new_rule name) { long = Some name }
 
 -- `count --cpus n --times k [--lock L]`
 abbrev pub count_app : App
-count_app = with_rule (with_rule (with_rule (new_app (codes "count")) (wanted (codes "cpus"))) (wanted (codes "times"))) (optional (codes "lock"))
+count_app = with_rule (with_rule (with_rule (new_app (codes "count")) (required_option (codes "cpus"))) (required_option (codes "times"))) (optional (codes "lock"))
 
 -- `run [--schedule S]`
 abbrev pub run_app : App
@@ -41,7 +41,7 @@ run_app = with_rule (new_app (codes "run")) (optional (codes "schedule"))
 
 -- `threads --turns n`
 abbrev pub threads_app : App
-threads_app = with_rule (new_app (codes "threads")) (wanted (codes "turns"))
+threads_app = with_rule (new_app (codes "threads")) (required_option (codes "turns"))
 
 -- `check`
 abbrev pub check_app : App
@@ -62,11 +62,11 @@ program = with_subcommand (with_subcommand (with_subcommand (with_subcommand bar
 -- ---- the order that the words mean
 
 -- an order as its command and values
-pub data Meant : Type 0 where
-  count : ℕ → ℕ → LockKind → Meant
-  run : Option Text → Meant
-  threads : ℕ → Meant
-  check : Meant
+pub data Ghost : Type 0 where
+  count : ℕ → ℕ → LockKind → Ghost
+  run : Option Text → Ghost
+  threads : ℕ → Ghost
+  check : Ghost
 
 -- the number that a text spells by clap's rules (a plus sign and leading zeros may stand there), in this range
 abbrev pub number_in : ℕ → ℕ → Text → Option ℕ
@@ -82,20 +82,20 @@ lock_asked None = Some Grant
 lock_asked (Some name) = lock_named name
 
 -- the order of the command `count` with these values: 1 to CPUS CPUs, 1 to MOST_TIMES sections for each, and the lock
-abbrev pub count_in : List Row → Option Meant
+abbrev pub count_in : List Row → Option Ghost
 count_in rows = option_and_then (λ cpus. option_and_then (λ times. option_map (λ lock. count cpus times lock)
     (lock_asked (first_of (codes "lock") rows))) (number_at 1 MOST_TIMES (codes "times") rows)) (number_at 1 CPUS (codes "cpus") rows)
 
 -- the order of the command `run` with these values
-abbrev pub run_in : List Row → Option Meant
+abbrev pub run_in : List Row → Option Ghost
 run_in rows = Some (run (first_of (codes "schedule") rows))
 
 -- the order of the command `threads` with these values: 1 to MOST_TURNS turns
-abbrev pub threads_in : List Row → Option Meant
+abbrev pub threads_in : List Row → Option Ghost
 threads_in rows = option_map (λ turns. threads turns) (number_at 1 MOST_TURNS (codes "turns") rows)
 
 -- the order of a command by its name and its values
-abbrev pub order_in : Text × List Row → Option Meant
+abbrev pub order_in : Text × List Row → Option Ghost
 order_in found = if bytes_eq found.0 (codes "count") then count_in found.1
     else (if bytes_eq found.0 (codes "run") then run_in found.1
     else (if bytes_eq found.0 (codes "threads") then threads_in found.1
@@ -115,21 +115,21 @@ unfoldable pub is_taken : List Text → Bool
 is_taken words = is_faultless (fault_of program words)
 
 -- the order that the words mean, if the rules take them and each number is in its range
-abbrev pub order_of : List Text → Option Meant
+abbrev pub order_of : List Text → Option Ghost
 order_of words = if is_taken words then option_and_then order_in (found_in words) else None
 
 -- what an order stands for
-abbrev pub meant_by : Order → Meant
-meant_by (Count cpus times lock) = count cpus times lock
-meant_by (Run schedule) = run (option_map string_bytes schedule)
-meant_by (Threads turns) = threads turns
-meant_by Check = check
+abbrev pub ghost_by : Order → Ghost
+ghost_by (Count cpus times lock) = count cpus times lock
+ghost_by (Run schedule) = run (option_map string_bytes schedule)
+ghost_by (Threads turns) = threads turns
+ghost_by Check = check
 
 -- a reading gives the order that is meant, or refuses where none is meant, memory aside
-abbrev pub Reads : Option Meant → Result Order LineError → Type 0
-Reads meant (Ok order) = meant ≡ Some (meant_by order)
-Reads meant (Err NoMemory) = Unit {0}
-Reads meant (Err Refused) = meant ≡ None
+abbrev pub Reads : Option Ghost → Result Order LineError → Type 0
+Reads ghost_of (Ok order) = ghost_of ≡ Some (ghost_by order)
+Reads ghost_of (Err NoMemory) = Unit {0}
+Reads ghost_of (Err Refused) = ghost_of ≡ None
 
 -- clap's parse takes the words exactly if its rules do, memory aside, and finds their command and values
 abbrev pub Finds : List Text → Result ArgMatches LineError → Type 0

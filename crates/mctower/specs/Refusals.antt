@@ -72,6 +72,6 @@ text_of words BadSchedule = Ok (codes "error: BadSchedule(9)\n")
 text_of words (Plan error) = Err error
 
 -- the text is out; of a plan, a line that tells the refusal; where the sink failed, a beginning of it
-abbrev pub Told : Result (List ℕ) BootError → Output → Type 0
-Told (Ok text) out = IsPut out text
-Told (Err error) out = PrintsRefusal out
+abbrev pub PutsText : Result (List ℕ) BootError → Output → Type 0
+PutsText (Ok text) out = IsPut out text
+PutsText (Err error) out = PrintsRefusal out

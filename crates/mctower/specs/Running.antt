@@ -1,6 +1,7 @@
 -- Running a plan: the system that a schedule leaves over the lock that the plan names, its trace text, and what a run answers.
 use Rattle.std.specs.Prelude.{◌≡◌, ℕ, ◌<◌, true, false, List, length, All, Result, Ok, Err}
 use Rattle.event_log.specs.declared.ids.CpuId.{CpuId}
+use Rattle.event_log.specs.Streams.{IsFirstInFirstOut}
 use Rattle.boot.specs.declared.locks.LockKind.{LockKind}
 use Rattle.boot.specs.declared.locks.LockKind.TheVariants as kind
 use Rattle.boot.specs.declared.refusals.BootError.{BootError}
@@ -8,7 +9,7 @@ use Rattle.boot.specs.Plan.{BootPlan}
 use Rattle.cpu.specs.Claims.{FollowPrograms, HasOneOrder, Shown, StandsOnce, StayHome, traces_of}
 use Rattle.cpu.specs.Sound.{IsSetupFor, SoundByTable, setup_for}
 use Rattle.cpu.specs.Systems.{Ran, whole_of}
-use Rattle.cpu.specs.Told.{ToldByTable}
+use Rattle.cpu.specs.Observed.{ObservedByTable}
 use Rattle.mctower.specs.declared.run.Ran.{Ran as RanOver}
 use Rattle.mctower.specs.declared.run.Ran.TheVariants.{Ticket, Grant}
 use Rattle.mctower.specs.declared.run.Fault.{Fault}
@@ -28,7 +29,7 @@ pub record IsRunOf (IsStepwise : Type 0) (plan : BootPlan) (steps : List CpuId) 
   pub planned : IsSetupFor (setup_for plan) s
   pub table : IsStepwise → whole_of s ≡ table_run plan steps
   pub sound : IsStepwise → SoundByTable s
-  pub told : IsStepwise → ToldByTable s
+  pub told : IsStepwise → ObservedByTable s
   pub system : IsSystemOf plan s
   pub room : s.room ≡ length steps
   pub one_order : HasOneOrder s
@@ -40,23 +41,25 @@ pub record IsRunOf (IsStepwise : Type 0) (plan : BootPlan) (steps : List CpuId) 
 abbrev pub AreCpus : ℕ → List CpuId → Type 0
 AreCpus cpus steps = All (λ c. c.0 < cpus) steps
 
--- a system that the plan's may be after these steps has its text out, or a beginning of it; where the machine does one action a step, this is
--- the text of the step table's system of the plan after these steps
-pub record IsTold (IsStepwise : Type 0) (plan : BootPlan) (steps : List CpuId) (s : Shown) (printed : Output) : Type 0 where
+-- a system that the plan's may be after these steps has its text out, or a beginning of it; in the order that it tells, for each buffer what was
+-- put is what was taken, in that order, and then what is left; where the machine does one action a step, this is the text of the step table's
+-- system of the plan after these steps
+pub record IsPrinted (IsStepwise : Type 0) (plan : BootPlan) (steps : List CpuId) (s : Shown) (printed : Output) : Type 0 where
   pub cpus : AreCpus plan.cpus steps
   pub ran : IsRunOf IsStepwise plan steps s
   pub out : IsOut plan.caps (traces_of s) s.contents printed
+  pub fifo : IsFirstInFirstOut out.is.order s.contents
   pub table : IsStepwise → IsTextOfRun plan steps out.text
 
 -- what a run of a plan answers: a step of a CPU that the plan has not is refused before anything is written; else the plan's
 -- system takes the steps, and its text is written
 abbrev pub RunsPlan : Type 0 → BootPlan → List CpuId → Result Shown Fault → Output → Type 0
-RunsPlan IsStepwise plan steps (Ok s) out = (out.failed ≡ false) × IsTold IsStepwise plan steps s out
+RunsPlan IsStepwise plan steps (Ok s) out = (out.failed ≡ false) × IsPrinted IsStepwise plan steps s out
 RunsPlan IsStepwise plan steps (Err NoMemory) out = IsUntouched out
 RunsPlan IsStepwise plan steps (Err (Boot e)) out = ⊥
 RunsPlan IsStepwise plan steps (Err BadCpu) out = (¬ AreCpus plan.cpus steps) × IsUntouched out
 RunsPlan IsStepwise plan steps (Err NoOrder) out = ⊥
-RunsPlan IsStepwise plan steps (Err WriteFault) out = (out.failed ≡ true) × ((s : Shown) × IsTold IsStepwise plan steps s out)
+RunsPlan IsStepwise plan steps (Err WriteFault) out = (out.failed ≡ true) × ((s : Shown) × IsPrinted IsStepwise plan steps s out)
 
 -- ---- over the lock that the plan names
 
@@ -66,9 +69,9 @@ on_lock tickets grants kind.Ticket = tickets
 on_lock tickets grants kind.Grant = grants
 
 -- the lock beneath a system after a run
-abbrev pub lock_of : {I J M N : Type 0} → RanOver I J M N → LockKind
-lock_of (Ticket s) = kind.Ticket
-lock_of (Grant s) = kind.Grant
+abbrev pub lock_beneath : {I J M N : Type 0} → RanOver I J M N → LockKind
+lock_beneath (Ticket s) = kind.Ticket
+lock_beneath (Grant s) = kind.Grant
 
 -- the system after a run, whatever its lock is
 abbrev pub system_of : {I J M N : Type 0} → RanOver I J M N → Shown
@@ -82,7 +85,7 @@ system_in (Err fault) = Err fault
 
 -- where there is a system, this is the lock beneath it
 abbrev pub IsOver : {I J M N : Type 0} → LockKind → Result (RanOver I J M N) Fault → Type 0
-IsOver lock (Ok ran) = lock_of ran ≡ lock
+IsOver lock (Ok ran) = lock_beneath ran ≡ lock
 IsOver lock (Err fault) = Unit {0}
 
 -- what a run answers where the plan's text is refused: that refusal, before anything is written

@@ -52,9 +52,9 @@ abbrev pub steps_of : List ℕ → Option (List CpuId)
 steps_of text = option_and_then if_few (steps_in (slice_split is_comma text))
 
 -- the items still to be read, of the text behind the last comma
-abbrev pub pieces_of : Option (List ℕ) → List (List ℕ)
-pieces_of None = []
-pieces_of (Some text) = slice_split is_comma text
+abbrev pub schedule_pieces : Option (List ℕ) → List (List ℕ)
+schedule_pieces None = []
+schedule_pieces (Some text) = slice_split is_comma text
 
 -- a reading gives these steps, or refuses where there are none, memory aside
 abbrev pub ReadsSteps : {A : Type 0} → Option (List CpuId) → Result (Vec CpuId A) StepsError → Type 0

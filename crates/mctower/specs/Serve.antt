@@ -6,6 +6,7 @@ use Rattle.std.specs.declared.io.ErrorKind.{ErrorKind}
 use Rattle.std.specs.declared.io.ErrorKind.TheVariants.{OutOfMemory}
 use Rattle.clap.specs.Walk.{Text}
 use Rattle.event_log.specs.declared.ids.CpuId.{CpuId}
+use Rattle.event_log.specs.Streams.{IsFirstInFirstOut}
 use Rattle.boot.specs.declared.locks.LockKind.{LockKind}
 use Rattle.boot.specs.declared.refusals.BootError.{BootError}
 use Rattle.boot.specs.declared.refusals.BootError.TheVariants.{BadToml}
@@ -14,9 +15,10 @@ use Rattle.tracer.specs.declared.verdicts.Verdict.{Verdict}
 use Rattle.tracer.specs.declared.verdicts.Verdict.TheVariants as verdict
 use Rattle.tracer.specs.Judging.{verdict_of}
 use Rattle.tracer.specs.Reasons as reasons
-use Rattle.mctower.specs.Line.{Meant, count, run, threads, check}
+use Rattle.tracer.specs.Verdicts.{IsTraceOfRun}
+use Rattle.mctower.specs.Line.{Ghost, count, run, threads, check}
 use Rattle.mctower.specs.Output.{IsPut, IsUntouched, Output}
-use Rattle.mctower.specs.Refusals.{Told, status_of_refusal, text_of}
+use Rattle.mctower.specs.Refusals.{PutsText, status_of_refusal, text_of}
 use Rattle.mctower.specs.declared.refusals.Refusal.{Refusal}
 use Rattle.mctower.specs.declared.refusals.Refusal.TheVariants.{BadLine, NoMemory, BadCpu, NoThread, ReadFault, WriteFault, BadSchedule, Plan as BadPlan}
 use Rattle.cpu.specs.Claims.{Shown, traces_of}
@@ -77,17 +79,17 @@ Counts number answer out = RefusedBy NoMemory answer out
 -- ---- check
 
 -- a verdict is printed: a yes with status 0, a no with the number of the line and the name of the reason with status 3
-abbrev pub Tells : Verdict → Result Done Refusal → Output → Type 0
-Tells verdict.Yes answer out = Puts (Exit 0) (codes "yes\n") answer out
-Tells (verdict.No line reason) answer out =
-    Puts (Exit 3) (codes "no " ++ (decimal line ++ (codes " " ++ (reasons.name_of reason ++ codes "\n")))) answer out
-Tells verdict.NoMemory answer out = RefusedBy NoMemory answer out
+abbrev pub PrintsVerdict : Verdict → Result Done Refusal → Output → Type 0
+PrintsVerdict verdict.Yes answer out = Puts (Exit 0) (codes "yes\n") answer out
+PrintsVerdict (verdict.No line reason) answer out =
+    Puts (Exit 3) (codes "no " ++ (decimal line ++ (codes " " ++ (reasons.reason_name reason ++ codes "\n")))) answer out
+PrintsVerdict verdict.NoMemory answer out = RefusedBy NoMemory answer out
 
--- the verdict on the input is printed, or the input was not read
+-- the verdict on the input is printed, or the input was not read; after a yes the input is the trace text of a run, and of what it leaves
 abbrev pub Checks : Option (List ℕ) → Result Done Refusal → Output → Type 0
 Checks input answer out = RefusedBy NoMemory answer out
     ⊎ (RefusedBy ReadFault answer out
-    ⊎ ((text : List ℕ) × IsInput input text × Tells (verdict_of text) answer out))
+    ⊎ ((text : List ℕ) × IsInput input text × PrintsVerdict (verdict_of text) answer out × (verdict_of text ≡ verdict.Yes → IsTraceOfRun text)))
 
 -- ---- plans
 
@@ -111,16 +113,17 @@ OfInput Means input answer out = RefusedBy NoMemory answer out
 -- ---- run
 
 -- what is to be told is the system's state, where the machine does one action a step that of the step table's system; or the output failed
-abbrev pub TellsRun : Type 0 → BootPlan → List CpuId → Shown → Result Done Refusal → Bool → Type 0
-TellsRun IsStepwise plan steps s answer false =
+abbrev pub ReportsRun : Type 0 → BootPlan → List CpuId → Shown → Result Done Refusal → Bool → Type 0
+ReportsRun IsStepwise plan steps s answer false =
     (state : State) × IsStateOf IsStepwise s state × (IsStepwise → IsStateOfRun plan steps state) × (answer ≡ Ok (Ran state))
-TellsRun IsStepwise plan steps s answer true = answer ≡ Err WriteFault
+ReportsRun IsStepwise plan steps s answer true = answer ≡ Err WriteFault
 
 -- the text is out, and what is to be told is the system's state; or the output failed, and a beginning of the text is out
 abbrev pub PutsRun : Type 0 → BootPlan → List CpuId → Shown → List ℕ → Result Done Refusal → Output → Type 0
-PutsRun IsStepwise plan steps s text answer out = TellsRun IsStepwise plan steps s answer out.failed × IsPut out text
+PutsRun IsStepwise plan steps s text answer out = ReportsRun IsStepwise plan steps s answer out.failed × IsPut out text
 
--- the plan's system took the steps, by the step table where its machine does one action a step, and its trace text is written; this is then
+-- the plan's system took the steps, by the step table where its machine does one action a step, and its trace text is written; in the order that
+-- it tells, for each buffer what was put is what was taken, in that order, and then what is left; where the machine does one action a step, it is
 -- the text of the step table's system of the plan after these steps
 pub record RunsTrace (IsStepwise : Type 0) (plan : BootPlan) (steps : List CpuId) (answer : Result Done Refusal) (printed : Output) : Type 0 where
   pub cpus : AreCpus plan.cpus steps
@@ -128,6 +131,7 @@ pub record RunsTrace (IsStepwise : Type 0) (plan : BootPlan) (steps : List CpuId
   pub ran : IsRunOf IsStepwise plan steps system
   pub trace : List ℕ
   pub traced : IsTextOf plan.caps (traces_of system) system.contents trace
+  pub fifo : IsFirstInFirstOut traced.order system.contents
   pub table : IsStepwise → IsTextOfRun plan steps trace
   pub put : PutsRun IsStepwise plan steps system trace answer printed
 
@@ -164,7 +168,7 @@ WorksPlan turns plan answer out = RefusedBy NoThread answer out ⊎ WorksTrace p
 -- Serving what the words mean: the answer, and what became of standard output. The bytes on standard
 -- input are `input`, where they are known. Memory or the input may be wanting always. What is said of layers of which each poll is one
 -- action is said of those over the lock that the plan names.
-abbrev pub Serves : (LockKind → Type 0) → Option Meant → Option (List ℕ) → Result Done Refusal → Output → Type 0
+abbrev pub Serves : (LockKind → Type 0) → Option Ghost → Option (List ℕ) → Result Done Refusal → Output → Type 0
 Serves IsStepwise None input answer out = RefusedBy NoMemory answer out ⊎ RefusedBy BadLine answer out
 Serves IsStepwise (Some (count cpus times lock)) input answer out = Counts (times * cpus) answer out
 Serves IsStepwise (Some check) input answer out = Checks input answer out
@@ -179,20 +183,20 @@ abbrev pub Reports : List Text → Result Done Refusal → Output → Type 0
 Reports words (Ok (Exit status)) out = IsUntouched out
 Reports words (Ok (Ran state)) out = IsPut out (text_of_state state)
 Reports words (Ok (Worked stops)) out = IsPut out (stop_text stops.items)
-Reports words (Err refusal) out = Told (text_of words refusal) out
+Reports words (Err refusal) out = PutsText (text_of words refusal) out
 
 -- there is one answer by which the exit status and standard error are
-pub record EndsTold (words : List Text) (status : ℕ) (err : Output) : Type 0 where
+pub record EndsReported (words : List Text) (status : ℕ) (err : Output) : Type 0 where
   pub answer : Result Done Refusal
   pub ends : status ≡ status_of answer
   pub told : Reports words answer err
 
 -- A command line is served: there is one answer by which the exit status, standard output and standard error are.
-pub record Ends (IsStepwise : LockKind → Type 0) (words : List Text) (meant : Option Meant) (input : Option (List ℕ)) (status : ℕ)
+pub record Ends (IsStepwise : LockKind → Type 0) (words : List Text) (ghost_of : Option Ghost) (input : Option (List ℕ)) (status : ℕ)
     (out err : Output) : Type 0 where
   pub answer : Result Done Refusal
   pub ends : status ≡ status_of answer
-  pub served : Serves IsStepwise meant input answer out
+  pub served : Serves IsStepwise ghost_of input answer out
   pub told : Reports words answer err
 
 -- Serving over layers of which each poll is one action: what is said of such layers holds without a condition, whichever lock is beneath.
@@ -202,7 +206,7 @@ NoCondition lock = Unit {0}
 -- ---- standard input
 
 -- whether the input is read for these words: for a check, for a run whose schedule is one, and for a run in threads
-abbrev pub reads_input : Option Meant → Bool
+abbrev pub reads_input : Option Ghost → Bool
 reads_input None = false
 reads_input (Some (count cpus times lock)) = false
 reads_input (Some check) = true

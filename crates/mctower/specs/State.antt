@@ -6,7 +6,7 @@ use Rattle.cpu.specs.Claims.{IsPlaceOf, Shown, listed}
 use Rattle.cpu.specs.Sound.{IsSetupFor}
 use Rattle.cpu.specs.Systems.{halted_in, whole_of}
 use Rattle.cpu.specs.Table.Setups.{Setup}
-use Rattle.cpu.specs.Told.{IsStill}
+use Rattle.cpu.specs.Observed.{IsStill}
 use Rattle.cpu.specs.Wakeups.Quiet.{IsQuiet as IsQuietTable}
 use Rattle.mctower.specs.StateLines.{state_text}
 use Rattle.mctower.specs.declared.states.State.{State}
@@ -20,7 +20,8 @@ abbrev pub text_of_state : State → List ℕ
 text_of_state state = state_text state.halted.items (places_in state) state.is_quiet
 
 -- What is told of a system is so: why each CPU is halted, where each thread is, and that it is quiet exactly by the definition. Where its
--- machine does one action a step, it is told quiet exactly where the step table has it quiet, and then it is stuck: no live thread has a next call that its buffer allows, nobody
+-- machine does one action a step, it is told quiet exactly where the step table has it quiet, and then it is stuck: no live thread has a next call that its
+-- buffer allows, nobody
 -- owns the lock of a buffer, and nobody sleeps at one.
 pub record IsStateOf (IsStepwise : Type 0) (s : Shown) (state : State) : Type 0 where
   pub halted : state.halted.items ≡ listed (λ c. halted_in (record { 0 = c }) s) 0 (length s.cpus)

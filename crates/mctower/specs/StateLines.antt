@@ -5,7 +5,7 @@ use Rattle.layer_traits.specs.declared.steps.Reason.{Reason}
 use Rattle.layer_traits.specs.declared.steps.Reason.TheVariants.{AllEnded, TraceFull, StepsUsed}
 use Rattle.layer_traits.specs.declared.calls.Place.{Place}
 use Rattle.layer_traits.specs.declared.calls.Place.TheVariants.{Running, Ready, Pending, Hand, LockSleeper, WaitRecv, WaitSend, Ended}
-use Rattle.tracer.specs.TraceText.{line_of, numbered}
+use Rattle.tracer.specs.TraceText.{text_line, numbered}
 
 -- the word for a CPU: it is live, or why it is halted
 abbrev pub halted_word : Option Reason → List ℕ
@@ -64,4 +64,4 @@ quiet_pieces quiet = codes "quiet" ∷ (if quiet then codes "yes" else codes "no
 -- the state lines: a line for each CPU and one for each thread, each by rising number, and a last one on the whole system
 abbrev pub state_text : List (Option Reason) → List Place → Bool → List ℕ
 state_text halted places quiet =
-    flat_map line_of (numbered halted_pieces 0 halted) ++ (flat_map line_of (numbered thread_pieces 0 places) ++ line_of (quiet_pieces quiet))
+    flat_map text_line (numbered halted_pieces 0 halted) ++ (flat_map text_line (numbered thread_pieces 0 places) ++ text_line (quiet_pieces quiet))

@@ -15,7 +15,7 @@ use Rattle.cpu.specs.Sound.{setup_for}
 use Rattle.cpu.specs.Table.Blocks.{Block, OfBuffer, OfPending}
 use Rattle.cpu.specs.Table.Setups.{Private, Setup}
 use Rattle.cpu.specs.Table.Steps.{Whole, block_at, cpu_numbered, halted_at}
-use Rattle.cpu.specs.Told.{IsPlaceByTable}
+use Rattle.cpu.specs.Observed.{IsPlaceByTable}
 use Rattle.cpu.specs.Wakeups.Quiet.{IsQuiet}
 use Rattle.mctower.specs.Plans.{table_run}
 use Rattle.mctower.specs.State.{places_in}
@@ -27,14 +27,14 @@ abbrev pub traces_at : Whole → List (List Entry)
 traces_at w = map (λ p. p.trace) w.cpus
 
 -- the messages in a block, front first
-abbrev pub items_in : Option Block → List Message
-items_in None = []
-items_in (Some (OfPending threads)) = []
-items_in (Some (OfBuffer k)) = k.items
+abbrev pub items_held : Option Block → List Message
+items_held None = []
+items_held (Some (OfPending threads)) = []
+items_held (Some (OfBuffer k)) = k.items
 
 -- what the table's buffers hold
 abbrev pub contents_at : Setup → Whole → List (List Message)
-contents_at setup w = listed (λ b. items_in (block_at setup (AtBuffer (buffer_at b)) w.log)) 0 (length setup.caps)
+contents_at setup w = listed (λ b. items_held (block_at setup (AtBuffer (buffer_at b)) w.log)) 0 (length setup.caps)
 
 -- why a CPU of the table takes no step: nothing stops one that has a section under way
 abbrev pub reason_by : Setup → CpuId → Whole → Option Private → Option Reason
@@ -49,8 +49,8 @@ abbrev pub IsTextOfRun : BootPlan → List CpuId → List ℕ → Type 0
 IsTextOfRun plan steps text = IsTextOf plan.caps (traces_at (table_run plan steps)) (contents_at (setup_for plan) (table_run plan steps)) text
 
 -- after no step there is no entry in the text
-abbrev pub NothingIsTold : Type 0
-NothingIsTold = (plan : BootPlan) (text : List ℕ) (told : IsTextOfRun plan [] text) → told.order ≡ []
+abbrev pub NothingIsPrinted : Type 0
+NothingIsPrinted = (plan : BootPlan) (text : List ℕ) (told : IsTextOfRun plan [] text) → told.order ≡ []
 
 -- this is told of that system: why each CPU is halted, where each thread stands, and whether it is quiet
 pub record IsStateOfRun (plan : BootPlan) (steps : List CpuId) (state : State) : Type 0 where

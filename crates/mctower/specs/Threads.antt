@@ -2,9 +2,12 @@
 use Rattle.std.specs.Prelude.{◌≡◌, ℕ, List, codes, length}
 use Rattle.std.specs.List.{flat_map}
 use Rattle.event_log.specs.declared.ids.CpuId.{CpuId}
-use Rattle.tracer.specs.TraceText.{line_of, numbered}
+use Rattle.event_log.specs.Streams.{IsFirstInFirstOut}
+use Rattle.tracer.specs.TraceText.{text_line, numbered}
 use Rattle.boot.specs.Plan.{BootPlan}
 use Rattle.cpu.specs.Sound.{setup_for}
+use Rattle.cpu_workers.specs.declared.gates.Go.{Go}
+use Rattle.cpu_workers.specs.declared.gates.Go.TheVariants.{Pass}
 use Rattle.cpu_workers.specs.declared.stops.Stop.{Stop}
 use Rattle.cpu_workers.specs.declared.stops.Stop.TheVariants.{AllEnded, TurnsUsed, TraceFull, Held}
 use Rattle.cpu_workers.specs.Lawful.{IsLawfulReport, Shown, left_in}
@@ -24,16 +27,18 @@ stop_pieces c stop = cpu_pieces c (stop_word stop)
 
 -- a line for each CPU, by rising number
 abbrev pub stop_text : List Stop → List ℕ
-stop_text stops = flat_map line_of (numbered stop_pieces 0 stops)
+stop_text stops = flat_map text_line (numbered stop_pieces 0 stops)
 
--- no gate holds a CPU
-abbrev pub Never : CpuId → ℕ → Type 0
-Never c turn = ⊥
+-- the gate lets every CPU pass
+abbrev pub AlwaysOpen : CpuId → Go → ℕ → Type 0
+AlwaysOpen c go turn = go ≡ Pass
 
 -- The workers of a plan have run, each for so many turns: they left a lawful report, these are its stops, and this is the text of the plan's
--- capacities, of the report's traces and of what its buffers hold.
+-- capacities, of the report's traces and of what its buffers hold; in the order that it tells, for each buffer what was put is what was taken, in
+-- that order, and then what is left.
 pub record IsWorked (plan : BootPlan) (turns : ℕ) (stops : List Stop) (text : List ℕ) : Type 0 where
   pub report : Shown
-  pub lawful : IsLawfulReport (setup_for plan) Never turns report
+  pub lawful : IsLawfulReport (setup_for plan) AlwaysOpen turns report
   pub stops_are : stops ≡ report.stops
   pub is : IsTextOf plan.caps report.traces (left_in (length plan.caps) report) text
+  pub fifo : IsFirstInFirstOut is.order (left_in (length plan.caps) report)

@@ -11,7 +11,7 @@ use crate::line::MOST_TIMES;
 use boot::LockKind;
 use cpu_workers::counting::{self, AddOne, CountFault, NUMBER};
 use event_log::{CpuId, LockId, NoMemory};
-use layer_traits::{LockLayer, OwnedLocks, Tray};
+use layer_traits::{LockLayer, OwnedLocks, Payload};
 use plain_machine::{GrantPlain, Plain};
 use spinlock::{Grant, Ticket, whole};
 use std::alloc::{AllocError, Global};
@@ -19,12 +19,12 @@ use std::sync::Wait;
 use std::thread::Threads;
 
 /// Each part in turn does one whole section at `lock`, which adds 1 to the lock's number. Nothing
-/// lies in the tray that counts.
+/// lies in the payload that counts.
 fn round<L: LockLayer<AddOne>>(
     parts: &mut [L],
     machine: &mut L::Machine,
     lock: LockId,
-    tray: &mut Tray,
+    payload: &mut Payload,
 )
     requires stepwise { L.IsStepwise }
     requires ready { AreReady L.cpu_of L.under_way L.Fits parts.old machine.old }
@@ -41,7 +41,7 @@ fn round<L: LockLayer<AddOne>>(
     ensures order { L.acts machine.new ≡ after_round lock (length parts.old) (L.acts machine.old) }
 {
     for i in 0..parts.len() {
-        whole(&mut parts[i], machine, lock, AddOne, tray);
+        whole(&mut parts[i], machine, lock, AddOne, payload);
     }
 }
 
@@ -59,9 +59,9 @@ fn rounds<L: LockLayer<AddOne>>(parts: &mut [L], machine: &mut L::Machine, lock:
     ensures counted { sections_at lock (L.seen machine.new) ≡ sections_at lock (L.seen machine.old) + times * length parts.old }
     ensures order { L.acts machine.new ≡ after_rounds lock (length parts.old) times (L.acts machine.old) }
 {
-    let mut tray = Tray::new();
+    let mut payload = Payload::new();
     for _ in 0..times {
-        round(parts, machine, lock, &mut tray);
+        round(parts, machine, lock, &mut payload);
     }
 }
 

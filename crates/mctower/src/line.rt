@@ -6,7 +6,7 @@ ghost use Rattle.clap.specs.Walk.{first_of, rows_of, rule_of};
 ghost use Rattle.clap.specs.declared.builder.command.Command.TheViews.{out-Command};
 ghost use Rattle.mctower.specs.declared.line.LineError.TheVariants.{NoMemory};
 ghost use Rattle.mctower.specs.Line.{Reads, check_app, count_app, count_in, number_in, number_at};
-ghost use Rattle.mctower.specs.Line.{lock_asked, optional, order_of, program, run_app, threads_app, wanted};
+ghost use Rattle.mctower.specs.Line.{lock_asked, optional, order_of, program, run_app, threads_app, required_option};
 ghost use Rattle.mctower.specs.Line.{threads_in, run_in, order_in, Finds};
 
 use boot::LockKind;
@@ -58,7 +58,7 @@ impl From<AllocError> for LineError {
 }
 
 fn needed<'a>(alloc: Global, name: &'a str) -> Arg<'a>
-    ensures rule { rule_of result ≡ wanted name.entry.now }
+    ensures rule { rule_of result ≡ required_option name.entry.now }
     ensures local { result.global ≡ false }
 {
     Arg::new(alloc, name).long(name).required(true)
@@ -136,7 +136,7 @@ fn number_of(matches: &ArgMatches<'_>, name: &str, least: u64, most: u64) -> Opt
 }
 
 // The lock that is asked for; the one with grant words, where none is named.
-fn lock_of(matches: &ArgMatches<'_>) -> Option<LockKind>
+fn lock_given(matches: &ArgMatches<'_>) -> Option<LockKind>
     ensures { result ≡ lock_asked (first_of (codes "lock") (rows_of (found_of matches.now))) }
 {
     match matches.get_str("lock") {
@@ -154,7 +154,7 @@ fn count_order(matches: &ArgMatches<'_>) -> Result<Order, LineError>
     let Some(times) = number_of(matches, "times", 1, MOST_TIMES) else {
         return Err(LineError::Refused);
     };
-    let Some(lock) = lock_of(matches) else {
+    let Some(lock) = lock_given(matches) else {
         return Err(LineError::Refused);
     };
     Ok(Order::Count(cpus as u8, times, lock))

@@ -5,7 +5,7 @@ ghost use Rattle.std.specs.Prelude.{◌≡◌, false, map};
 ghost use Rattle.std.specs.Process.{exit_status};
 ghost use Rattle.tracer.specs.Sinks.{has_failed};
 ghost use Rattle.mctower.specs.Output.{between};
-ghost use Rattle.mctower.specs.Serve.{EndsTold};
+ghost use Rattle.mctower.specs.Serve.{EndsReported};
 
 pub mod count;
 mod help;
@@ -22,7 +22,7 @@ pub mod threads;
 pub mod tower;
 
 use line::LineError;
-use refusals::{Refusal, line_refused, status_of_refusal, tell};
+use refusals::{Refusal, line_refused, status_of_refusal, write_report};
 use std::io::{BufWriter, Write};
 use std::process::ExitCode;
 use std::sync::Wait;
@@ -61,9 +61,9 @@ fn words_after_the_name(rt: &HostRuntime) -> Result<Vec<String>, LineError> {
 /// Tells a refusal of these words, and gives the exit status of the process.
 fn refused<E: Write>(err: &mut Sink<E>, words: &[&str], refusal: Refusal) -> ExitCode
     requires { has_failed err.old ≡ false }
-    ensures { EndsTold (map (λ w. w.now) words.now) (exit_status result) (between E.contents err.old err.new) }
+    ensures { EndsReported (map (λ w. w.now) words.now) (exit_status result) (between E.contents err.old err.new) }
 {
-    tell(err, words, refusal);
+    write_report(err, words, refusal);
     ExitCode::from(status_of_refusal(refusal))
 }
 
@@ -75,7 +75,7 @@ fn serve_words<T: AllocGlobal + Input + Print + Threads + Wait + Sync, E: Write>
     err: &mut Sink<E>,
 ) -> ExitCode
     requires { has_failed err.old ≡ false }
-    ensures { EndsTold (map (λ w. w.now) words.now) (exit_status result) (between E.contents err.old err.new) }
+    ensures { EndsReported (map (λ w. w.now) words.now) (exit_status result) (between E.contents err.old err.new) }
 {
     let Ok(buffered) = BufWriter::new(rt.alloc(), io::writer(rt)) else {
         return refused(err, words, Refusal::NoMemory);

@@ -3,7 +3,7 @@
 ghost use Rattle.std.specs.Prelude.{◌≡◌, false, map, MatchResult, Ok, Err};
 ghost use Rattle.tracer.specs.Sinks.{has_failed};
 ghost use Rattle.mctower.specs.Output.{between};
-ghost use Rattle.mctower.specs.Refusals.{Told, from_count, from_fault, from_line, from_steps, from_worker, status_of_refusal, text_of};
+ghost use Rattle.mctower.specs.Refusals.{PutsText, from_count, from_fault, from_line, from_steps, from_worker, status_of_refusal, text_of};
 
 use crate::help::help_on;
 use crate::line::LineError;
@@ -121,9 +121,9 @@ fn text_of(words: &[&str], refusal: Refusal) -> Result<&'static str, BootError>
 }
 
 /// Tells a refusal of these words, if the sink takes it. Takes no memory.
-pub(crate) fn tell<W: Write>(sink: &mut Sink<W>, words: &[&str], refusal: Refusal)
+pub(crate) fn write_report<W: Write>(sink: &mut Sink<W>, words: &[&str], refusal: Refusal)
     requires { has_failed sink.old ≡ false }
-    ensures { Told (text_of (map (λ w. w.now) words.now) refusal) (between W.contents sink.old sink.new) }
+    ensures { PutsText (text_of (map (λ w. w.now) words.now) refusal) (between W.contents sink.old sink.new) }
 {
     match text_of(words, refusal) {
         Ok(text) => {

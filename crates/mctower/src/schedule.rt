@@ -1,7 +1,7 @@
 //! Schedules: which CPU takes each step of a run, read from a text such as `0*10,1,0*3`.
 ghost use Rattle.std.specs.Prelude.{◌≡◌, ◌+◌, ◌<◌, ◌≤◌, ◌∷◌, ◌++◌, length, replicate, option_map, IfSome, OnOk, vec_len};
 ghost use Rattle.std.specs.List.{slice_split};
-ghost use Rattle.mctower.specs.Schedule.{cpu_of, item_of, is_comma, pieces_of, ReadsSteps, steps_of};
+ghost use Rattle.mctower.specs.Schedule.{cpu_of, item_of, is_comma, schedule_pieces, ReadsSteps, steps_of};
 ghost use Rattle.mctower.specs.declared.schedule.StepsError.TheVariants.{NoMemory};
 
 use event_log::{CpuId, number_to};
@@ -65,7 +65,7 @@ pub fn read_steps(alloc: Global, text: &str) -> Result<Vec<CpuId>, StepsError>
 
 // The text before the first comma, and what stands behind that.
 fn cut_item(text: &str) -> (&str, Option<&str>)
-    ensures pieces { slice_split is_comma text.now ≡ result.0.now ∷ pieces_of (option_map (λ t. t.now) result.1) }
+    ensures pieces { slice_split is_comma text.now ≡ result.0.now ∷ schedule_pieces (option_map (λ t. t.now) result.1) }
     ensures shorter { IfSome result.1 (λ t. length t.now < length text.now) }
 {
     match text.split_once(',') {

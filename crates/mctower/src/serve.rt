@@ -8,19 +8,20 @@ ghost use Rattle.mctower.specs.Output.{between};
 ghost use Rattle.mctower.specs.Line.{order_of};
 ghost use Rattle.mctower.specs.Schedule.{ReadsSteps};
 ghost use Rattle.mctower.specs.Running.{on_lock};
-ghost use Rattle.mctower.specs.Serve.{Checks, Counts, Ends, OfBytes, OfInput, Puts, ReadsAll, RunsPlan, Serves, Tells, kind_refused, reads_input, steps_asked};
+ghost use Rattle.mctower.specs.Serve.{Checks, Counts, Ends, OfBytes, OfInput, Puts, ReadsAll, RunsPlan, Serves, PrintsVerdict, kind_refused, reads_input, steps_asked};
 
 use crate::count::{count_plain, count_table};
 use crate::line::{MOST_TIMES, Order, read_line};
 use crate::print::print;
 use crate::reading::state_after;
 use crate::refusals::{
-    Refusal, count_refused, line_refused, run_refused, status_of_refusal, steps_refused, tell,
+    Refusal, count_refused, line_refused, run_refused, status_of_refusal, steps_refused,
+    write_report,
 };
 use crate::run::run_text;
 use crate::schedule::{MOST_STEPS, StepsError, read_steps};
 use crate::states::State;
-use crate::threads::{serve_threads, tell_stops};
+use crate::threads::{serve_threads, write_stops};
 use boot::{BootError, LockKind};
 use cpu_workers::Stop;
 use event_log::CpuId;
@@ -120,7 +121,7 @@ pub(crate) fn read_all<R: Read>(alloc: Global, input: &mut R) -> Result<Vec<u8>,
 /// Prints a verdict: `yes`, or `no L Name(N)`. Gives the exit status.
 fn print_verdict<O: Write>(verdict: Verdict, out: &mut Sink<O>) -> Result<Done, Refusal>
     requires { has_failed out.old ≡ false }
-    ensures tells { Tells verdict result (between O.contents out.old out.new) }
+    ensures prints_verdict { PrintsVerdict verdict result (between O.contents out.old out.new) }
     ensures flushed { IfOk result (λ _. is_flushed out.new ≡ true) }
 {
     match verdict {
@@ -277,15 +278,15 @@ where
     match answer::<I, J, R, O, T>(rt, alloc, words, input, out) {
         Ok(Done::Exit(status)) => status,
         Ok(Done::Ran(state)) => {
-            state.tell(err);
+            state.write_report(err);
             0
         }
         Ok(Done::Worked(stops)) => {
-            tell_stops(err, stops.as_slice());
+            write_stops(err, stops.as_slice());
             0
         }
         Err(refusal) => {
-            tell(err, words, refusal);
+            write_report(err, words, refusal);
             status_of_refusal(refusal)
         }
     }

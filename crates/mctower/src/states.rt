@@ -2,7 +2,7 @@
 
 ghost use Rattle.std.specs.Prelude.{◌≡◌, ℕ, List, Some, None, false, is_err, map, ◌≤◌};
 ghost use Rattle.tracer.specs.Sinks.{WentOut, has_failed};
-ghost use Rattle.tracer.specs.TraceText.{line_of, numbered};
+ghost use Rattle.tracer.specs.TraceText.{text_line, numbered};
 ghost use Rattle.std.specs.List.{flat_map};
 ghost use Rattle.event_log.specs.declared.ids.TheConstants.{THREADS};
 ghost use Rattle.mctower.specs.StateLines.{cpu_pieces, halted_pieces, halted_word, place_name, place_number, quiet_pieces, state_text, thread_pieces};
@@ -76,7 +76,7 @@ fn place_number(place: Place) -> Option<u8>
 pub(crate) fn put_cpu<W: Write>(sink: &mut Sink<W>, cpu: u64, word: &str) -> Result<(), WriteFault>
     requires { has_failed sink.old ≡ false }
     ensures failed { is_err result ≡ has_failed sink.new }
-    ensures out { WentOut W.contents sink.old sink.new (line_of (cpu_pieces cpu word.now)) }
+    ensures out { WentOut W.contents sink.old sink.new (text_line (cpu_pieces cpu word.now)) }
 {
     let mut number = Buffer::new();
     let number = number.format(cpu).as_bytes();
@@ -97,7 +97,7 @@ pub(crate) fn put_cpu<W: Write>(sink: &mut Sink<W>, cpu: u64, word: &str) -> Res
 fn put_thread<W: Write>(sink: &mut Sink<W>, thread: u64, place: Place) -> Result<(), WriteFault>
     requires { has_failed sink.old ≡ false }
     ensures failed { is_err result ≡ has_failed sink.new }
-    ensures out { WentOut W.contents sink.old sink.new (line_of (thread_pieces thread place)) }
+    ensures out { WentOut W.contents sink.old sink.new (text_line (thread_pieces thread place)) }
 {
     let mut number = Buffer::new();
     let number = number.format(thread).as_bytes();
@@ -136,7 +136,7 @@ fn put_thread<W: Write>(sink: &mut Sink<W>, thread: u64, place: Place) -> Result
 fn put_cpus<W: Write>(sink: &mut Sink<W>, halted: &[Option<Reason>]) -> Result<(), WriteFault>
     requires { has_failed sink.old ≡ false }
     ensures failed { is_err result ≡ has_failed sink.new }
-    ensures out { WentOut W.contents sink.old sink.new (flat_map line_of (numbered halted_pieces 0 halted.now)) }
+    ensures out { WentOut W.contents sink.old sink.new (flat_map text_line (numbered halted_pieces 0 halted.now)) }
 {
     for (c, halted) in halted.iter().enumerate() {
         put_cpu(sink, c as u64, halted_word(*halted))?;
@@ -148,7 +148,7 @@ fn put_cpus<W: Write>(sink: &mut Sink<W>, halted: &[Option<Reason>]) -> Result<(
 fn put_threads<W: Write>(sink: &mut Sink<W>, places: &[Place]) -> Result<(), WriteFault>
     requires { has_failed sink.old ≡ false }
     ensures failed { is_err result ≡ has_failed sink.new }
-    ensures out { WentOut W.contents sink.old sink.new (flat_map line_of (numbered thread_pieces 0 places.now)) }
+    ensures out { WentOut W.contents sink.old sink.new (flat_map text_line (numbered thread_pieces 0 places.now)) }
 {
     for (t, place) in places.iter().enumerate() {
         put_thread(sink, t as u64, *place)?;
@@ -160,7 +160,7 @@ fn put_threads<W: Write>(sink: &mut Sink<W>, places: &[Place]) -> Result<(), Wri
 fn put_quiet<W: Write>(sink: &mut Sink<W>, is_quiet: bool) -> Result<(), WriteFault>
     requires { has_failed sink.old ≡ false }
     ensures failed { is_err result ≡ has_failed sink.new }
-    ensures out { WentOut W.contents sink.old sink.new (line_of (quiet_pieces is_quiet)) }
+    ensures out { WentOut W.contents sink.old sink.new (text_line (quiet_pieces is_quiet)) }
 {
     sink.put(if is_quiet {
         b"quiet yes\n".as_slice()
@@ -186,7 +186,7 @@ impl State {
     }
 
     /// Tells the state of a system by its state lines, if the sink takes them. Takes no memory.
-    pub fn tell<W: Write>(&self, sink: &mut Sink<W>)
+    pub fn write_report<W: Write>(&self, sink: &mut Sink<W>)
         requires { has_failed sink.old ≡ false }
         ensures { WentOut W.contents sink.old sink.new (state_text self.now.halted.items (places_in self.now) self.now.is_quiet) }
     {

@@ -8,7 +8,7 @@ ghost use Rattle.tracer.specs.Judging.{verdict_of};
 ghost use Rattle.tracer.specs.Sinks.{has_failed};
 ghost use Rattle.tracer.specs.declared.verdicts.Verdict.TheVariants.{Yes as SaysYes};
 ghost use Rattle.mctower.specs.Output.{between};
-ghost use Rattle.mctower.specs.Tabled.{NothingIsTold};
+ghost use Rattle.mctower.specs.Tabled.{NothingIsPrinted};
 ghost use Rattle.mctower.specs.Texts.{HaveText, IsTextOf, Writes};
 
 use crate::run::Fault;
@@ -26,8 +26,8 @@ pub fn texts_get_yes()
 {}
 
 /// A law: after no step the step table's system of a plan has a text without an entry.
-pub fn nothing_is_told()
-    ensures { NothingIsTold }
+pub fn nothing_is_printed()
+    ensures { NothingIsPrinted }
 {}
 
 /// Writes the trace text of these traces, one of each CPU of a plan with these capacities, and of

@@ -6,9 +6,9 @@ ghost use Rattle.std.specs.List.{flat_map};
 ghost use Rattle.event_log.specs.declared.ids.TheConstants.{BUFFERS};
 ghost use Rattle.boot.specs.Plan.{plan_of};
 ghost use Rattle.tracer.specs.Sinks.{WentOut, has_failed, is_flushed};
-ghost use Rattle.tracer.specs.TraceText.{line_of, numbered};
+ghost use Rattle.tracer.specs.TraceText.{text_line, numbered};
 ghost use Rattle.cpu.specs.Claims.{buffer_at, listed};
-ghost use Rattle.cpu_workers.specs.Seating.{items_in};
+ghost use Rattle.cpu_workers.specs.Seating.{items_of_block};
 ghost use Rattle.mctower.specs.Output.{between};
 ghost use Rattle.mctower.specs.Serve.{OfBytes, OfInput, OfPlan, RefusedBy, WorksPlan};
 ghost use Rattle.mctower.specs.Threads.{stop_pieces, stop_text, stop_word};
@@ -45,7 +45,7 @@ fn stop_word(stop: Stop) -> &'static str
 fn put_stops<W: Write>(sink: &mut Sink<W>, stops: &[Stop]) -> Result<(), WriteFault>
     requires { has_failed sink.old ≡ false }
     ensures failed { is_err result ≡ has_failed sink.new }
-    ensures out { WentOut W.contents sink.old sink.new (flat_map line_of (numbered stop_pieces 0 stops.now)) }
+    ensures out { WentOut W.contents sink.old sink.new (flat_map text_line (numbered stop_pieces 0 stops.now)) }
 {
     for (c, stop) in stops.iter().enumerate() {
         put_cpu(sink, c as u64, stop_word(*stop))?;
@@ -54,7 +54,7 @@ fn put_stops<W: Write>(sink: &mut Sink<W>, stops: &[Stop]) -> Result<(), WriteFa
 }
 
 /// Tells why each worker stopped, by the number of its CPU, if the sink takes it. Takes no memory.
-pub(crate) fn tell_stops<W: Write>(sink: &mut Sink<W>, stops: &[Stop])
+pub(crate) fn write_stops<W: Write>(sink: &mut Sink<W>, stops: &[Stop])
     requires { has_failed sink.old ≡ false }
     ensures { WentOut W.contents sink.old sink.new (stop_text stops.now) }
 {
@@ -64,7 +64,7 @@ pub(crate) fn tell_stops<W: Write>(sink: &mut Sink<W>, stops: &[Stop])
 /// What so many buffers of a report hold.
 fn left_in(report: &Report, buffers: usize) -> ArrayVec<ArrayVec<Msg, CAPACITY>, BUFFERS>
     requires { buffers ≤ BUFFERS }
-    ensures { map (λ v. v.items) result.items ≡ listed (λ b. items_in report.now.blocks.items (buffer_at b)) 0 buffers }
+    ensures { map (λ v. v.items) result.items ≡ listed (λ b. items_of_block report.now.blocks.items (buffer_at b)) 0 buffers }
 {
     let mut left = ArrayVec::new();
     for buffer in 0..buffers {

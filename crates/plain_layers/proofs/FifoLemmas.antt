@@ -16,10 +16,10 @@ use Rattle.layer_traits.specs.declared.calls.Effect.{Effect}
 use Rattle.layer_traits.specs.declared.calls.Reply.{Reply}
 use Rattle.layer_traits.specs.declared.locked.Side.TheVariants.{Receivers, Senders}
 use Rattle.layer_traits.specs.declared.queues.QueueCall.TheVariants.{OnBuffer}
-use Rattle.layer_traits.specs.declared.talks.Stage.{Stage}
-use Rattle.layer_traits.specs.declared.talks.Stage.TheVariants.{Between, Acquires, Enters, Tries, Waits, AcquiresAgain, Signals, SignalsOwn, Releases}
-use Rattle.layer_traits.specs.declared.talks.Talk.{Talk}
-use Rattle.layer_traits.specs.BufferLaw.{Answered, Called, IsEffectOf, IsRefused, MayTalk, buffer_of, entry_of, going, going_at, quiet, talk_of}
+use Rattle.layer_traits.specs.declared.call_states.Stage.{Stage}
+use Rattle.layer_traits.specs.declared.call_states.Stage.TheVariants.{Idle, Acquires, Enters, Tries, Waits, AcquiresAgain, Signals, SignalsOwn, Releases}
+use Rattle.layer_traits.specs.declared.call_states.CallState.{CallState}
+use Rattle.layer_traits.specs.BufferLaw.{Answered, Called, IsEffectOf, IsRefused, MayPollCall, buffer_of, entry_of, going, going_at, no_call, call_state_of}
 use Rattle.layer_traits.specs.Passes.{own_slept, queue_for}
 use Rattle.layer_traits.specs.Places.{AreMoves, Pushed, Stands, Step, step}
 use Rattle.layer_traits.specs.Protocol.{section}
@@ -30,10 +30,10 @@ use Rattle.layer_traits.proofs.PlaceLemmas.{current_at}
 use Rattle.sleep_wakeup.proofs.BootLemmas.{there_inside}
 use Rattle.plain_layers.specs.declared.attempts.Ask.TheVariants as ask
 use Rattle.plain_layers.specs.declared.attempts.Tried.TheVariants.{Acted, Refused}
-use Rattle.plain_layers.specs.Attempts.{PlainState, allows, effect_at, effect_in, line_by, told}
-use Rattle.plain_layers.specs.Fifos.{ask_of, attempt_of, effect_by, locked_after, reply_to, talk_after}
+use Rattle.plain_layers.specs.Attempts.{PlainState, allows, effect_at, effect_in, wait_list_by, told}
+use Rattle.plain_layers.specs.Fifos.{ask_of, attempt_of, effect_by, locked_after, reply_to, call_state_after}
 use Rattle.event_log.specs.declared.entries.Entry.{Entry}
-use Rattle.plain_layers.specs.FifoTallies.{Tally, kind_asked, plain_tally, told_if}
+use Rattle.plain_layers.specs.FifoTallies.{FifoTally, kind_asked, plain_tally, reported_if}
 use Rattle.plain_layers.specs.Wholes.{IsDoneWhole, asked}
 use Rattle.event_log.specs.declared.ids.BufId.{BufId}
 use Rattle.event_log.specs.declared.ids.CpuId.{CpuId}
@@ -42,8 +42,8 @@ use Rattle.event_log.specs.declared.ids.LockId.TheVariants.{Pending, Buffer}
 use Rattle.event_log.specs.declared.ids.TheConstants.{CPUS}
 use Rattle.event_log.specs.History.{IsLawful}
 use Rattle.event_log.proofs.ListLemmas.{alike_at}
-use Rattle.layer_traits.specs.declared.moves.Line.{Line}
-use Rattle.layer_traits.specs.declared.moves.Line.TheVariants as line
+use Rattle.layer_traits.specs.declared.moves.WaitList.{WaitList}
+use Rattle.layer_traits.specs.declared.moves.WaitList.TheVariants as wait_list
 use Rattle.layer_traits.specs.declared.passes.Pass.{Pass}
 use Rattle.layer_traits.specs.declared.passes.Pass.TheVariants.{Switch, YieldNow, Drain, MakeReady, End}
 use Rattle.layer_traits.specs.declared.queue_edits.QueueBlock.{QueueBlock}
@@ -56,7 +56,7 @@ use Rattle.layer_traits.specs.Places.{Threads}
 use Rattle.layer_traits.specs.QueueBlocks.{homes_in, inner}
 use Rattle.layer_traits.specs.Queues.{IsKnownEvent, Kernel, buffer_sections, moves_in}
 use Rattle.layer_traits.specs.Scheds.{SchedPolled, events_of, own_answered, pass_call}
-use Rattle.layer_traits.specs.Sleeping.{NobodySleeps, line_at}
+use Rattle.layer_traits.specs.Sleeping.{NobodySleeps, wait_list_at}
 use Rattle.layer_traits.specs.SleepLaw.{done_if, sleep_kernel}
 use Rattle.layer_traits.proofs.CallLemmas.{pass_polled}
 use Rattle.layer_traits.proofs.SleepLemmas.{done_same}
@@ -75,19 +75,19 @@ pub no_events : {E B O : Type 0} (k : Kernel E B O) (past : List (QueueEvent E))
 no_events k [] none = refl
 no_events k (e ∷ past) none = absurd (cc none)
 
-no_line : (line : Line) (o : Option ℕ) → line_at line (option_map fresh_buffer o) ≡ []
-no_line line None = refl
-no_line line.Sleepers (Some n) = refl
-no_line line.Receivers (Some n) = refl
-no_line line.Senders (Some n) = refl
+no_wait_list : (wait_list : WaitList) (o : Option ℕ) → wait_list_at wait_list (option_map fresh_buffer o) ≡ []
+no_wait_list wait_list None = refl
+no_wait_list wait_list.Sleepers (Some n) = refl
+no_wait_list wait_list.Receivers (Some n) = refl
+no_wait_list wait_list.Senders (Some n) = refl
 
 -- nobody waits at fresh buffers
 pub nobody_waits : (locks : LockId → Option PlainLocked) → locks ≡ fresh_buffers (caps_in locks) → NobodySleeps locks
-nobody_waits locks fresh lock line = ap (λ (o : LockId → Option PlainLocked). line_at line (o lock)) fresh ∙ go lock
+nobody_waits locks fresh lock wait_list = ap (λ (o : LockId → Option PlainLocked). wait_list_at wait_list (o lock)) fresh ∙ go lock
   where
-    go : (l : LockId) → line_at line (fresh_buffers (caps_in locks) l) ≡ []
+    go : (l : LockId) → wait_list_at wait_list (fresh_buffers (caps_in locks) l) ≡ []
     go (Pending d) = refl
-    go (Buffer b) = no_line line (slice_get (caps_in locks) b.0)
+    go (Buffer b) = no_wait_list wait_list (slice_get (caps_in locks) b.0)
 
 -- a machine keeps its one holder
 pub owned_after : (ActsFor Acts : CpuId → Type 0) (opening opening' : LockId → Option (QueueBlock PlainLocked)) → opening' ≡ opening
@@ -159,38 +159,39 @@ pub nothing_under : {A B : Type 0} (r : Option A) (under x : Option B) → IsSom
 nothing_under None under x answered is = absurd cc
 nothing_under (Some a) under x answered is = is
 
--- The talks.
+-- The call states.
 
 -- at the start no thread has an effect
-pub quiet_waits : (t : Tid) → (talk_of (replicate THREADS quiet) t).stage ≢ Between → (talk_of (replicate THREADS quiet) t).effect ≡ None
-quiet_waits t other = ap (λ (x : Talk). x.effect) (alike_at THREADS t.0 quiet)
+pub no_call_waits : (t : Tid) → (call_state_of (replicate THREADS no_call) t).stage ≢ Idle → (call_state_of (replicate THREADS no_call) t).effect ≡ None
+no_call_waits t other = ap (λ (x : CallState). x.effect) (alike_at THREADS t.0 no_call)
 
-talk_here : (talks : List Talk) (t : ℕ) (x : Talk) → t < length talks → get_or (slice_set talks t x) t quiet ≡ x
-talk_here talks t x within = get_or-set_same talks t x quiet within
+call_state_here : (call_states : List CallState) (t : ℕ) (x : CallState) → t < length call_states → get_or (slice_set call_states t x) t no_call ≡ x
+call_state_here call_states t x within = get_or-set_same call_states t x no_call within
 
-talk_there : (talks : List Talk) (t u : ℕ) (x : Talk) → u ≢ t → get_or (slice_set talks t x) u quiet ≡ get_or talks u quiet
-talk_there talks t u x other = get_or-set_other talks t u x quiet other
+call_state_there : (call_states : List CallState) (t u : ℕ) (x : CallState) → u ≢ t
+    → get_or (slice_set call_states t x) u no_call ≡ get_or call_states u no_call
+call_state_there call_states t u x other = get_or-set_other call_states t u x no_call other
 
 -- a thread has an effect only once its call is over
-after_waits : (call : Call) (effect : Option Effect) → (talk_after call effect).stage ≢ Between → (talk_after call effect).effect ≡ None
+after_waits : (call : Call) (effect : Option Effect) → (call_state_after call effect).stage ≢ Idle → (call_state_after call effect).effect ≡ None
 after_waits call None other = refl
 after_waits call (Some f) other = absurd (other refl)
 
-pub set_waits : (talks : List Talk) (t : Tid) (call : Call) (effect : Option Effect) → t.0 < length talks
-    → ((u : Tid) → (talk_of talks u).stage ≢ Between → (talk_of talks u).effect ≡ None)
-    → (u : Tid) → (talk_of (slice_set talks t.0 (talk_after call effect)) u).stage ≢ Between
-    → (talk_of (slice_set talks t.0 (talk_after call effect)) u).effect ≡ None
-set_waits talks t call effect within waits u = go (u.0 == t.0) refl
+pub set_waits : (call_states : List CallState) (t : Tid) (call : Call) (effect : Option Effect) → t.0 < length call_states
+    → ((u : Tid) → (call_state_of call_states u).stage ≢ Idle → (call_state_of call_states u).effect ≡ None)
+    → (u : Tid) → (call_state_of (slice_set call_states t.0 (call_state_after call effect)) u).stage ≢ Idle
+    → (call_state_of (slice_set call_states t.0 (call_state_after call effect)) u).effect ≡ None
+set_waits call_states t call effect within waits u = go (u.0 == t.0) refl
   where
-    P : Talk → Type 0
-    P x = x.stage ≢ Between → x.effect ≡ None
+    P : CallState → Type 0
+    P x = x.stage ≢ Idle → x.effect ≡ None
 
-    go : (b : Bool) → (u.0 == t.0) ≡ b → P (get_or (slice_set talks t.0 (talk_after call effect)) u.0 quiet)
+    go : (b : Bool) → (u.0 == t.0) ≡ b → P (get_or (slice_set call_states t.0 (call_state_after call effect)) u.0 no_call)
     go true same =
         let one : t.0 ≡ u.0 = sym (eqb-true u.0 t.0 same) in
-        subst (λ n. P (get_or (slice_set talks t.0 (talk_after call effect)) n quiet)) one
-        (subst P (sym (talk_here talks t.0 (talk_after call effect) within)) (after_waits call effect))
-    go false other = subst P (sym (talk_there talks t.0 u.0 (talk_after call effect) (eqb-false u.0 t.0 other))) (waits u)
+        subst (λ n. P (get_or (slice_set call_states t.0 (call_state_after call effect)) n no_call)) one
+        (subst P (sym (call_state_here call_states t.0 (call_state_after call effect) within)) (after_waits call effect))
+    go false other = subst P (sym (call_state_there call_states t.0 u.0 (call_state_after call effect) (eqb-false u.0 t.0 other))) (waits u)
 
 -- A poll of a call.
 
@@ -214,7 +215,7 @@ runs_small homes c moves own legal stands room t runs =
 effect_of : (a : Attempt) (x : PlainState) (f : Effect) → effect_in (told a x) ≡ Some f → effect_at a.ask x ≡ f
 effect_of a x f is = go (allows a.ask x) is
   where
-    go : (y : Bool) → effect_in (told_if y a x) ≡ Some f → effect_at a.ask x ≡ f
+    go : (y : Bool) → effect_in (reported_if y a x) ≡ Some f → effect_at a.ask x ≡ f
     go false is = absurd cc
     go true is = ap (λ o. unwrap_or o f) is
 
@@ -228,7 +229,7 @@ effect_kinds t (Close b) x f is =
     ap (λ (e : Effect). group_of e.kind) (sym (effect_of (attempt_of t (Close b)) x f is)) ∙ kind_asked ask.Close x
 
 -- who had no effect sleeps
-slept_current : (out : Tried) (own : Threads) → effect_in out ≡ None → (own_slept (line_by out) own).current ≡ None
+slept_current : (out : Tried) (own : Threads) → effect_in out ≡ None → (own_slept (wait_list_by out) own).current ≡ None
 slept_current (Acted f woke) own none = absurd cc
 slept_current (Refused Receivers) own none = refl
 slept_current (Refused Senders) own none = refl
@@ -269,12 +270,12 @@ module _ (opening : LockId → Option (QueueBlock PlainLocked)) (c : CpuId) (b :
       go (Some state) out = effect_kinds t call state.above f
           (subst (λ e. effect_in (told e state.above) ≡ Some f) is (effect_is (Some state) out ∙ has))
 
-  pub done_kept : left.kept ≡ None
-  done_kept = go done
+  pub done_deferred : left.deferred ≡ None
+  done_deferred = go done
     where
-      go : IsDoneWhole (asked (sleep_kernel attempts opening) c b a) old new own left outcome → left.kept ≡ None
-      go (inl alone) = ap (λ (s : Sleeping Tried). s.kept) alone.leaves
-      go (inr sending) = ap (λ (s : Sleeping Tried). s.kept) sending.leaves
+      go : IsDoneWhole (asked (sleep_kernel attempts opening) c b a) old new own left outcome → left.deferred ≡ None
+      go (inl alone) = ap (λ (s : Sleeping Tried). s.deferred) alone.leaves
+      go (inr sending) = ap (λ (s : Sleeping Tried). s.deferred) sending.leaves
 
   -- the moves grow by this CPU's own
   pub done_moves : (Acts : CpuId → Type 0) → MovesGrow Acts c (moves_in (sleep_kernel attempts opening) old) (moves_in (sleep_kernel attempts opening) new)
@@ -302,12 +303,13 @@ module _ (opening : LockId → Option (QueueBlock PlainLocked)) (c : CpuId) (b :
       }
 
   -- what the call did
-  pub done_called : (Acts : CpuId → Type 0) (t : Tid) (call : Call) (talks now : List Talk) → a ≡ attempt_of t call → b ≡ buffer_of call
-      → t.0 < length talks → MayTalk (talk_of talks t) call
-      → ((u : Tid) → (talk_of talks u).stage ≢ Between → (talk_of talks u).effect ≡ None)
-      → now ≡ slice_set talks t.0 (talk_after call (effect_in outcome.out)) → (answer : Option Reply) → answer ≡ reply_to call (effect_in outcome.out)
-      → Called Acts c t call talks now (entries_in (inner opening) (buffer_sections old)) (entries_in (inner opening) (buffer_sections new)) answer
-  done_called Acts t call talks now attempt at within may waits set answer replies = record {
+  pub done_called : (Acts : CpuId → Type 0) (t : Tid) (call : Call) (call_states now : List CallState) → a ≡ attempt_of t call → b ≡ buffer_of call
+      → t.0 < length call_states → MayPollCall (call_state_of call_states t) call
+      → ((u : Tid) → (call_state_of call_states u).stage ≢ Idle → (call_state_of call_states u).effect ≡ None)
+      → now ≡ slice_set call_states t.0 (call_state_after call (effect_in outcome.out)) → (answer : Option Reply)
+      → answer ≡ reply_to call (effect_in outcome.out)
+      → Called Acts c t call call_states now (entries_in (inner opening) (buffer_sections old)) (entries_in (inner opening) (buffer_sections new)) answer
+  done_called Acts t call call_states now attempt at within may waits set answer replies = record {
     others = [];
     mine = effect_in outcome.out;
     foreign = λ d acts. tt;
@@ -315,24 +317,25 @@ module _ (opening : LockId → Option (QueueBlock PlainLocked)) (c : CpuId) (b :
         (ap (λ (e : Attempt). e.thread) attempt)
         ∙ ap (λ x. option_to_list (option_map (entry_of c t x) (effect_in outcome.out)) ++ entries_in (inner opening) (buffer_sections old)) at;
     fresh = λ f has. (
-      none_before (talk_of talks t) (waits t),
-      ap (λ (x : Talk). x.effect) mine_now
+      none_before (call_state_of call_states t) (waits t),
+      ap (λ (x : CallState). x.effect) mine_now
           ∙ after_effect (effect_in outcome.out) f has,
       done_kind t call attempt f has,
     );
-    stays = λ none. ap (λ (x : Talk). x.effect) mine_now ∙ after_none (effect_in outcome.out) none ∙ sym (none_before (talk_of talks t) (waits t));
+    stays = λ none. ap (λ (x : CallState). x.effect) mine_now ∙ after_none (effect_in outcome.out) none
+        ∙ sym (none_before (call_state_of call_states t) (waits t));
     answers = subst₂ (λ x r. Answered call x r) (sym mine_now) (sym replies) (answered (effect_in outcome.out));
-    apart = λ u other. ap (λ l. talk_of l u) set ∙ talk_there talks t.0 u.0 (talk_after call (effect_in outcome.out)) other;
+    apart = λ u other. ap (λ l. call_state_of l u) set ∙ call_state_there call_states t.0 u.0 (call_state_after call (effect_in outcome.out)) other;
   }
     where
-      mine_now : talk_of now t ≡ talk_after call (effect_in outcome.out)
-      mine_now = ap (λ l. talk_of l t) set ∙ talk_here talks t.0 (talk_after call (effect_in outcome.out)) within
+      mine_now : call_state_of now t ≡ call_state_after call (effect_in outcome.out)
+      mine_now = ap (λ l. call_state_of l t) set ∙ call_state_here call_states t.0 (call_state_after call (effect_in outcome.out)) within
 
-      none_before : (talk : Talk) → (talk.stage ≢ Between → talk.effect ≡ None) → (going talk call).effect ≡ None
-      none_before talk rests = by_stage talk.stage rests
+      none_before : (call_state : CallState) → (call_state.stage ≢ Idle → call_state.effect ≡ None) → (going call_state call).effect ≡ None
+      none_before call_state rests = by_stage call_state.stage rests
         where
-          by_stage : (stage : Stage) → (stage ≢ Between → talk.effect ≡ None) → (going_at stage talk call).effect ≡ None
-          by_stage Between rests = refl
+          by_stage : (stage : Stage) → (stage ≢ Idle → call_state.effect ≡ None) → (going_at stage call_state call).effect ≡ None
+          by_stage Idle rests = refl
           by_stage Acquires rests = rests (λ is. absurd (cc is))
           by_stage Enters rests = rests (λ is. absurd (cc is))
           by_stage Tries rests = rests (λ is. absurd (cc is))
@@ -342,15 +345,15 @@ module _ (opening : LockId → Option (QueueBlock PlainLocked)) (c : CpuId) (b :
           by_stage SignalsOwn rests = rests (λ is. absurd (cc is))
           by_stage Releases rests = rests (λ is. absurd (cc is))
 
-      after_effect : (effect : Option Effect) (f : Effect) → effect ≡ Some f → (talk_after call effect).effect ≡ Some f
+      after_effect : (effect : Option Effect) (f : Effect) → effect ≡ Some f → (call_state_after call effect).effect ≡ Some f
       after_effect None f has = has
       after_effect (Some g) f has = has
 
-      after_none : (effect : Option Effect) → effect ≡ None → (talk_after call effect).effect ≡ None
+      after_none : (effect : Option Effect) → effect ≡ None → (call_state_after call effect).effect ≡ None
       after_none None none = refl
       after_none (Some g) none = none
 
-      answered : (effect : Option Effect) → Answered call (talk_after call effect) (reply_to call effect)
+      answered : (effect : Option Effect) → Answered call (call_state_after call effect) (reply_to call effect)
       answered None = refl
       answered (Some f) = (refl, (f, refl, refl))
 
@@ -370,11 +373,11 @@ module _ (opening : LockId → Option (QueueBlock PlainLocked)) (c : CpuId) (b :
       barred : (k : Call) (x : PlainState) → effect_in (told (attempt_of t k) x) ≡ None → allows (ask_of k) x ≡ false
       barred k x nothing = by (allows (ask_of k) x) nothing
         where
-          by : (y : Bool) → effect_in (told_if y (attempt_of t k) x) ≡ None → y ≡ false
+          by : (y : Bool) → effect_in (reported_if y (attempt_of t k) x) ≡ None → y ≡ false
           by true nothing = absurd (cc nothing)
           by false nothing = refl
 
-      refused : (k : Call) (x : PlainState) → Tally (caps_in (inner opening)) (buffer_of k).0 E x
+      refused : (k : Call) (x : PlainState) → FifoTally (caps_in (inner opening)) (buffer_of k).0 E x
           → effect_in (told (attempt_of t k) x) ≡ None → IsRefused k (caps_in (inner opening)) E
       refused (Send at m) x tally nothing =
           let full = or_parts x.closed (nat_lt (length x.items) x.capacity) (barred (Send at m) x nothing) in (
@@ -399,7 +402,7 @@ module _ (opening : LockId → Option (QueueBlock PlainLocked)) (c : CpuId) (b :
           → IsRefused call (caps_in (inner opening)) (entries_in (inner opening) (buffer_sections old))
       go None is out = absurd cc
       go (Some state) is out = refused call state.above
-          (subst (λ (d : BufId). Tally (caps_in (inner opening)) d.0 E state.above) at
+          (subst (λ (d : BufId). FifoTally (caps_in (inner opening)) d.0 E state.above) at
           (plain_tally (inner opening) (caps_in (inner opening)) (buffer_sections old) fresh b state is))
           (subst (λ e. effect_in (told e state.above) ≡ None) attempt (effect_is (Some state) out ∙ none))
 

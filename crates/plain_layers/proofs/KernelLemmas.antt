@@ -234,8 +234,8 @@ module _ {B : Type 0} (start : Opening B) (lists : Lists B) (cpus : ℕ) (homes 
   pub queue_is_there : (c : CpuId) → c.0 < cpus → IsSome (opening_of start (Pending c))
   queue_is_there c within = subst (λ x. IsSome x) (sym (queue_opens c within)) refl
 
-  pub homes_told : homes_in (opening_of start) ≡ homes
-  homes_told = ap homes_of (queue_opens (record { 0 = 0 }) opens.are.some) ∙ opens.told
+  pub homes_read : homes_in (opening_of start) ≡ homes
+  homes_read = ap homes_of (queue_opens (record { 0 = 0 }) opens.are.some) ∙ opens.told
 
   abbrev nobody : List Tid
   nobody = []
@@ -264,13 +264,13 @@ module _ {B : Type 0} (start : Opening B) (lists : Lists B) (cpus : ℕ) (homes 
       go None = tt
       go (Some block) = tt
 
-  told_above : (o : Option B) → o ≡ above_of (option_map Above o)
-  told_above None = refl
-  told_above (Some block) = refl
+  report_above : (o : Option B) → o ≡ above_of (option_map Above o)
+  report_above None = refl
+  report_above (Some block) = refl
 
   -- each buffer opens with the block in its place
   pub buffer_opens : (b : BufId) → inner (opening_of start) (Buffer b) ≡ slice_get lists.buffers.items b.0
-  buffer_opens b = sym (told_above (slice_get start.lists.value.buffers.items b.0)) ∙ ap (λ (x : Lists B). slice_get x.buffers.items b.0) opens.opened
+  buffer_opens b = sym (report_above (slice_get start.lists.value.buffers.items b.0)) ∙ ap (λ (x : Lists B). slice_get x.buffers.items b.0) opens.opened
 
   -- a machine opens sound
   pub kernel_fresh : {E O : Type 0} (rules : Rules E B O) (mv : MoveRules E O) → IsKernel rules mv start [] lists
@@ -278,11 +278,11 @@ module _ {B : Type 0} (start : Opening B) (lists : Lists B) (cpus : ℕ) (homes 
     starts = record {
       kinds = kinds;
       queues = λ t home is.
-          let at : home_of homes t ≡ Some home = ap (λ l. home_of l t) (sym homes_told) ∙ is in
+          let at : home_of homes t ≡ Some home = ap (λ l. home_of l t) (sym homes_read) ∙ is in
           let within = opens.are.within t.0 home (slice_get_within homes t.0 home at) in
           let known : home.0 < cpus = subst (λ (c : CpuId). c.0 < cpus) (get_or_from_slice_get homes t.0 home home at) within in
           queue_is_there home known;
-      room = subst (λ l. length l ≤ THREADS) (sym homes_told) opens.are.threads;
+      room = subst (λ l. length l ≤ THREADS) (sym homes_read) opens.are.threads;
     };
     lawful = tt;
     known = tt;

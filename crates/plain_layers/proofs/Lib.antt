@@ -2,9 +2,9 @@ pub mod TableLemmas
 pub mod KernelLemmas
 pub mod WholeLemmas
 pub mod FifoLemmas
-pub mod LockPaceLemmas
-pub mod CondPaceLemmas
+pub mod LockSectionLemmas
+pub mod CondSectionLemmas
 pub mod OpeningLemmas
 pub mod PlainOpenings
-pub mod QueuePaceLemmas
+pub mod QueueSectionLemmas
 pub mod TextLemmas

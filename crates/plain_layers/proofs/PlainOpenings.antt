@@ -15,7 +15,7 @@ use Rattle.layer_traits.specs.QueueBlocks.{above_of, inner}
 use Rattle.layer_traits.specs.Renaming.{viewed}
 use Rattle.layer_traits.specs.Capacities.{caps_from}
 use Rattle.layer_traits.proofs.KernelRenaming.{inner_viewed}
-use Rattle.layer_traits.proofs.CapacityLemmas.{caps_told as caps_read}
+use Rattle.layer_traits.proofs.CapacityLemmas.{caps_observed as caps_read}
 use Rattle.sleep_wakeup.specs.declared.edits.SleepBlock.{SleepBlock}
 use Rattle.sleep_wakeup.specs.Nested.{resting, state_of}
 use Rattle.plain_layers.specs.declared.kernel.Opening.{Opening}
@@ -49,14 +49,14 @@ module _ (start : Opening (SleepBlock PlainState)) (caps : List ℕ) (buffers : 
 -- a machine whose locks are those of fresh buffers has their capacities
 module _ (opening : LockId → Option (QueueBlock PlainLocked)) (caps : List ℕ) (fresh : inner opening ≡ fresh_buffers caps)
     (few : length caps ≤ 256) where
-  pub caps_told : caps_in (inner opening) ≡ caps
+  pub caps_observed : caps_in (inner opening) ≡ caps
   unfolding caps_in
-  caps_told =
+  caps_observed =
       let capacity : PlainLocked → ℕ = λ state. state.above.capacity in
       ap (caps_from capacity 256 0) fresh ∙ caps_read capacity fresh_buffer (λ n. refl) caps (fresh_buffers caps) (λ n. refl) 256 few
 
-  pub fresh_told : inner opening ≡ fresh_buffers (caps_in (inner opening))
-  fresh_told = fresh ∙ ap fresh_buffers (sym caps_told)
+  pub fresh_read : inner opening ≡ fresh_buffers (caps_in (inner opening))
+  fresh_read = fresh ∙ ap fresh_buffers (sym caps_observed)
 
   shown_fresh : (o : Option ℕ) → option_map shown (option_map fresh_buffer o) ≡ option_map fresh_lock o
   shown_fresh None = refl
@@ -71,7 +71,7 @@ module _ (opening : LockId → Option (QueueBlock PlainLocked)) (caps : List ℕ
 
   -- and shows the locks of empty buffers
   pub boots_shown : inner (viewed shown opening) ≡ opening_locks (caps_in (inner opening))
-  boots_shown = fun_ext at_lock ∙ ap opening_locks (sym caps_told)
+  boots_shown = fun_ext at_lock ∙ ap opening_locks (sym caps_observed)
 
 -- there is room for so many calls where there is room for twice as many events
 pub half_room : (room events : ℕ) → room * 2 ≤ events → room ≤ events / 2

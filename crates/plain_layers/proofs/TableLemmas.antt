@@ -54,15 +54,15 @@ module _ {B : Type 0} (lock : LockId) where
   slot_within (suc n) (x ∷ rest) at = let below = slot_within n rest at.1 in omega (arith, below)
 
   -- the entry at the slot has the block of the lock
-  pub slot_tells : (n : ℕ) (blocks : List (LockId × B)) (o : LockId × B) → IsSlot lock n blocks → o ≡ get_or blocks n o
+  pub slot_reads : (n : ℕ) (blocks : List (LockId × B)) (o : LockId × B) → IsSlot lock n blocks → o ≡ get_or blocks n o
       → (same_lock o.0 lock ≡ true) × (opened blocks lock ≡ Some o.1)
-  slot_tells n [] o at is = absurd at
-  slot_tells zero (x ∷ rest) o at is = (
+  slot_reads n [] o at is = absurd at
+  slot_reads zero (x ∷ rest) o at is = (
     ap (λ (p : LockId × B). same_lock p.0 lock) is ∙ at,
     ap (λ b. if b then Some x.1 else opened rest lock) at ∙ ap (λ (p : LockId × B). Some p.1) (sym is),
   )
-  slot_tells (suc n) (x ∷ rest) o at is =
-      let tells = slot_tells n rest o at.1 is in
+  slot_reads (suc n) (x ∷ rest) o at is =
+      let tells = slot_reads n rest o at.1 is in
       (tells.0, ap (λ b. if b then Some x.1 else opened rest lock) at.0 ∙ tells.1)
 
   -- with another block at the slot the lock has that one, and each other lock the one that it had
@@ -89,7 +89,7 @@ module _ {B : Type 0} (lock : LockId) where
       → block ≡ f o.1 → (l : LockId)
       → opened (slice_set blocks n (o.0, block)) l ≡ (if same_lock l lock then option_map f (opened blocks l) else opened blocks l)
   slot_edited f n blocks o block at is edits l =
-      let tells = slot_tells n blocks o at is in
+      let tells = slot_reads n blocks o at is in
       slot_set n blocks (o.0, block) at tells.0 l ∙ go tells.1 (same_lock l lock) refl
     where
       go : opened blocks lock ≡ Some o.1 → (b : Bool) → same_lock l lock ≡ b

@@ -9,11 +9,11 @@ use Rattle.thread_blocks.specs.Queues.{first, rest}
 use Rattle.layer_traits.specs.declared.calls.Effect.{Effect}
 use Rattle.layer_traits.specs.declared.locked.Side.{Side}
 use Rattle.layer_traits.specs.declared.locked.Side.TheVariants.{Receivers, Senders}
-use Rattle.layer_traits.specs.declared.moves.Line.{Line}
-use Rattle.layer_traits.specs.declared.sleeps.Leave.{Leave}
-use Rattle.layer_traits.specs.declared.sleeps.Leave.TheVariants as leave
+use Rattle.layer_traits.specs.declared.moves.WaitList.{WaitList}
+use Rattle.layer_traits.specs.declared.sleeps.Wake.{Wake}
+use Rattle.layer_traits.specs.declared.sleeps.Wake.TheVariants as leave
 use Rattle.layer_traits.specs.BufferBlocks.{counted, first_item, items_put, other_items}
-use Rattle.layer_traits.specs.Locking.{line_for}
+use Rattle.layer_traits.specs.Locking.{wait_list_for}
 use Rattle.layer_traits.specs.Sleeping.{SleepRules, joined}
 use Rattle.plain_layers.specs.declared.attempts.Ask.{Ask}
 use Rattle.plain_layers.specs.declared.attempts.Ask.TheVariants.{Send, Receive, Close}
@@ -54,10 +54,10 @@ waiting_on Receivers x = x.receivers
 waiting_on Senders x = x.senders
 
 -- the side of a call; who closes stands with the receivers, whom a close lets go first
-abbrev pub side_of : Ask → Side
-side_of (Send m) = Senders
-side_of Receive = Receivers
-side_of Close = Receivers
+abbrev pub attempt_side : Ask → Side
+attempt_side (Send m) = Senders
+attempt_side Receive = Receivers
+attempt_side Close = Receivers
 
 abbrev pub far_side : Side → Side
 far_side Receivers = Senders
@@ -89,35 +89,35 @@ abbrev pub waking_by : Bool → Side → PlainState → Side
 waking_by closed own x = if closed && is_some (first (waiting_on own x)) then own else far_side own
 
 abbrev pub waking : Ask → PlainState → Side
-waking ask x = waking_by (closed_after ask x) (side_of ask) x
+waking ask x = waking_by (closed_after ask x) (attempt_side ask) x
 
 -- who leaves, where this one of a side is woken
-abbrev pub leaving : Side → Option Tid → Leave
+abbrev pub leaving : Side → Option Tid → Wake
 leaving side None = leave.Nobody
 leaving Receivers (Some t) = leave.Receiver t
 leaving Senders (Some t) = leave.Sender t
 
 -- who is woken by the effect of a call
-abbrev pub wakes : Ask → PlainState → Leave
+abbrev pub wakes : Ask → PlainState → Wake
 wakes ask x = leaving (waking ask x) (first (waiting_on (waking ask x) x))
 
 -- who waits on a side once the first of a side was woken
-abbrev pub line_left : Side → Side → List Tid → List Tid
-line_left Receivers Receivers queue = rest queue
-line_left Receivers Senders queue = queue
-line_left Senders Receivers queue = queue
-line_left Senders Senders queue = rest queue
+abbrev pub wait_list_left : Side → Side → List Tid → List Tid
+wait_list_left Receivers Receivers queue = rest queue
+wait_list_left Receivers Senders queue = queue
+wait_list_left Senders Receivers queue = queue
+wait_list_left Senders Senders queue = rest queue
 
 -- the buffer once the first of this side was woken
-abbrev pub woken : Side → PlainState → PlainState
-woken side x = record x { receivers = line_left Receivers side x.receivers; senders = line_left Senders side x.senders }
+abbrev pub attempt_woken : Side → PlainState → PlainState
+attempt_woken side x = record x { receivers = wait_list_left Receivers side x.receivers; senders = wait_list_left Senders side x.senders }
 
 -- the buffer after the effect of a call
 abbrev pub done : Ask → PlainState → PlainState
 done (Send m) x =
-    record (woken (waking (Send m) x) x) { items = items_put x.closed m x.items; effects = counted x.effects; sends = counted x.sends }
-done Receive x = record (woken (waking Receive x) x) { items = other_items x.items; effects = counted x.effects; receives = counted x.receives }
-done Close x = record (woken (waking Close x) x) { closed = true; effects = counted x.effects; closes = counted x.closes }
+    record (attempt_woken (waking (Send m) x) x) { items = items_put x.closed m x.items; effects = counted x.effects; sends = counted x.sends }
+done Receive x = record (attempt_woken (waking Receive x) x) { items = other_items x.items; effects = counted x.effects; receives = counted x.receives }
+done Close x = record (attempt_woken (waking Close x) x) { closed = true; effects = counted x.effects; closes = counted x.closes }
 
 -- the buffer once this thread waits on a side
 abbrev pub waits : Tid → Side → PlainState → PlainState
@@ -126,11 +126,11 @@ waits t Receivers x = record x { receivers = joined t x.receivers }
 
 -- the buffer after an attempt
 abbrev pub attempted : Attempt → PlainState → PlainState
-attempted a x = if allows a.ask x then done a.ask x else waits a.thread (side_of a.ask) x
+attempted a x = if allows a.ask x then done a.ask x else waits a.thread (attempt_side a.ask) x
 
 -- what an attempt answers
 abbrev pub told : Attempt → PlainState → Tried
-told a x = if allows a.ask x then Acted (effect_at a.ask x) (wakes a.ask x) else Refused (side_of a.ask)
+told a x = if allows a.ask x then Acted (effect_at a.ask x) (wakes a.ask x) else Refused (attempt_side a.ask)
 
 -- the effect of an attempt that answered this, if it had one
 abbrev pub effect_in : Tried → Option Effect
@@ -138,14 +138,14 @@ effect_in (Acted effect woke) = Some effect
 effect_in (Refused side) = None
 
 -- which list its caller joins
-abbrev pub line_by : Tried → Option Line
-line_by (Acted effect woke) = None
-line_by (Refused side) = line_for (Some side)
+abbrev pub wait_list_by : Tried → Option WaitList
+wait_list_by (Acted effect woke) = None
+wait_list_by (Refused side) = wait_list_for (Some side)
 
 -- who leaves one
-abbrev pub left_by : Tried → Leave
-left_by (Acted effect woke) = woke
-left_by (Refused side) = leave.Nobody
+abbrev pub attempt_left_by : Tried → Wake
+attempt_left_by (Acted effect woke) = woke
+attempt_left_by (Refused side) = leave.Nobody
 
 -- attempts as sections that put to sleep and wake
 abbrev pub attempts : SleepRules Attempt PlainState Tried
@@ -153,7 +153,7 @@ attempts = record {
   caller = λ a. a.thread;
   edited = λ a front x. attempted a x;
   answer = λ a front x. told a x;
-  joins = line_by;
-  leaves = left_by;
+  joins = wait_list_by;
+  leaves = attempt_left_by;
   allowed = λ opening past s. Unit {0};
 }

@@ -8,20 +8,20 @@ use Rattle.event_log.specs.declared.ids.LockId.TheVariants.{Pending, Buffer}
 use Rattle.event_log.specs.declared.ids.Tid.{Tid}
 use Rattle.event_log.specs.History.{same_lock}
 use Rattle.event_log.specs.Sections.{Section}
-use Rattle.layer_traits.specs.declared.moves.Line.{Line}
+use Rattle.layer_traits.specs.declared.moves.WaitList.{WaitList}
 use Rattle.layer_traits.specs.declared.queue_edits.QueueBlock.{QueueBlock}
 use Rattle.layer_traits.specs.declared.queues.QueueEvent.{QueueEvent}
-use Rattle.layer_traits.specs.IpcLaw.{LinesAgree}
+use Rattle.layer_traits.specs.IpcLaw.{WaitListsAgree}
 use Rattle.layer_traits.specs.ListsAgree.{ListsAgree, is_at}
-use Rattle.layer_traits.specs.Places.{Asleep, At, count_in, one_if, berth_of, where_is}
+use Rattle.layer_traits.specs.Places.{Asleep, At, count_in, one_if, wait_channel_of, where_is}
 use Rattle.layer_traits.specs.QueueBlocks.{homes_in, inner}
 use Rattle.layer_traits.specs.Queues.{buffer_sections, moves_in}
-use Rattle.layer_traits.specs.Sleeping.{line_at, sleep_edited}
+use Rattle.layer_traits.specs.Sleeping.{wait_list_at, sleep_edited}
 use Rattle.layer_traits.specs.SleepLaw.{sleep_kernel}
-use Rattle.layer_traits.proofs.ListsLemmas.{berth_here}
+use Rattle.layer_traits.proofs.ListsLemmas.{wait_channel_here}
 use Rattle.plain_layers.specs.declared.attempts.Attempt.{Attempt}
 use Rattle.plain_layers.specs.Attempts.{attempts}
-use Rattle.plain_layers.specs.Fifos.{PlainLocked, caps_in, fresh_buffer, fresh_buffers, lines_in, locked_after}
+use Rattle.plain_layers.specs.Fifos.{PlainLocked, caps_in, fresh_buffer, fresh_buffers, wait_lists_in, locked_after}
 
 -- a lock that is there after some sections was there at the start
 none_after : (s : Section Attempt) (x : Option PlainLocked) (b : Bool) → x ≡ None → (if b then option_map (sleep_edited attempts s.edit) x else x) ≡ None
@@ -43,16 +43,16 @@ only_buffers caps (Buffer b) = go (slice_get caps b.0) refl
     go (Some n) is = inr (b, refl, slice_get_within caps b.0 n is)
 
 -- the waiting lists of the buffers agree with the places
-pub plain_lines : (opening : LockId → Option (QueueBlock PlainLocked)) (past : List (QueueEvent Attempt))
+pub plain_wait_lists : (opening : LockId → Option (QueueBlock PlainLocked)) (past : List (QueueEvent Attempt))
     → inner opening ≡ fresh_buffers (caps_in (inner opening)) → ListsAgree attempts opening past
-    → LinesAgree (length (caps_in (inner opening))) (homes_in opening) (moves_in (sleep_kernel attempts opening) past)
-    (lines_in (inner opening) (buffer_sections past))
-plain_lines opening past fresh agree = record {
+    → WaitListsAgree (length (caps_in (inner opening))) (homes_in opening) (moves_in (sleep_kernel attempts opening) past)
+    (wait_lists_in (inner opening) (buffer_sections past))
+plain_wait_lists opening past fresh agree = record {
   once = λ b line t there. agree (Buffer b) line t;
   known = λ t lock line is. go t lock line is (only_buffers (caps_in (inner opening)) lock);
 }
   where
-    go : (t : Tid) (lock : LockId) (line : Line) → where_is (homes_in opening) (moves_in (sleep_kernel attempts opening) past) t ≡ Asleep (At lock line)
+    go : (t : Tid) (lock : LockId) (line : WaitList) → where_is (homes_in opening) (moves_in (sleep_kernel attempts opening) past) t ≡ Asleep (At lock line)
         → (fresh_buffers (caps_in (inner opening)) lock ≡ None) ⊎ ((b : BufId) × (lock ≡ Buffer b) × (b.0 < length (caps_in (inner opening))))
         → (b : BufId) × (lock ≡ Buffer b) × (b.0 < length (caps_in (inner opening)))
     go t lock line is (inr found) = found
@@ -60,6 +60,6 @@ plain_lines opening past fresh agree = record {
         let gone : locked_after (inner opening) lock (buffer_sections past) ≡ None
         = was_there (inner opening) (buffer_sections past) lock (ap (λ locks. locks lock) fresh ∙ none) in
         let count : 0 ≡ 1
-        = sym (ap (λ x. count_in t (line_at line x)) gone) ∙ agree lock line t ∙ ap (λ w. one_if (is_at lock line (berth_of w))) is
-        ∙ ap one_if (berth_here lock line) in
+        = sym (ap (λ x. count_in t (wait_list_at line x)) gone) ∙ agree lock line t ∙ ap (λ w. one_if (is_at lock line (wait_channel_of w))) is
+        ∙ ap one_if (wait_channel_here lock line) in
         absurd (omega (arith, count))

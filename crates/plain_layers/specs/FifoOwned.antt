@@ -16,23 +16,23 @@ use Rattle.event_log.specs.Messages.{Message}
 use Rattle.event_log.specs.Runs.{is_closed}
 use Rattle.event_log.specs.Sections.{Section}
 use Rattle.layer_traits.specs.declared.calls.Effect.{Effect}
-use Rattle.layer_traits.specs.declared.moves.Line.{Line}
+use Rattle.layer_traits.specs.declared.moves.WaitList.{WaitList}
 use Rattle.layer_traits.specs.declared.queue_edits.QueueBlock.{QueueBlock}
 use Rattle.layer_traits.specs.declared.queues.QueueCall.{QueueCall}
 use Rattle.layer_traits.specs.declared.queues.QueueCall.TheVariants.{Push, TakeAll, OnBuffer}
 use Rattle.layer_traits.specs.declared.queues.QueueEvent.{QueueEvent}
 use Rattle.layer_traits.specs.BufferEffects.{contents_of}
 use Rattle.layer_traits.specs.BufferLaw.{entry_of}
-use Rattle.layer_traits.specs.Owned.{IsShown}
+use Rattle.layer_traits.specs.Owned.{IsObserved}
 use Rattle.layer_traits.specs.QueueBlocks.{above_of, inner}
 use Rattle.layer_traits.specs.Queues.{IsKnownEvent, buffer_sections, with_section}
-use Rattle.layer_traits.specs.Sleeping.{line_at, sleep_edited}
-use Rattle.layer_traits.specs.Told.{IsTold}
+use Rattle.layer_traits.specs.Sleeping.{wait_list_at, sleep_edited}
+use Rattle.layer_traits.specs.Observed.{IsObservedAs}
 use Rattle.layer_traits.proofs.Alone.{block_there}
-use Rattle.layer_traits.proofs.OwnedLemmas.{shown_under, told_shown, viewed_shown}
+use Rattle.layer_traits.proofs.OwnedLemmas.{shown_under, observed_as, viewed_shown}
 use Rattle.plain_layers.specs.declared.attempts.Attempt.{Attempt}
 use Rattle.plain_layers.specs.Attempts.{attempts}
-use Rattle.plain_layers.specs.Fifos.{PlainLocked, caps_in, effect_by, entries_in, fresh_buffer, fresh_buffers, lines_in, locked_after}
+use Rattle.plain_layers.specs.Fifos.{PlainLocked, caps_in, effect_by, entries_in, fresh_buffer, fresh_buffers, wait_lists_in, locked_after}
 use Rattle.plain_layers.specs.FifoTallies.{plain_tally}
 
 -- the items of a lock's buffer, whether it is closed, and its waiting lists
@@ -42,8 +42,8 @@ items_in state = state.above.items
 abbrev pub closed_of : PlainLocked → Bool
 closed_of state = state.above.closed
 
-abbrev pub lines_of : PlainLocked → Line → List Tid
-lines_of state line = line_at line (Some state)
+abbrev pub wait_lists_of : PlainLocked → WaitList → List Tid
+wait_lists_of state line = wait_list_at line (Some state)
 
 -- a block that is seen is there
 pub there_viewed : {A B : Type 0} (view : A → B) (o : Option A) → IsSome (option_map view o) → IsSome o
@@ -75,56 +75,56 @@ module _ (opening : LockId → Option (QueueBlock PlainLocked)) (fresh : inner o
       go (Some state) is some = (state, is)
 
   -- its items are those that the effects leave
-  pub items_told : (past : List (Section Attempt)) → option_map items_in (locked_after (inner opening) (Buffer b) past)
+  pub items_read : (past : List (Section Attempt)) → option_map items_in (locked_after (inner opening) (Buffer b) past)
       ≡ Some (items_of (contents_of (caps_in (inner opening)) (entries_in (inner opening) past)) b.0)
-  items_told past =
+  items_read past =
       let state = found past in
       ap (option_map items_in) state.1
       ∙ ap Some (sym (plain_tally (inner opening) (caps_in (inner opening)) past fresh b state.0 state.1).items)
 
   -- it is closed where an effect has closed it
-  pub closed_told : (past : List (Section Attempt)) → option_map closed_of (locked_after (inner opening) (Buffer b) past)
+  pub closed_read : (past : List (Section Attempt)) → option_map closed_of (locked_after (inner opening) (Buffer b) past)
       ≡ Some (is_closed (entries_in (inner opening) past) b.0)
-  closed_told past =
+  closed_read past =
       let state = found past in
       ap (option_map closed_of) state.1
       ∙ ap Some (sym (plain_tally (inner opening) (caps_in (inner opening)) past fresh b state.0 state.1).closed)
 
-  pub lines_told : (past : List (Section Attempt)) → option_map lines_of (locked_after (inner opening) (Buffer b) past)
-      ≡ Some (λ (line : Line). lines_in (inner opening) past b line)
-  lines_told past =
+  pub wait_lists_read : (past : List (Section Attempt)) → option_map wait_lists_of (locked_after (inner opening) (Buffer b) past)
+      ≡ Some (λ (line : WaitList). wait_lists_in (inner opening) past b line)
+  wait_lists_read past =
       let state = found past in
-      ap (option_map lines_of) state.1 ∙ ap (λ o. Some (λ (line : Line). line_at line o)) (sym state.1)
+      ap (option_map wait_lists_of) state.1 ∙ ap (λ o. Some (λ (line : WaitList). wait_list_at line o)) (sym state.1)
 
 -- what is told beneath of a lock is told here of a view of it
 module _ {P Q : Type 0} (below : Q → P) (FitsP : P → Type 0) (FitsQ : Q → Type 0) (cpu_below : P → CpuId)
     (InsideP InsideQ : CpuId → Type 0) (fits : (q : Q) → FitsQ q → FitsP (below q)) (inside : (c : CpuId) → InsideP c → InsideQ c) where
-  pub view_told : {A : Type 0} (lock : Option PlainLocked) (view : PlainLocked → A) (tells : P → Option PlainLocked) (home : Option PlainLocked) (x : A)
-      → option_map view lock ≡ Some x → IsShown FitsP cpu_below InsideP tells home lock
-      → IsTold FitsQ (λ q. cpu_below (below q)) InsideQ (λ q. option_map view (tells (below q))) (option_map view home) x
-  view_told lock view tells home x is shown =
-      told_shown FitsQ (λ q. cpu_below (below q)) InsideQ (λ q. option_map view (tells (below q))) (option_map view home) (option_map view lock) x is
+  pub view_read : {A : Type 0} (lock : Option PlainLocked) (view : PlainLocked → A) (tells : P → Option PlainLocked) (home : Option PlainLocked) (x : A)
+      → option_map view lock ≡ Some x → IsObserved FitsP cpu_below InsideP tells home lock
+      → IsObservedAs FitsQ (λ q. cpu_below (below q)) InsideQ (λ q. option_map view (tells (below q))) (option_map view home) x
+  view_read lock view tells home x is shown =
+      observed_as FitsQ (λ q. cpu_below (below q)) InsideQ (λ q. option_map view (tells (below q))) (option_map view home) (option_map view lock) x is
       (viewed_shown view FitsQ (λ q. cpu_below (below q)) InsideQ (λ q. tells (below q)) home lock (option_map view lock) refl
       (shown_under below FitsP FitsQ cpu_below (λ q. cpu_below (below q)) InsideP InsideQ tells home lock fits (λ q fit. refl) inside shown))
 
   -- and of a pending queue what is told beneath
-  pub pending_told : (tells : P → Option (List Tid)) (home : Option (List Tid)) (queue : List Tid)
-      → IsShown FitsP cpu_below InsideP tells home (Some queue)
-      → IsTold FitsQ (λ q. cpu_below (below q)) InsideQ (λ q. tells (below q)) home queue
-  pending_told tells home queue shown =
-      told_shown FitsQ (λ q. cpu_below (below q)) InsideQ (λ q. tells (below q)) home (Some queue) queue refl
+  pub pending_read : (tells : P → Option (List Tid)) (home : Option (List Tid)) (queue : List Tid)
+      → IsObserved FitsP cpu_below InsideP tells home (Some queue)
+      → IsObservedAs FitsQ (λ q. cpu_below (below q)) InsideQ (λ q. tells (below q)) home queue
+  pending_read tells home queue shown =
+      observed_as FitsQ (λ q. cpu_below (below q)) InsideQ (λ q. tells (below q)) home (Some queue) queue refl
       (shown_under below FitsP FitsQ cpu_below (λ q. cpu_below (below q)) InsideP InsideQ tells home (Some queue) fits (λ q fit. refl) inside shown)
 
 abbrev pub nobody : Option Tid
 nobody = None
 
 -- a part tells no owner
-abbrev pub nothing_told : Option (Option Tid)
-nothing_told = None
+abbrev pub nothing_read : Option (Option Tid)
+nothing_read = None
 
 -- nobody owns a lock of buffers in one section a call, and the machine tells it
 pub nobody_owns : {P : Type 0} (Fits : P → Type 0) (cpu_of : P → CpuId) (IsInside : CpuId → Type 0)
-    → IsTold Fits cpu_of IsInside (λ p. nothing_told) (Some nobody) nobody
+    → IsObservedAs Fits cpu_of IsInside (λ p. nothing_read) (Some nobody) nobody
 nobody_owns Fits cpu_of IsInside = record {
   by_machine = λ x is. same_Some x nobody (sym is);
   by_part = λ p x fits is. absurd cc;

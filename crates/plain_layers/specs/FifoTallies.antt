@@ -32,7 +32,7 @@ use Rattle.plain_layers.specs.declared.attempts.Ask.TheVariants.{Send, Receive, 
 use Rattle.plain_layers.specs.declared.attempts.Attempt.{Attempt}
 use Rattle.plain_layers.specs.declared.attempts.Tried.{Tried}
 use Rattle.plain_layers.specs.declared.attempts.Tried.TheVariants.{Acted, Refused}
-use Rattle.plain_layers.specs.Attempts.{PlainState, allows, attempted, attempts, done, effect_at, effect_in, empty_buffer, side_of, told, waits, wakes}
+use Rattle.plain_layers.specs.Attempts.{PlainState, allows, attempted, attempts, done, effect_at, effect_in, empty_buffer, attempt_side, told, waits, wakes}
 use Rattle.plain_layers.specs.Fifos.{PlainLocked, effect_by, entries_in, entry_at, fresh_buffer, fresh_buffers, locked_after}
 
 -- how many effects of a group a buffer had, modulo 2^64
@@ -42,7 +42,7 @@ counter Receives x = x.receives
 counter Closes x = x.closes
 
 -- a buffer tells its effects: the items are what they leave, it is closed where one has closed it, and the counters are their numbers
-pub record Tally (caps : List ℕ) (b : ℕ) (es : List Entry) (x : PlainState) : Type 0 where
+pub record FifoTally (caps : List ℕ) (b : ℕ) (es : List Entry) (x : PlainState) : Type 0 where
   pub known : b < length caps
   pub wide : length (contents_of caps es) ≡ length caps
   pub items : items_of (contents_of caps es) b ≡ x.items
@@ -157,7 +157,7 @@ counter_waits t Receivers Closes x = refl
 
 module _ (caps : List ℕ) (b : ℕ) (es : List Entry) where
   -- an effect on another buffer
-  elsewhere : (e : Entry) → (e.buffer.0 == b) ≡ false → (x : PlainState) → Tally caps b es x → Tally caps b (e ∷ es) x
+  elsewhere : (e : Entry) → (e.buffer.0 == b) ≡ false → (x : PlainState) → FifoTally caps b es x → FifoTally caps b (e ∷ es) x
   elsewhere e other x tally =
       let count : count_of (e ∷ es) b ≡ count_of es b
       = count_cons e es b ∙ ap (λ (v : Bool). (if v then 1 else 0) + count_of es b) other ∙ omega arith in
@@ -174,7 +174,7 @@ module _ (caps : List ℕ) (b : ℕ) (es : List Entry) where
       }
 
   -- a thread waits
-  waiting : (t : Tid) (side : Side) (x : PlainState) → Tally caps b es x → Tally caps b es (waits t side x)
+  waiting : (t : Tid) (side : Side) (x : PlainState) → FifoTally caps b es x → FifoTally caps b es (waits t side x)
   waiting t Senders x tally = record {
     known = tally.known;
     wide = tally.wide;
@@ -194,7 +194,7 @@ module _ (caps : List ℕ) (b : ℕ) (es : List Entry) where
     counts = λ k. counter_waits t Receivers (group_of k) x ∙ tally.counts k;
   }
 
-module _ (caps : List ℕ) (es : List Entry) (c : CpuId) (t : Tid) (d : BufId) (ask : Ask) (x : PlainState) (tally : Tally caps d.0 es x) where
+module _ (caps : List ℕ) (es : List Entry) (c : CpuId) (t : Tid) (d : BufId) (ask : Ask) (x : PlainState) (tally : FifoTally caps d.0 es x) where
   -- an effect that the buffer allows may come
   may : allows ask x ≡ true → MayTakeEffect caps es (entry_of c t d (effect_at ask x))
   may is = record {
@@ -216,7 +216,7 @@ module _ (caps : List ℕ) (es : List Entry) (c : CpuId) (t : Tid) (d : BufId) (
       ∙ ap (λ g. (if same_group g (group_of k) then 1 else 0) + count_of_kind es d.0 k) (kind_asked ask x)
 
   -- and the buffer tells the effects with it
-  tallied : Tally caps d.0 (entry_of c t d (effect_at ask x) ∷ es) (done ask x)
+  tallied : FifoTally caps d.0 (entry_of c t d (effect_at ask x) ∷ es) (done ask x)
   tallied = record {
     known = tally.known;
     wide = length-set (contents_of caps es) d.0 _ ∙ tally.wide;
@@ -247,24 +247,24 @@ abbrev effect_if : Bool → Attempt → PlainState → Option Effect
 effect_if v a x = if v then Some (effect_at a.ask x) else None
 
 abbrev state_if : Bool → Attempt → PlainState → PlainState
-state_if v a x = if v then done a.ask x else waits a.thread (side_of a.ask) x
+state_if v a x = if v then done a.ask x else waits a.thread (attempt_side a.ask) x
 
 -- what an attempt answers that the buffer allows, or does not
-abbrev pub told_if : Bool → Attempt → PlainState → Tried
-told_if v a x = if v then Acted (effect_at a.ask x) (wakes a.ask x) else Refused (side_of a.ask)
+abbrev pub reported_if : Bool → Attempt → PlainState → Tried
+reported_if v a x = if v then Acted (effect_at a.ask x) (wakes a.ask x) else Refused (attempt_side a.ask)
 
-effect_told : (a : Attempt) (x : PlainState) → effect_in (told a x) ≡ effect_if (allows a.ask x) a x
-effect_told a x = go (allows a.ask x)
+effect_reported : (a : Attempt) (x : PlainState) → effect_in (told a x) ≡ effect_if (allows a.ask x) a x
+effect_reported a x = go (allows a.ask x)
   where
-    go : (v : Bool) → effect_in (told_if v a x) ≡ effect_if v a x
+    go : (v : Bool) → effect_in (reported_if v a x) ≡ effect_if v a x
     go true = refl
     go false = refl
 
 -- so with a section at this buffer
-here_step : (caps : List ℕ) (es : List Entry) (c : CpuId) (d : BufId) (a : Attempt) (x : PlainState) (v : Bool) → allows a.ask x ≡ v → Tally caps d.0 es x
+here_step : (caps : List ℕ) (es : List Entry) (c : CpuId) (d : BufId) (a : Attempt) (x : PlainState) (v : Bool) → allows a.ask x ≡ v → FifoTally caps d.0 es x
     → ((e : Entry) → option_map (entry_of c a.thread d) (effect_if v a x) ≡ Some e → MayTakeEffect caps es e)
-    × Tally caps d.0 (option_to_list (option_map (entry_of c a.thread d) (effect_if v a x)) ++ es) (state_if v a x)
-here_step caps es c d a x false is tally = (λ e none. absurd (cc none), waiting caps d.0 es a.thread (side_of a.ask) x tally)
+    × FifoTally caps d.0 (option_to_list (option_map (entry_of c a.thread d) (effect_if v a x)) ++ es) (state_if v a x)
+here_step caps es c d a x false is tally = (λ e none. absurd (cc none), waiting caps d.0 es a.thread (attempt_side a.ask) x tally)
 here_step caps es c d a x true is tally = (
   λ e some. subst (MayTakeEffect caps es) (just (entry_of c a.thread d (effect_at a.ask x)) e some) (may caps es c a.thread d a.ask x tally is),
   tallied caps es c a.thread d a.ask x tally,
@@ -283,12 +283,12 @@ none_counted n kind.Close = refl
 none_counted n kind.SendClosed = refl
 none_counted n kind.RecvClosed = refl
 
-start_told : (caps : List ℕ) (b : BufId) (o : Option ℕ) (state : PlainLocked) → slice_get caps b.0 ≡ o → option_map fresh_buffer o ≡ Some state
-    → Tally caps b.0 [] state.above
-start_told caps b None state is at = absurd cc
-start_told caps b (Some n) state is at =
+start_observed : (caps : List ℕ) (b : BufId) (o : Option ℕ) (state : PlainLocked) → slice_get caps b.0 ≡ o → option_map fresh_buffer o ≡ Some state
+    → FifoTally caps b.0 [] state.above
+start_observed caps b None state is at = absurd cc
+start_observed caps b (Some n) state is at =
     let same : fresh_buffer n ≡ state = cc in
-    subst (λ (s : PlainLocked). Tally caps b.0 [] s.above) same (record {
+    subst (λ (s : PlainLocked). FifoTally caps b.0 [] s.above) same (record {
       known = slice_get_within caps b.0 n is;
       wide = length-map caps (λ (m : ℕ). no_items);
       items = items_none caps b.0;
@@ -300,40 +300,40 @@ start_told caps b (Some n) state is at =
 
 module _ (caps : List ℕ) where
   -- each buffer tells the effects of these sections
-  abbrev Told : List (Section Attempt) → Type 0
-  Told past = (b : BufId) (state : PlainLocked) → locked_after (fresh_buffers caps) (Buffer b) past ≡ Some state
-      → Tally caps b.0 (entries_in (fresh_buffers caps) past) state.above
+  abbrev Observed : List (Section Attempt) → Type 0
+  Observed past = (b : BufId) (state : PlainLocked) → locked_after (fresh_buffers caps) (Buffer b) past ≡ Some state
+      → FifoTally caps b.0 (entries_in (fresh_buffers caps) past) state.above
 
   add : (es : List Entry) (o : Option Entry) → ((e : Entry) → o ≡ Some e → MayTakeEffect caps es e) → IsLawful (MayTakeEffect caps) es
       → IsLawful (MayTakeEffect caps) (option_to_list o ++ es)
   add es None may lawful = lawful
   add es (Some e) may lawful = (may e refl, lawful)
 
-  lawful_step : (c : CpuId) (lock : LockId) (a : Attempt) (past : List (Section Attempt)) → Told past
+  lawful_step : (c : CpuId) (lock : LockId) (a : Attempt) (past : List (Section Attempt)) → Observed past
       → IsLawful (MayTakeEffect caps) (entries_in (fresh_buffers caps) past)
       → IsLawful (MayTakeEffect caps) (option_to_list (entry_at c lock a (locked_after (fresh_buffers caps) lock past)) ++ entries_in (fresh_buffers caps) past)
   lawful_step c (Pending d) a past tells lawful = lawful
   lawful_step c (Buffer d) a past tells lawful = go (locked_after (fresh_buffers caps) (Buffer d) past) (tells d)
     where
-      go : (x : Option PlainLocked) → ((state : PlainLocked) → x ≡ Some state → Tally caps d.0 (entries_in (fresh_buffers caps) past) state.above)
+      go : (x : Option PlainLocked) → ((state : PlainLocked) → x ≡ Some state → FifoTally caps d.0 (entries_in (fresh_buffers caps) past) state.above)
           → IsLawful (MayTakeEffect caps) (option_to_list (entry_at c (Buffer d) a x) ++ entries_in (fresh_buffers caps) past)
       go None tells = lawful
       go (Some state) tells =
           subst (λ o. IsLawful (MayTakeEffect caps) (option_to_list (option_map (entry_of c a.thread d) o) ++ entries_in (fresh_buffers caps) past))
-          (sym (effect_told a state.above))
+          (sym (effect_reported a state.above))
           (add (entries_in (fresh_buffers caps) past) (option_map (entry_of c a.thread d) (effect_if (allows a.ask state.above) a state.above))
           (here_step caps (entries_in (fresh_buffers caps) past) c d a state.above (allows a.ask state.above) refl (tells state refl)).0 lawful)
 
-  other_effect : (b : ℕ) (es : List Entry) (c : CpuId) (t : Tid) (d : BufId) (o : Option Effect) (x : PlainState) → (d.0 == b) ≡ false → Tally caps b es x
-      → Tally caps b (option_to_list (option_map (entry_of c t d) o) ++ es) x
+  other_effect : (b : ℕ) (es : List Entry) (c : CpuId) (t : Tid) (d : BufId) (o : Option Effect) (x : PlainState) → (d.0 == b) ≡ false → FifoTally caps b es x
+      → FifoTally caps b (option_to_list (option_map (entry_of c t d) o) ++ es) x
   other_effect b es c t d None x other tally = tally
   other_effect b es c t d (Some f) x other tally = elsewhere caps b es (entry_of c t d f) other x tally
 
-  told_step : (c : CpuId) (lock : LockId) (a : Attempt) (past : List (Section Attempt)) → Told past → (b : BufId) (state : PlainLocked)
+  observed_step : (c : CpuId) (lock : LockId) (a : Attempt) (past : List (Section Attempt)) → Observed past → (b : BufId) (state : PlainLocked)
       → locked_after (fresh_buffers caps) (Buffer b) (record { cpu = c; lock = lock; edit = a } ∷ past) ≡ Some state
-      → Tally caps b.0 (option_to_list (entry_at c lock a (locked_after (fresh_buffers caps) lock past)) ++ entries_in (fresh_buffers caps) past) state.above
-  told_step c (Pending d) a past tells b state at = tells b state at
-  told_step c (Buffer d) a past tells b state at = go (b.0 == d.0) refl at
+      → FifoTally caps b.0 (option_to_list (entry_at c lock a (locked_after (fresh_buffers caps) lock past)) ++ entries_in (fresh_buffers caps) past) state.above
+  observed_step c (Pending d) a past tells b state at = tells b state at
+  observed_step c (Buffer d) a past tells b state at = go (b.0 == d.0) refl at
     where
       O : LockId → Option PlainLocked
       O = fresh_buffers caps
@@ -341,23 +341,23 @@ module _ (caps : List ℕ) where
       es : List Entry
       es = entries_in (fresh_buffers caps) past
 
-      edited : (x : Option PlainLocked) → ((y : PlainLocked) → x ≡ Some y → Tally caps d.0 (entries_in (fresh_buffers caps) past) y.above)
+      edited : (x : Option PlainLocked) → ((y : PlainLocked) → x ≡ Some y → FifoTally caps d.0 (entries_in (fresh_buffers caps) past) y.above)
           → option_map (sleep_edited attempts a) x ≡ Some state
-          → Tally caps d.0 (option_to_list (entry_at c (Buffer d) a x) ++ entries_in (fresh_buffers caps) past) state.above
+          → FifoTally caps d.0 (option_to_list (entry_at c (Buffer d) a x) ++ entries_in (fresh_buffers caps) past) state.above
       edited None tells at = absurd cc
       edited (Some y) tells at =
           let same : sleep_edited attempts a y ≡ state = cc in
           let above : attempted a y.above ≡ state.above = ap (λ (s : PlainLocked). s.above) same in
-          subst (λ o. Tally caps d.0 (option_to_list (option_map (entry_of c a.thread d) o) ++ entries_in (fresh_buffers caps) past) state.above)
-          (sym (effect_told a y.above))
-          (subst (λ x. Tally caps d.0 (option_to_list (option_map (entry_of c a.thread d) (effect_if (allows a.ask y.above) a y.above))
+          subst (λ o. FifoTally caps d.0 (option_to_list (option_map (entry_of c a.thread d) o) ++ entries_in (fresh_buffers caps) past) state.above)
+          (sym (effect_reported a y.above))
+          (subst (λ x. FifoTally caps d.0 (option_to_list (option_map (entry_of c a.thread d) (effect_if (allows a.ask y.above) a y.above))
           ++ entries_in (fresh_buffers caps) past) x) above
           (here_step caps (entries_in (fresh_buffers caps) past) c d a y.above (allows a.ask y.above) refl (tells y refl)).1)
 
       go : (v : Bool) → (b.0 == d.0) ≡ v
           → (if v then option_map (sleep_edited attempts a) (locked_after (fresh_buffers caps) (Buffer b) past)
           else locked_after (fresh_buffers caps) (Buffer b) past) ≡ Some state
-          → Tally caps b.0 (option_to_list (entry_at c (Buffer d) a (locked_after (fresh_buffers caps) (Buffer d) past)) ++ entries_in
+          → FifoTally caps b.0 (option_to_list (entry_at c (Buffer d) a (locked_after (fresh_buffers caps) (Buffer d) past)) ++ entries_in
           (fresh_buffers caps) past)
           state.above
       go false other at =
@@ -367,18 +367,18 @@ module _ (caps : List ℕ) where
           let one : d.0 ≡ b.0 = sym (eqb-true b.0 d.0 same) in
           let found = subst (λ n. option_map (sleep_edited attempts a) (locked_after (fresh_buffers caps) (Buffer (record { 0 = n })) past) ≡ Some state)
           (sym one) at in
-          subst (λ n. Tally caps n (option_to_list (entry_at c (Buffer d) a (locked_after (fresh_buffers caps) (Buffer d) past))
+          subst (λ n. FifoTally caps n (option_to_list (entry_at c (Buffer d) a (locked_after (fresh_buffers caps) (Buffer d) past))
           ++ entries_in (fresh_buffers caps) past) state.above) one
           (edited (locked_after (fresh_buffers caps) (Buffer d) past) (tells d) found)
 
   -- each buffer tells the effects, from fresh buffers on
-  all_told : (past : List (Section Attempt)) → Told past
-  all_told [] = λ b state at. start_told caps b (slice_get caps b.0) state refl at
-  all_told (s ∷ past) = told_step s.cpu s.lock s.edit past (all_told past)
+  all_observed : (past : List (Section Attempt)) → Observed past
+  all_observed [] = λ b state at. start_observed caps b (slice_get caps b.0) state refl at
+  all_observed (s ∷ past) = observed_step s.cpu s.lock s.edit past (all_observed past)
 
   all_lawful : (past : List (Section Attempt)) → IsLawful (MayTakeEffect caps) (entries_in (fresh_buffers caps) past)
   all_lawful [] = tt
-  all_lawful (s ∷ past) = lawful_step s.cpu s.lock s.edit past (all_told past) (all_lawful past)
+  all_lawful (s ∷ past) = lawful_step s.cpu s.lock s.edit past (all_observed past) (all_lawful past)
 
 -- each effect may come after those before it
 pub plain_lawful : (locks : LockId → Option PlainLocked) (caps : List ℕ) (past : List (Section Attempt)) → locks ≡ fresh_buffers caps
@@ -388,7 +388,7 @@ plain_lawful locks caps past fresh =
 
 -- and a buffer tells them
 pub plain_tally : (locks : LockId → Option PlainLocked) (caps : List ℕ) (past : List (Section Attempt)) → locks ≡ fresh_buffers caps
-    → (b : BufId) (state : PlainLocked) → locked_after locks (Buffer b) past ≡ Some state → Tally caps b.0 (entries_in locks past) state.above
+    → (b : BufId) (state : PlainLocked) → locked_after locks (Buffer b) past ≡ Some state → FifoTally caps b.0 (entries_in locks past) state.above
 plain_tally locks caps past fresh b state at =
-    subst (λ (o : LockId → Option PlainLocked). Tally caps b.0 (entries_in o past) state.above) (sym fresh)
-    (all_told caps past b state (subst (λ (o : LockId → Option PlainLocked). locked_after o (Buffer b) past ≡ Some state) fresh at))
+    subst (λ (o : LockId → Option PlainLocked). FifoTally caps b.0 (entries_in o past) state.above) (sym fresh)
+    (all_observed caps past b state (subst (λ (o : LockId → Option PlainLocked). locked_after o (Buffer b) past ≡ Some state) fresh at))

@@ -12,14 +12,14 @@ use Rattle.layer_traits.specs.declared.calls.Call.{Call}
 use Rattle.layer_traits.specs.declared.calls.Call.TheVariants.{Send, Recv, Close}
 use Rattle.layer_traits.specs.declared.calls.Effect.{Effect}
 use Rattle.layer_traits.specs.declared.calls.Reply.{Reply}
-use Rattle.layer_traits.specs.declared.moves.Line.{Line}
+use Rattle.layer_traits.specs.declared.moves.WaitList.{WaitList}
 use Rattle.layer_traits.specs.declared.scheds.SchedCall.{SchedCall}
-use Rattle.layer_traits.specs.declared.talks.Stage.TheVariants.{Between, Waits}
-use Rattle.layer_traits.specs.declared.talks.Talk.{Talk}
-use Rattle.layer_traits.specs.BufferLaw.{Buffering, buffering, entry_of, reply_of, talk_of}
+use Rattle.layer_traits.specs.declared.call_states.Stage.TheVariants.{Idle, Waits}
+use Rattle.layer_traits.specs.declared.call_states.CallState.{CallState}
+use Rattle.layer_traits.specs.BufferLaw.{Buffering, buffering, entry_of, reply_of, call_state_of}
 use Rattle.layer_traits.specs.BufferProtocol.{BufferLock}
 use Rattle.layer_traits.specs.Places.{Threads}
-use Rattle.layer_traits.specs.Sleeping.{SleepState, line_at, sleep_edited}
+use Rattle.layer_traits.specs.Sleeping.{SleepState, wait_list_at, sleep_edited}
 use Rattle.layer_traits.specs.SleepLaw.{Sleeping}
 use Rattle.layer_traits.specs.Capacities.{caps_from}
 use Rattle.plain_layers.specs.declared.attempts.Ask.{Ask}
@@ -42,10 +42,10 @@ ask_of (Close b) = ask.Close
 abbrev pub attempt_of : Tid → Call → Attempt
 attempt_of t call = record { thread = t; ask = ask_of call }
 
--- the talk of a thread after its section: in no call with its effect, or it waits
-abbrev pub talk_after : Call → Option Effect → Talk
-talk_after call None = record { stage = Waits; call = Some call; position = 0; effect = None }
-talk_after call (Some f) = record { stage = Between; call = None; position = 0; effect = Some f }
+-- the call state of a thread after its section: in no call with its effect, or it waits
+abbrev pub call_state_after : Call → Option Effect → CallState
+call_state_after call None = record { stage = Waits; call = Some call; position = 0; effect = None }
+call_state_after call (Some f) = record { stage = Idle; call = None; position = 0; effect = Some f }
 
 -- the reply of a call after this effect, or none
 abbrev pub reply_to : Call → Option Effect → Option Reply
@@ -84,8 +84,8 @@ fresh_buffers caps (Pending d) = None
 fresh_buffers caps (Buffer b) = option_map fresh_buffer (slice_get caps b.0)
 
 -- who waits at a buffer
-abbrev pub lines_in : (LockId → Option PlainLocked) → List (Section Attempt) → BufId → Line → List Tid
-lines_in opening past b line = line_at line (locked_after opening (Buffer b) past)
+abbrev pub wait_lists_in : (LockId → Option PlainLocked) → List (Section Attempt) → BufId → WaitList → List Tid
+wait_lists_in opening past b line = wait_list_at line (locked_after opening (Buffer b) past)
 
 -- a buffer as the layer's trait shows it: its lock has no owner, and nobody stands in the lines of the block
 abbrev pub shown : PlainLocked → BufferLock
@@ -113,15 +113,15 @@ pub record IsOwned (ActsFor : CpuId → Type 0) (locks : LockId → Option Plain
   pub fresh : locks ≡ fresh_buffers (caps_in locks)
 
 -- between its polls a part has nothing begun; and a thread has an effect only once its call is over
-pub record Rests (under : Option (SchedCall Attempt)) (own : Sleeping Tried) (talks : List Talk) : Type 0 where
+pub record Rests (under : Option (SchedCall Attempt)) (own : Sleeping Tried) (call_states : List CallState) : Type 0 where
   pub none : under ≡ None
-  pub kept : own.kept ≡ None
-  pub waits : (t : Tid) → (talk_of talks t).stage ≢ Between → (talk_of talks t).effect ≡ None
-  pub slots : length talks ≡ THREADS
+  pub deferred : own.deferred ≡ None
+  pub waits : (t : Tid) → (call_state_of call_states t).stage ≢ Idle → (call_state_of call_states t).effect ≡ None
+  pub slots : length call_states ≡ THREADS
 
 -- what a part has of its own, as the layer's trait shows it
-abbrev pub own_of : Threads → List Talk → Buffering
-own_of threads talks = buffering (record {
-  lock = record { sleep = record { threads = threads; kept = None }; slept = replicate THREADS None };
+abbrev pub own_of : Threads → List CallState → Buffering
+own_of threads call_states = buffering (record {
+  lock = record { sleep = record { threads = threads; deferred = None }; slept = replicate THREADS None };
   waits = replicate THREADS None;
-}) talks
+}) call_states

@@ -9,6 +9,6 @@ pub mod FifoLaws
 pub mod FifoOwned
 pub mod FifoTallies
 pub mod Naps
-pub mod QueuePaces
-pub mod LockPaces
-pub mod CondPaces
+pub mod QueueSections
+pub mod LockSections
+pub mod CondSections

@@ -12,7 +12,7 @@ use Rattle.layer_traits.specs.declared.queue_edits.QueueBlock.TheVariants.{Queue
 use Rattle.layer_traits.specs.declared.queues.QueueEvent.{QueueEvent}
 use Rattle.layer_traits.specs.MoveRules.{MoveRules}
 use Rattle.layer_traits.specs.OneLock.{opened}
-use Rattle.layer_traits.specs.Owned.{IsShown}
+use Rattle.layer_traits.specs.Owned.{IsObserved}
 use Rattle.layer_traits.specs.Places.{pending_by}
 use Rattle.layer_traits.specs.Protocol.{Rules}
 use Rattle.layer_traits.specs.QueueBlocks.{above_of, inner}
@@ -25,7 +25,7 @@ use Rattle.plain_layers.specs.Tables.{IsTable}
 
 -- what is there and at home is shown
 shown_at_home : {P A : Type 0} (Fits : P → Type 0) (cpu_of : P → CpuId) (IsInside : CpuId → Type 0) (home truth : Option A) → home ≡ truth → IsSome truth
-    → IsShown Fits cpu_of IsInside (λ p. None) home truth
+    → IsObserved Fits cpu_of IsInside (λ p. None) home truth
 shown_at_home {P} {A} Fits cpu_of IsInside home truth is there = record {
   by_machine = λ x tells. sym is ∙ tells;
   by_part = λ p x fits tells. absurd (cc tells);
@@ -38,7 +38,7 @@ shown_at_home {P} {A} Fits cpu_of IsInside home truth is there = record {
 -- each block is at home in the list of blocks
 pub table_shown : {P E B O : Type 0} (rules : Rules E B O) (opening : LockId → Option B) (past : List (Section E)) (list : List (LockId × B))
     (Fits : P → Type 0) (cpu_of : P → CpuId) (IsInside : CpuId → Type 0) (lock : LockId) → IsTable rules opening past list → IsSome (opening lock)
-    → IsShown Fits cpu_of IsInside (λ p. None) (opened list lock) (block_after rules.edited opening lock past)
+    → IsObserved Fits cpu_of IsInside (λ p. None) (opened list lock) (block_after rules.edited opening lock past)
 table_shown rules opening past list Fits cpu_of IsInside lock table there =
     shown_at_home Fits cpu_of IsInside (opened list lock) (block_after rules.edited opening lock past) (table.blocks lock)
     (block_there rules.edited opening lock past there)
@@ -47,7 +47,7 @@ module _ {E B O : Type 0} (rules : Rules E B O) (mv : MoveRules E O) (start : Op
     (sound : IsKernel rules mv start past lists) where
   -- each buffer's block is at home, whatever the parts are
   pub block_shown : {P : Type 0} (Fits : P → Type 0) (cpu_of : P → CpuId) (IsInside : CpuId → Type 0) (b : BufId) → IsSome (opening_of start (Buffer b))
-      → IsShown Fits cpu_of IsInside (λ p. None) (slice_get lists.buffers.items b.0)
+      → IsObserved Fits cpu_of IsInside (λ p. None) (slice_get lists.buffers.items b.0)
       (block_after rules.edited (inner (opening_of start)) (Buffer b) (buffer_sections past))
   block_shown Fits cpu_of IsInside b there =
       shown_at_home Fits cpu_of IsInside (slice_get lists.buffers.items b.0)
@@ -60,7 +60,8 @@ module _ {E B O : Type 0} (rules : Rules E B O) (mv : MoveRules E O) (start : Op
 
   -- and so is each pending queue
   pub queue_shown : {P : Type 0} (Fits : P → Type 0) (cpu_of : P → CpuId) (IsInside : CpuId → Type 0) (d : CpuId) → IsSome (opening_of start (Pending d))
-      → IsShown Fits cpu_of IsInside (λ p. None) (slice_get lists.pending.items d.0) (Some (pending_by (moves_in (kernel rules mv (opening_of start)) past) d))
+      → IsObserved Fits cpu_of IsInside (λ p. None) (slice_get lists.pending.items d.0) (Some (pending_by (moves_in (kernel rules mv
+      (opening_of start)) past) d))
   queue_shown Fits cpu_of IsInside d there =
       let queue = pending_by (moves_in (kernel rules mv (opening_of start)) past) d in
       shown_at_home Fits cpu_of IsInside (slice_get lists.pending.items d.0) (Some queue)

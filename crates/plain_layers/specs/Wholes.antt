@@ -33,7 +33,7 @@ module _ {E B O : Type 0} (s : Asked E B O) (old new : List (QueueEvent E)) (own
     pub out : out_at s.kernel old s.buffer s.edit ≡ Some outcome
     pub stays : must_send outcome own_done ≡ false
     pub seen : new ≡ event s.cpu (OnBuffer s.buffer s.edit) ∷ old
-    pub leaves : left ≡ record { threads = own_done; kept = None }
+    pub leaves : left ≡ record { threads = own_done; deferred = None }
 
   -- the section was done, and then the thread that it woke was sent home
   pub record DoneSending : Type 0 where
@@ -42,7 +42,7 @@ module _ {E B O : Type 0} (s : Asked E B O) (old new : List (QueueEvent E)) (own
     pub woken : Tid
     pub hand : own_done.hand ≡ Some woken
     pub seen : new ≡ event s.cpu (Push (queue_for s.kernel.homes s.cpu woken) woken) ∷ event s.cpu (OnBuffer s.buffer s.edit) ∷ old
-    pub leaves : left ≡ record { threads = passed_on own_done; kept = None }
+    pub leaves : left ≡ record { threads = passed_on own_done; deferred = None }
 
   -- one of the two
   abbrev pub IsDoneWhole : Type 0

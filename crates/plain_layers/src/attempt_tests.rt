@@ -2,7 +2,7 @@
 
 use crate::{Ask, Attempt, PlainBuffer, Tried};
 use event_log::{Msg, Tid};
-use layer_traits::{Sleeps, Tray};
+use layer_traits::{Payload, Sleeps};
 use std::test::Fail;
 
 /// The message of these words: one number, or two with a comma between them.
@@ -35,7 +35,7 @@ fn attempt(text: &str) -> Option<Attempt> {
 
 /// What an attempt was told, as a text: an effect's kind, message, op and position and who was woken,
 /// or with whom its thread waits.
-fn told(rt: &HostRuntime, tried: &Tried) -> Result<String, Fail> {
+fn tried_text(rt: &HostRuntime, tried: &Tried) -> Result<String, Fail> {
     let text = match *tried {
         Tried::Refused(side) => format!(in rt.alloc(); "waits with the {side:?}")?,
         Tried::Acted(effect, woke) => {
@@ -73,10 +73,10 @@ fn rows_go(rt: &HostRuntime, rows: &str) -> Result<(), Fail> {
         let Some(attempt) = attempt(text) else {
             return Err(Fail::new(row));
         };
-        let tried = attempt.apply(None, &mut buffer, &mut Tray::new());
+        let tried = attempt.apply(None, &mut buffer, &mut Payload::new());
         let acted = matches!(tried, Tried::Acted(..));
-        let (told, state) = (told(rt, &tried)?, state(rt, &buffer)?);
-        let text = format!(in rt.alloc(); "{}; {}", told.as_str(), state.as_str())?;
+        let (tried_text, state) = (tried_text(rt, &tried)?, state(rt, &buffer)?);
+        let text = format!(in rt.alloc(); "{}; {}", tried_text.as_str(), state.as_str())?;
         if text.as_str() != wanted || tried.effect().is_some() != acted {
             return Err(Fail::new(row));
         }

@@ -3,9 +3,9 @@
 ghost use Rattle.std.specs.Prelude.{◌≡◌, ◌≤◌, true, [], is_some};
 ghost use Rattle.event_log.specs.declared.ids.TheConstants.{CAPACITY};
 ghost use Rattle.layer_traits.specs.Sleeping.{joined};
-ghost use Rattle.layer_traits.specs.declared.sleeps.Leave.TheVariants.{Nobody};
+ghost use Rattle.layer_traits.specs.declared.sleeps.Wake.TheVariants.{Nobody};
 ghost use Rattle.plain_layers.specs.Attempts.{PlainState, allows, closed_after, done, effect_at, effect_in, empty_buffer, leaving};
-ghost use Rattle.plain_layers.specs.Attempts.{side_of, waiting_on, waits, waking_by, wakes, woken};
+ghost use Rattle.plain_layers.specs.Attempts.{attempt_side, waiting_on, waits, waking_by, wakes, woken};
 ghost use Rattle.plain_layers.specs.declared.attempts.Ask.{Ask};
 ghost use Rattle.plain_layers.specs.declared.attempts.Ask.TheVariants.{Close, Receive, Send};
 ghost use Rattle.plain_layers.specs.declared.attempts.Tried.TheVariants.{Acted};
@@ -13,7 +13,7 @@ ghost use Rattle.thread_blocks.specs.Queues.{first};
 
 use arrayvec::ArrayVec;
 use event_log::{CAPACITY, Kind, Msg, Ring, THREADS, Tid};
-use layer_traits::{Effect, Leave, Line, Side, Sleeps, Tray};
+use layer_traits::{Effect, Payload, Side, Sleeps, WaitList, Wake};
 use std::marker::Model;
 use thread_blocks::ThreadQueue;
 
@@ -41,7 +41,7 @@ pub struct Attempt {
 #[derive(Clone, Copy, Debug, PartialEq, Eq)]
 pub enum Tried {
     /// The buffer allowed it this effect, and it woke this thread.
-    Acted(Effect, Leave),
+    Acted(Effect, Wake),
     /// The buffer allowed it no effect: its caller waits on this side.
     Refused(Side),
 }
@@ -151,27 +151,27 @@ impl PlainBuffer {
     }
 
     /// Wakes the first of this side; nobody, where nobody waits there.
-    fn wake(&mut self, side: Side) -> Leave
+    fn wake(&mut self, side: Side) -> Wake
         ensures block { self.new ≡ woken side self.old }
-        ensures told { result ≡ leaving side (first (waiting_on side self.old)) }
+        ensures reported { result ≡ leaving side (first (waiting_on side self.old)) }
     {
         match side {
             Side::Receivers => match self.receivers.pop() {
-                None => Leave::Nobody,
-                Some(t) => Leave::Receiver(t),
+                None => Wake::Nobody,
+                Some(t) => Wake::Receiver(t),
             },
             Side::Senders => match self.senders.pop() {
-                None => Leave::Nobody,
-                Some(t) => Leave::Sender(t),
+                None => Wake::Nobody,
+                Some(t) => Wake::Sender(t),
             },
         }
     }
 
     /// Wakes whom an effect of this side wakes: the first of the other side; but where the buffer is
     /// closed the first of its own, while somebody waits there.
-    fn wake_after(&mut self, own: Side) -> Leave
+    fn wake_after(&mut self, own: Side) -> Wake
         ensures block { self.new ≡ woken (waking_by self.old.closed own self.old) self.old }
-        ensures told { result ≡ leaving (waking_by self.old.closed own self.old) (first (waiting_on (waking_by self.old.closed own self.old) self.old)) }
+        ensures reported { result ≡ leaving (waking_by self.old.closed own self.old) (first (waiting_on (waking_by self.old.closed own self.old) self.old)) }
     {
         if self.closed && self.has_waiting(own) {
             return self.wake(own);
@@ -186,7 +186,7 @@ impl PlainBuffer {
     fn send(&mut self, message: &Msg) -> Tried
         requires { allows (Send message.now) self.old ≡ true }
         ensures block { self.new ≡ done (Send message.now) self.old }
-        ensures told { result ≡ Acted (effect_at (Send message.now) self.old) (wakes (Send message.now) self.old) }
+        ensures reported { result ≡ Acted (effect_at (Send message.now) self.old) (wakes (Send message.now) self.old) }
     {
         let effect = Effect {
             kind: if self.closed {
@@ -210,7 +210,7 @@ impl PlainBuffer {
     fn receive(&mut self) -> Tried
         requires { allows Receive self.old ≡ true }
         ensures block { self.new ≡ done Receive self.old }
-        ensures told { result ≡ Acted (effect_at Receive self.old) (wakes Receive self.old) }
+        ensures reported { result ≡ Acted (effect_at Receive self.old) (wakes Receive self.old) }
     {
         let item = self.items.take();
         let effect = Effect {
@@ -231,7 +231,7 @@ impl PlainBuffer {
     /// Closes the buffer.
     fn close(&mut self) -> Tried
         ensures block { self.new ≡ done Close self.old }
-        ensures told { result ≡ Acted (effect_at Close self.old) (wakes Close self.old) }
+        ensures reported { result ≡ Acted (effect_at Close self.old) (wakes Close self.old) }
     {
         let effect = Effect {
             kind: Kind::Close,
@@ -264,8 +264,8 @@ pub fn closed_buffers_let_all_go()
 {}
 
 /// The side of a call.
-fn side_of(ask: &Ask) -> Side
-    ensures { result ≡ side_of ask.now }
+fn attempt_side(ask: &Ask) -> Side
+    ensures { result ≡ attempt_side ask.now }
 {
     match *ask {
         Ask::Send(_) => Side::Senders,
@@ -296,9 +296,9 @@ impl Sleeps for Attempt {
         self.thread
     }
 
-    fn apply(&self, _first: Option<Tid>, block: &mut PlainBuffer, _tray: &mut Tray) -> Tried {
+    fn apply(&self, _first: Option<Tid>, block: &mut PlainBuffer, _payload: &mut Payload) -> Tried {
         if !block.allows(&self.ask) {
-            let side = side_of(&self.ask);
+            let side = attempt_side(&self.ask);
             block.wait(self.thread, side);
             return Tried::Refused(side);
         }
@@ -309,18 +309,18 @@ impl Sleeps for Attempt {
         }
     }
 
-    fn joins(out: &Tried) -> Option<Line> {
+    fn joins(out: &Tried) -> Option<WaitList> {
         match *out {
             Tried::Acted(_, _) => None,
-            Tried::Refused(Side::Senders) => Some(Line::Senders),
-            Tried::Refused(Side::Receivers) => Some(Line::Receivers),
+            Tried::Refused(Side::Senders) => Some(WaitList::Senders),
+            Tried::Refused(Side::Receivers) => Some(WaitList::Receivers),
         }
     }
 
-    fn leaves(out: &Tried) -> Leave {
+    fn leaves(out: &Tried) -> Wake {
         match *out {
             Tried::Acted(_, woke) => woke,
-            Tried::Refused(_) => Leave::Nobody,
+            Tried::Refused(_) => Wake::Nobody,
         }
     }
 }

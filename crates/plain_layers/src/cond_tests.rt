@@ -9,18 +9,18 @@ ghost use Rattle.event_log.specs.declared.ids.TheConstants.{CPUS, THREADS};
 ghost use Rattle.layer_traits.specs.Locking.{AreAtRest};
 ghost use Rattle.layer_traits.specs.QueueBlocks.{homes_in, inner};
 ghost use Rattle.layer_traits.specs.Renaming.{viewed};
-ghost use Rattle.queuing_lock.specs.Nested.{lock_of};
-ghost use Rattle.plain_layers.specs.CondPaces.{HasEnded, WaitsAt};
+ghost use Rattle.queuing_lock.specs.Nested.{nested_lock_of};
+ghost use Rattle.plain_layers.specs.CondSections.{CondHasEnded, WaitsAt};
 ghost use Rattle.sleep_wakeup.specs.Nested.{state_of};
 
 use crate::PlainSched;
-use crate::cond_paces::{Pace, calls, drains, is_woken, paces, switches};
+use crate::cond_sections::{PollSection, calls, drains, is_woken, section_polls, switches};
 use crate::openings::Opens;
 use condvar::Cond;
 use event_log::{BufId, CPUS, CpuId, NoMemory, THREADS, Tid};
 use layer_traits::{
-    CvEdit, CvLayer, CvLeave, CvOut, Guarded, Line, OwnedConds, OwnedLocks, QEdit, QOut, QueueEdit,
-    Side, Tray,
+    CvEdit, CvLayer, CvLeave, CvOut, Guarded, OwnedConds, OwnedLocks, Payload, QEdit, QOut,
+    QueueEdit, Side, WaitList,
 };
 use plain_machine::Plain;
 use queuing_lock::{QLock, QLockEdit, lock_blocks};
@@ -44,7 +44,7 @@ impl Guarded for Reads {
 
     type Out = Tid;
 
-    ghost deeds = { record {
+    ghost monitor_rules = { record {
       caller = λ e. e.caller;
       edited = λ e b. b;
       answer = λ e b. b;
@@ -56,7 +56,7 @@ impl Guarded for Reads {
         self.caller
     }
 
-    fn apply(&self, block: &mut Tid, _tray: &mut Tray) -> Tid {
+    fn apply(&self, block: &mut Tid, _payload: &mut Payload) -> Tid {
         *block
     }
 
@@ -73,40 +73,50 @@ fn waits_and_frees<G: Guarded + Copy, C: OwnedConds<G>>(
     m: &mut C::Machine,
     section: usize,
 ) -> bool
-    requires granted { (opening : _) (past : _) (s : _) → G.deeds.allowed opening past s }
+    requires granted { (opening : _) (past : _) (s : _) → G.monitor_rules.allowed opening past s }
     requires zero { C.Fits zero.old m.old }
     requires one { C.Fits one.old m.old }
     requires apart { C.cpu_of zero.old ≢ C.cpu_of one.old }
     requires buffer { IsSome (C.opening m.old (Buffer (record { 0 = 0 }))) }
     requires room { 3 * section ≤ C.room m.old }
-    requires owner { HasEnded G.deeds (C.own zero.old) (C.under_way zero.old) (record { 0 = 0 }) }
-    requires asker { HasEnded G.deeds (C.own one.old) (C.under_way one.old) (record { 0 = 1 }) }
+    requires owner { CondHasEnded G.monitor_rules (C.own zero.old) (C.under_way zero.old) (record { 0 = 0 }) }
+    requires asker { CondHasEnded G.monitor_rules (C.own one.old) (C.under_way one.old) (record { 0 = 1 }) }
     ensures zero { C.Fits zero.new m.new }
     ensures one { C.Fits one.new m.new }
     ensures first { C.cpu_of zero.new ≡ C.cpu_of zero.old }
     ensures second { C.cpu_of one.new ≡ C.cpu_of one.old }
     ensures opening { C.opening m.new ≡ C.opening m.old }
     ensures room { C.room m.old ≤ C.room m.new + 3 * section }
-    ensures waiter { result ≡ true → WaitsAt G.deeds (C.own zero.new) (C.under_way zero.new) (record { 0 = 0 }) (record { 0 = 0 }) }
-    ensures owner { result ≡ true → HasEnded G.deeds (C.own one.new) (C.under_way one.new) (record { 0 = 1 }) }
+    ensures waiter { result ≡ true → WaitsAt G.monitor_rules (C.own zero.new) (C.under_way zero.new) (record { 0 = 0 }) (record { 0 = 0 }) }
+    ensures owner { result ≡ true → CondHasEnded G.monitor_rules (C.own one.new) (C.under_way one.new) (record { 0 = 1 }) }
 {
     let at = BufId(0);
     let wait = QEdit::Release(CvLeave::Wait(Tid(0), Side::Receivers));
-    let Some(Pace::Answered(first)) = calls::<G, C>(zero, m, at, &QEdit::Acquire(Tid(0)), section)
-    else {
+    let Some(PollSection::Answered(first)) = calls::<G, C>(
+        zero,
+        m,
+        at,
+        &QEdit::Acquire(Tid(0)),
+        section,
+    ) else {
         return false;
     };
-    let Some(Pace::Sleeps) = calls::<G, C>(zero, m, at, &wait, section) else {
+    let Some(PollSection::Sleeps) = calls::<G, C>(zero, m, at, &wait, section) else {
         return false;
     };
-    if zero.current().is_some() || C::line_in(m, at, Tid(0)) != Some(Line::Receivers) {
+    if zero.current().is_some() || C::wait_list_in(m, at, Tid(0)) != Some(WaitList::Receivers) {
         return false;
     }
     if C::owner_in(m, at) != Some(None) {
         return false;
     }
-    let Some(Pace::Answered(second)) = calls::<G, C>(one, m, at, &QEdit::Acquire(Tid(1)), section)
-    else {
+    let Some(PollSection::Answered(second)) = calls::<G, C>(
+        one,
+        m,
+        at,
+        &QEdit::Acquire(Tid(1)),
+        section,
+    ) else {
         return false;
     };
     matches!(first.out, QOut::Acquired) && matches!(second.out, QOut::Acquired)
@@ -119,24 +129,25 @@ fn signals_and_leaves<G: Guarded + Copy, C: OwnedConds<G>>(
     m: &mut C::Machine,
     section: usize,
 ) -> bool
-    requires granted { (opening : _) (past : _) (s : _) → G.deeds.allowed opening past s }
+    requires granted { (opening : _) (past : _) (s : _) → G.monitor_rules.allowed opening past s }
     requires fits { C.Fits one.old m.old }
     requires buffer { IsSome (C.opening m.old (Buffer (record { 0 = 0 }))) }
     requires room { 3 * section ≤ C.room m.old }
-    requires owner { HasEnded G.deeds (C.own one.old) (C.under_way one.old) (record { 0 = 1 }) }
+    requires owner { CondHasEnded G.monitor_rules (C.own one.old) (C.under_way one.old) (record { 0 = 1 }) }
     ensures opening { C.opening m.new ≡ C.opening m.old }
     ensures room { C.room m.old ≤ C.room m.new + 3 * section }
     ensures others { (p : C) → C.cpu_of p ≢ C.cpu_of one.old → C.Fits p m.old → C.Fits p m.new }
 {
     let at = BufId(0);
     let signal = QEdit::Inside(CvEdit::SignalFront(Tid(1), Side::Receivers));
-    let Some(Pace::GoesOn) = calls::<G, C>(one, m, at, &signal, section) else {
+    let Some(PollSection::GoesOn) = calls::<G, C>(one, m, at, &signal, section) else {
         return false;
     };
-    if one.hand() != Some(Tid(0)) || C::line_in(m, at, Tid(0)).is_some() {
+    if one.hand() != Some(Tid(0)) || C::wait_list_in(m, at, Tid(0)).is_some() {
         return false;
     }
-    let Some(Pace::Answered(signalled)) = paces::<G, C>(one, m, at, &signal, section) else {
+    let Some(PollSection::Answered(signalled)) = section_polls::<G, C>(one, m, at, &signal, section)
+    else {
         return false;
     };
     if signalled.woke != Some(Tid(0)) || one.hand().is_some() {
@@ -145,7 +156,7 @@ fn signals_and_leaves<G: Guarded + Copy, C: OwnedConds<G>>(
     let leave = QEdit::Release(CvLeave::Leave(Tid(1)));
     matches!(
         calls::<G, C>(one, m, at, &leave, section),
-        Some(Pace::Answered(_))
+        Some(PollSection::Answered(_))
     )
 }
 
@@ -154,13 +165,13 @@ fn is_over<G: Guarded, C: CvLayer<G>>(zero: &mut C, m: &mut C::Machine, section:
     requires fits { C.Fits zero.old m.old }
     requires buffer { IsSome (C.opening m.old (Buffer (record { 0 = 0 }))) }
     requires room { section < C.room m.old }
-    requires waiter { WaitsAt G.deeds (C.own zero.old) (C.under_way zero.old) (record { 0 = 0 }) (record { 0 = 0 }) }
+    requires waiter { WaitsAt G.monitor_rules (C.own zero.old) (C.under_way zero.old) (record { 0 = 0 }) (record { 0 = 0 }) }
 {
     if !drains::<G, C>(zero, m, section) || !switches::<G, C>(zero, m) {
         return false;
     }
     match is_woken::<G, C>(zero, m, BufId(0), Tid(0), Side::Receivers) {
-        Some(Pace::Answered(over)) => matches!(over.out, QOut::Released(CvOut::Waited(_))),
+        Some(PollSection::Answered(over)) => matches!(over.out, QOut::Released(CvOut::Waited(_))),
         _ => false,
     }
 }
@@ -172,14 +183,14 @@ fn is_waited_for<G: Guarded + Copy, C: OwnedConds<G>>(
     m: &mut C::Machine,
     section: usize,
 ) -> bool
-    requires granted { (opening : _) (past : _) (s : _) → G.deeds.allowed opening past s }
+    requires granted { (opening : _) (past : _) (s : _) → G.monitor_rules.allowed opening past s }
     requires zero { C.Fits zero.old m.old }
     requires one { C.Fits one.old m.old }
     requires apart { C.cpu_of zero.old ≢ C.cpu_of one.old }
     requires buffer { IsSome (C.opening m.old (Buffer (record { 0 = 0 }))) }
     requires room { 7 * section < C.room m.old }
-    requires owner { HasEnded G.deeds (C.own zero.old) (C.under_way zero.old) (record { 0 = 0 }) }
-    requires asker { HasEnded G.deeds (C.own one.old) (C.under_way one.old) (record { 0 = 1 }) }
+    requires owner { CondHasEnded G.monitor_rules (C.own zero.old) (C.under_way zero.old) (record { 0 = 0 }) }
+    requires asker { CondHasEnded G.monitor_rules (C.own one.old) (C.under_way one.old) (record { 0 = 1 }) }
 {
     if !switches::<G, C>(zero, m) || !switches::<G, C>(one, m) {
         return false;
@@ -191,12 +202,12 @@ fn is_waited_for<G: Guarded + Copy, C: OwnedConds<G>>(
 
 /// Thread 0 acquires and reads the block: the machine tells of the lock, and the part has no block in
 /// its hands; then it begins to leave, and looks again.
-fn is_told<C: OwnedConds<Reads>>(zero: &mut C, m: &mut C::Machine) -> bool
+fn is_observed<C: OwnedConds<Reads>>(zero: &mut C, m: &mut C::Machine) -> bool
     requires fits { C.Fits zero.old m.old }
     requires buffer { IsSome (C.opening m.old (Buffer (record { 0 = 0 }))) }
     requires queue { IsSome (C.opening m.old (Pending (record { 0 = 1 }))) }
     requires room { 8 < C.room m.old }
-    requires ended { HasEnded ⟦<Reads as Guarded>⟧.deeds (C.own zero.old) (C.under_way zero.old) (record { 0 = 0 }) }
+    requires ended { CondHasEnded ⟦<Reads as Guarded>⟧.monitor_rules (C.own zero.old) (C.under_way zero.old) (record { 0 = 0 }) }
 {
     let at = BufId(0);
     let reads = QEdit::Inside(CvEdit::Edit(Reads { caller: Tid(0) }));
@@ -204,16 +215,20 @@ fn is_told<C: OwnedConds<Reads>>(zero: &mut C, m: &mut C::Machine) -> bool
     if !switches::<Reads, C>(zero, m) || zero.is_ready(Tid(0)) || zero.has_ended(Tid(0)) {
         return false;
     }
-    let Some(Pace::Answered(_)) = calls::<Reads, C>(zero, m, at, &QEdit::Acquire(Tid(0)), 3) else {
+    let Some(PollSection::Answered(_)) = calls::<Reads, C>(zero, m, at, &QEdit::Acquire(Tid(0)), 3)
+    else {
         return false;
     };
-    let Some(Pace::Answered(read)) = calls::<Reads, C>(zero, m, at, &reads, 3) else {
+    let Some(PollSection::Answered(read)) = calls::<Reads, C>(zero, m, at, &reads, 3) else {
         return false;
     };
     if C::block_in(m, at) != Some(&Tid(0)) || zero.block_here(at).is_some() {
         return false;
     }
-    if zero.owner_here(at).is_some() || zero.line_here(at, Tid(0)).is_some() || zero.at_once() {
+    if zero.owner_here(at).is_some()
+        || zero.wait_list_here(at, Tid(0)).is_some()
+        || zero.at_once()
+    {
         return false;
     }
     if C::pends_in(m, CpuId(1), Tid(0)) != Some(false)
@@ -221,7 +236,7 @@ fn is_told<C: OwnedConds<Reads>>(zero: &mut C, m: &mut C::Machine) -> bool
     {
         return false;
     }
-    let Some(Pace::GoesOn) = calls::<Reads, C>(zero, m, at, &leave, 1) else {
+    let Some(PollSection::GoesOn) = calls::<Reads, C>(zero, m, at, &leave, 1) else {
         return false;
     };
     matches!(read.out, QOut::Did(CvOut::Did(Tid(0)))) && zero.is_busy() && zero.look(m)
@@ -255,7 +270,7 @@ fn machine<S: Opens<Edits>>(alloc: Global) -> Result<S::Machine, NoMemory>
     ensures room { IfOk result (λ m. S.room m ≡ 30) }
     ensures homes { IfOk result (λ m. homes_in (S.opening m) ≡ record { 0 = 0 } ∷ record { 0 = 1 } ∷ []) }
     ensures queues { IfOk result (λ m. (c : CpuId) → c.0 < 2 → IsSome (S.opening m (Pending c))) }
-    ensures rest { IfOk result (λ m. AreAtRest (inner (viewed lock_of (viewed state_of (S.opening m))))) }
+    ensures rest { IfOk result (λ m. AreAtRest (inner (viewed nested_lock_of (viewed state_of (S.opening m))))) }
     ensures buffer { IfOk result (λ m. IsSome (S.opening m (Buffer (record { 0 = 0 })))) }
 {
     let above = one_block(alloc)?;
@@ -274,7 +289,7 @@ fn part<G: Guarded, C: CvLayer<G>>(m: &C::Machine, cpu: CpuId) -> C
     requires rest { AreAtRest (inner (C.opening m.now)) }
     ensures cpu { C.cpu_of result ≡ cpu }
     ensures fits { C.Fits result m.now }
-    ensures ended { (t : Tid) → t.0 < THREADS → HasEnded G.deeds (C.own result) (C.under_way result) t }
+    ensures ended { (t : Tid) → t.0 < THREADS → CondHasEnded G.monitor_rules (C.own result) (C.under_way result) t }
 {
     let _ = m;
     C::part(cpu, &[CpuId(0), CpuId(1)], 1)
@@ -294,13 +309,13 @@ where
 }
 
 /// A machine of ticket locks tells of its lock.
-fn tells<S: Opens<Edits> + Drop>(alloc: Global) -> Result<bool, NoMemory>
+fn reads_true<S: Opens<Edits> + Drop>(alloc: Global) -> Result<bool, NoMemory>
 where
     S::Machine: Drop,
 {
     let mut m = machine::<S>(alloc)?;
     let mut zero = part::<Reads, Conds<S>>(&m, CpuId(0));
-    Ok(is_told::<Conds<S>>(&mut zero, &mut m))
+    Ok(is_observed::<Conds<S>>(&mut zero, &mut m))
 }
 
 /// Both over schedulers on these critical sections, which take three polls.
@@ -311,7 +326,7 @@ where
     if !is_woken_at_last::<Sched<SharedQueues<L>>>(alloc, 3)? {
         return Ok(false);
     }
-    tells::<Sched<SharedQueues<L>>>(alloc)
+    reads_true::<Sched<SharedQueues<L>>>(alloc)
 }
 
 #[test]

@@ -2,16 +2,16 @@
 
 ghost use Rattle.std.specs.Prelude.{◌≡◌, ◌<◌, [], None, Some, false, replicate, slice_set};
 ghost use Rattle.event_log.specs.declared.ids.TheConstants.{THREADS};
-ghost use Rattle.layer_traits.specs.BufferLaw.{buffer_of, quiet, reply_of, talk_of};
-ghost use Rattle.plain_layers.specs.Fifos.{ask_of, attempt_of, reply_to, talk_after};
+ghost use Rattle.layer_traits.specs.BufferLaw.{buffer_of, no_call, reply_of, call_state_of};
+ghost use Rattle.plain_layers.specs.Fifos.{ask_of, attempt_of, reply_to, call_state_after};
 
 use crate::attempts::{Ask, Attempt, Tried};
 use crate::wholes::whole;
 use arrayvec::ArrayVec;
 use event_log::{BufId, CAPACITY, CpuId, Kind, Msg, THREADS, Tid};
 use layer_traits::{
-    BufferLayer, Call, Effect, Line, Outcome, OwnedBuffers, OwnedSleeps, Pass, Reply, SleepLayer,
-    Stage, Talk, Tray,
+    BufferLayer, Call, CallState, Effect, Outcome, OwnedBuffers, OwnedSleeps, Pass, Payload, Reply,
+    SleepLayer, Stage, WaitList,
 };
 
 /// One CPU's part of first-in first-out blocking buffers as they are meant, over a part `S` of sleep
@@ -21,7 +21,7 @@ use layer_traits::{
 #[derive(Drop)]
 pub struct PlainFifo<S> {
     lower: S,
-    talks: [Talk; THREADS],
+    call_states: [CallState; THREADS],
 }
 
 /// The buffer of a call.
@@ -54,18 +54,18 @@ fn attempt_in(t: Tid, call: &Call) -> Attempt
     }
 }
 
-/// The talk of a thread after its section had this effect, or none.
-fn next(call: &Call, effect: &Option<Effect>) -> Talk
-    ensures { result ≡ talk_after call.now effect.now }
+/// The call state of a thread after its section had this effect, or none.
+fn next(call: &Call, effect: &Option<Effect>) -> CallState
+    ensures { result ≡ call_state_after call.now effect.now }
 {
     match effect {
-        Some(_) => Talk {
-            stage: Stage::Between,
+        Some(_) => CallState {
+            stage: Stage::Idle,
             call: None,
             position: 0,
             effect: *effect,
         },
-        None => Talk {
+        None => CallState {
             stage: Stage::Waits,
             call: Some(*call),
             position: 0,
@@ -103,8 +103,8 @@ fn reply(call: &Call, effect: &Option<Effect>) -> Option<Reply>
 
 impl<S: SleepLayer<Attempt>> BufferLayer for PlainFifo<S> {
     ghost use Rattle.std.specs.Prelude.{◌/◌, length, refl};
-    ghost use Rattle.layer_traits.specs.IpcLaw.{LinesAgree};
-    ghost use Rattle.plain_layers.specs.FifoLaws.{plain_lines};
+    ghost use Rattle.layer_traits.specs.IpcLaw.{WaitListsAgree};
+    ghost use Rattle.plain_layers.specs.FifoLaws.{plain_wait_lists};
     ghost use Rattle.plain_layers.specs.FifoTallies.{plain_lawful};
     ghost use Rattle.std.proofs.Common.{subst, sym};
     ghost use Rattle.layer_traits.proofs.KernelRenaming.{homes_viewed, starts_viewed};
@@ -116,7 +116,7 @@ impl<S: SleepLayer<Attempt>> BufferLayer for PlainFifo<S> {
     ghost use Rattle.layer_traits.specs.Renaming.{viewed};
     ghost use Rattle.layer_traits.specs.SleepLaw.{sleep_kernel};
     ghost use Rattle.plain_layers.specs.Attempts.{attempts};
-    ghost use Rattle.plain_layers.specs.Fifos.{IsOwned, Rests, caps_in, entries_in, lines_in, own_of, shown};
+    ghost use Rattle.plain_layers.specs.Fifos.{IsOwned, Rests, caps_in, entries_in, wait_lists_in, own_of, shown};
 
     type Machine = S::Machine;
 
@@ -128,7 +128,7 @@ impl<S: SleepLayer<Attempt>> BufferLayer for PlainFifo<S> {
 
     ghost moves = { λ m. moves_in (sleep_kernel attempts (S.opening m)) (S.seen m) };
 
-    ghost lines = { λ m b line. lines_in (inner (S.opening m)) (buffer_sections (S.seen m)) b line };
+    ghost wait_lists = { λ m b line. wait_lists_in (inner (S.opening m)) (buffer_sections (S.seen m)) b line };
 
     ghost ActsFor = { λ m c. S.ActsFor m c × IsWholeOf S.IsStepwise × IsOwned (λ d. S.ActsFor m d) (inner (S.opening m)) };
 
@@ -140,14 +140,14 @@ impl<S: SleepLayer<Attempt>> BufferLayer for PlainFifo<S> {
 
     ghost cpu_of = { λ p. S.cpu_of p.lower };
 
-    ghost own = { λ p. own_of (S.own p.lower).threads p.talks };
+    ghost own = { λ p. own_of (S.own p.lower).threads p.call_states };
 
     ghost is_inside = { λ p. false };
 
-    ghost doing = { λ p. None };
+    ghost under_way = { λ p. None };
 
     ghost Fits = { λ p m. S.Fits p.lower m × IsWholeOf S.IsStepwise × IsOwned (λ d. S.ActsFor m d) (inner (S.opening m))
-        × Rests (S.under_way p.lower) (S.own p.lower) p.talks };
+        × Rests (S.under_way p.lower) (S.own p.lower) p.call_states };
 
     ghost IsWhole = { Unit {0} };
 
@@ -158,8 +158,8 @@ impl<S: SleepLayer<Attempt>> BufferLayer for PlainFifo<S> {
     fn part(cpu: CpuId, homes: &[CpuId], buffers: u8) -> Self {
         PlainFifo {
             lower: S::part(cpu, homes, buffers),
-            talks: [Talk {
-                stage: Stage::Between,
+            call_states: [CallState {
+                stage: Stage::Idle,
                 call: None,
                 position: 0,
                 effect: None,
@@ -184,11 +184,11 @@ impl<S: SleepLayer<Attempt>> BufferLayer for PlainFifo<S> {
     }
 
     fn effect(&self, t: Tid) -> Option<Effect> {
-        self.talks[usize::from(t.0)].effect
+        self.call_states[usize::from(t.0)].effect
     }
 
     fn effect_here(&self, t: Tid) -> &Option<Effect> {
-        &self.talks[usize::from(t.0)].effect
+        &self.call_states[usize::from(t.0)].effect
     }
 
     fn look(&mut self, _m: &mut S::Machine) -> bool {
@@ -196,21 +196,21 @@ impl<S: SleepLayer<Attempt>> BufferLayer for PlainFifo<S> {
     }
 
     fn poll(&mut self, m: &mut S::Machine, t: Tid, call: &Call) -> Option<Reply> {
-        let mut tray = Tray::new();
+        let mut payload = Payload::new();
         let outcome = whole(
             &mut self.lower,
             m,
             buffer_in(call),
             attempt_in(t, call),
-            &mut tray,
+            &mut payload,
         );
         let effect = outcome.out.effect();
-        self.talks[usize::from(t.0)] = next(call, &effect);
+        self.call_states[usize::from(t.0)] = next(call, &effect);
         reply(call, &effect)
     }
 
     fn pass(&mut self, m: &mut S::Machine, call: Pass) -> Option<()> {
-        self.lower.pass(m, call, &mut Tray::new())
+        self.lower.pass(m, call, &mut Payload::new())
     }
 
     ghost own_cpu = { λ p m fits. (S.own_cpu p.lower m fits.0, fits.1, fits.2) };
@@ -220,12 +220,12 @@ impl<S: SleepLayer<Attempt>> BufferLayer for PlainFifo<S> {
     ghost stands = { λ p m fits. subst (λ h. Stands h (S.cpu_of p.lower) (moves_in (sleep_kernel attempts (S.opening m)) (S.seen m)) (S.own p.lower).threads)
         (sym (homes_viewed shown (S.opening m))) (S.stands p.lower m fits.0) };
 
-    ghost moved = { λ m c acts. subst (λ h. AreMoves h (moves_in (sleep_kernel attempts (S.opening m)) (S.seen m)))
-        (sym (homes_viewed shown (S.opening m))) (S.moving m c acts.0) };
+    ghost moves_legal = { λ m c acts. subst (λ h. AreMoves h (moves_in (sleep_kernel attempts (S.opening m)) (S.seen m)))
+        (sym (homes_viewed shown (S.opening m))) (S.moves_legal m c acts.0) };
 
-    ghost lists = { λ p m fits. subst (λ h. LinesAgree (length (caps_in (inner (S.opening m)))) h (moves_in (sleep_kernel attempts (S.opening m)) (S.seen m))
-        (lines_in (inner (S.opening m)) (buffer_sections (S.seen m)))) (sym (homes_viewed shown (S.opening m)))
-        (plain_lines (S.opening m) (S.seen m) fits.2.fresh (S.lists p.lower m fits.0)) };
+    ghost lists = { λ p m fits. subst (λ h. WaitListsAgree (length (caps_in (inner (S.opening m)))) h (moves_in (sleep_kernel attempts (S.opening m)) (S.seen m))
+        (wait_lists_in (inner (S.opening m)) (buffer_sections (S.seen m)))) (sym (homes_viewed shown (S.opening m)))
+        (plain_wait_lists (S.opening m) (S.seen m) fits.2.fresh (S.lists p.lower m fits.0)) };
 
     ghost opens = { λ m c acts. starts_viewed shown (S.opening m) (S.opens m c acts.0) };
 
@@ -237,7 +237,7 @@ impl<S: SleepLayer<Attempt>> BufferLayer for PlainFifo<S> {
 
     ghost busy = { λ p m fits step. absurd step };
 
-    ghost rests = { λ p m fits none. refl };
+    ghost idle = { λ p m fits none. refl };
 }
 
 impl<S: OwnedSleeps<Attempt>> OwnedBuffers for PlainFifo<S> {
@@ -255,9 +255,9 @@ impl<S: OwnedSleeps<Attempt>> OwnedBuffers for PlainFifo<S> {
     ghost use Rattle.layer_traits.specs.Renaming.{viewed_block};
     ghost use Rattle.layer_traits.specs.SleepLaw.{sleep_kernel};
     ghost use Rattle.plain_layers.specs.Attempts.{attempts};
-    ghost use Rattle.plain_layers.specs.Fifos.{caps_in, entries_in, lines_in, locked_after, shown};
-    ghost use Rattle.plain_layers.specs.FifoOwned.{buffer_there, closed_of, closed_told, entries_known, items_in, items_told, lines_of, lines_told};
-    ghost use Rattle.plain_layers.specs.FifoOwned.{nobody, nobody_owns, nothing_told, pending_told, there_viewed, view_told};
+    ghost use Rattle.plain_layers.specs.Fifos.{caps_in, entries_in, wait_lists_in, locked_after, shown};
+    ghost use Rattle.plain_layers.specs.FifoOwned.{buffer_there, closed_of, closed_read, entries_known, items_in, items_read, wait_lists_of, wait_lists_read};
+    ghost use Rattle.plain_layers.specs.FifoOwned.{nobody, nobody_owns, nothing_read, pending_read, there_viewed, view_read};
 
     ghost owner = { λ m b. nobody };
 
@@ -271,11 +271,11 @@ impl<S: OwnedSleeps<Attempt>> OwnedBuffers for PlainFifo<S> {
 
     ghost owner_at = { λ m b. Some nobody };
 
-    ghost owner_with = { λ p b. nothing_told };
+    ghost owner_with = { λ p b. nothing_read };
 
-    ghost lines_at = { λ m b. option_map lines_of (S.state_at m b) };
+    ghost wait_lists_at = { λ m b. option_map wait_lists_of (S.state_at m b) };
 
-    ghost lines_with = { λ p b. option_map lines_of (S.state_with p.lower b) };
+    ghost wait_lists_with = { λ p b. option_map wait_lists_of (S.state_with p.lower b) };
 
     ghost queue_at = { λ m d. S.queue_at m d };
 
@@ -325,12 +325,12 @@ impl<S: OwnedSleeps<Attempt>> OwnedBuffers for PlainFifo<S> {
         None
     }
 
-    fn line_in(m: &S::Machine, b: BufId, t: Tid) -> Option<Line> {
-        S::line_in(m, b, t)
+    fn wait_list_in(m: &S::Machine, b: BufId, t: Tid) -> Option<WaitList> {
+        S::wait_list_in(m, b, t)
     }
 
-    fn line_here(&self, b: BufId, t: Tid) -> Option<Line> {
-        self.lower.line_here(b, t)
+    fn wait_list_here(&self, b: BufId, t: Tid) -> Option<WaitList> {
+        self.lower.wait_list_here(b, t)
     }
 
     fn pends_in(m: &S::Machine, d: CpuId, t: Tid) -> Option<bool> {
@@ -343,20 +343,20 @@ impl<S: OwnedSleeps<Attempt>> OwnedBuffers for PlainFifo<S> {
 
     ghost known = { λ m c acts. entries_known (inner (S.opening m)) (S.seen m) (S.known m c acts.0) };
 
-    ghost items = { λ m c b acts within. view_told (λ (p : Self). p.lower) (λ p. S.Fits p m) (λ (p : Self). Self.Fits p m) (λ p. S.cpu_of p)
+    ghost items = { λ m c b acts within. view_read (λ (p : Self). p.lower) (λ p. S.Fits p m) (λ (p : Self). Self.Fits p m) (λ p. S.cpu_of p)
         (λ d. S.IsStepwise × (is_in_section (phase d (S.acts m)) ≡ true)) (λ d. ⊥ × (is_in_section (phase d (Self.acts m)) ≡ true)) (λ p fits. fits.0)
         (λ d inside. absurd (acts.1 inside.0)) (locked_after (inner (S.opening m)) (Buffer b) (buffer_sections (S.seen m))) items_in
         (λ p. S.state_with p b) (S.state_at m b)
         (items_of (contents_of (caps_in (inner (S.opening m))) (entries_in (inner (S.opening m)) (buffer_sections (S.seen m)))) b.0)
-        (items_told (S.opening m) acts.2.fresh b within (buffer_sections (S.seen m)))
+        (items_read (S.opening m) acts.2.fresh b within (buffer_sections (S.seen m)))
         (S.shown m c b acts.0 (buffer_there (S.opening m) acts.2.fresh b within)) };
 
-    ghost closed = { λ m c b acts within. view_told (λ (p : Self). p.lower) (λ p. S.Fits p m) (λ (p : Self). Self.Fits p m) (λ p. S.cpu_of p)
+    ghost closed = { λ m c b acts within. view_read (λ (p : Self). p.lower) (λ p. S.Fits p m) (λ (p : Self). Self.Fits p m) (λ p. S.cpu_of p)
         (λ d. S.IsStepwise × (is_in_section (phase d (S.acts m)) ≡ true)) (λ d. ⊥ × (is_in_section (phase d (Self.acts m)) ≡ true)) (λ p fits. fits.0)
         (λ d inside. absurd (acts.1 inside.0)) (locked_after (inner (S.opening m)) (Buffer b) (buffer_sections (S.seen m))) closed_of
         (λ p. S.state_with p b) (S.state_at m b)
         (is_closed (entries_in (inner (S.opening m)) (buffer_sections (S.seen m))) b.0)
-        (closed_told (S.opening m) acts.2.fresh b within (buffer_sections (S.seen m)))
+        (closed_read (S.opening m) acts.2.fresh b within (buffer_sections (S.seen m)))
         (S.shown m c b acts.0 (buffer_there (S.opening m) acts.2.fresh b within)) };
 
     ghost owners = { λ m c b acts within. nobody_owns (λ (p : Self). Self.Fits p m) (λ p. S.cpu_of p.lower)
@@ -366,15 +366,15 @@ impl<S: OwnedSleeps<Attempt>> OwnedBuffers for PlainFifo<S> {
 
     ghost items_are = { λ step m c b acts within. absurd step };
 
-    ghost beds = { λ m c b acts within. view_told (λ (p : Self). p.lower) (λ p. S.Fits p m) (λ (p : Self). Self.Fits p m) (λ p. S.cpu_of p)
+    ghost waiters_law = { λ m c b acts within. view_read (λ (p : Self). p.lower) (λ p. S.Fits p m) (λ (p : Self). Self.Fits p m) (λ p. S.cpu_of p)
         (λ d. S.IsStepwise × (is_in_section (phase d (S.acts m)) ≡ true)) (λ d. ⊥ × (is_in_section (phase d (Self.acts m)) ≡ true)) (λ p fits. fits.0)
-        (λ d inside. absurd (acts.1 inside.0)) (locked_after (inner (S.opening m)) (Buffer b) (buffer_sections (S.seen m))) lines_of
+        (λ d inside. absurd (acts.1 inside.0)) (locked_after (inner (S.opening m)) (Buffer b) (buffer_sections (S.seen m))) wait_lists_of
         (λ p. S.state_with p b) (S.state_at m b)
-        (λ line. lines_in (inner (S.opening m)) (buffer_sections (S.seen m)) b line)
-        (lines_told (S.opening m) acts.2.fresh b within (buffer_sections (S.seen m)))
+        (λ line. wait_lists_in (inner (S.opening m)) (buffer_sections (S.seen m)) b line)
+        (wait_lists_read (S.opening m) acts.2.fresh b within (buffer_sections (S.seen m)))
         (S.shown m c b acts.0 (buffer_there (S.opening m) acts.2.fresh b within)) };
 
-    ghost queues = { λ m c d acts there. pending_told (λ (p : Self). p.lower) (λ p. S.Fits p m) (λ (p : Self). Self.Fits p m) (λ p. S.cpu_of p)
+    ghost queues = { λ m c d acts there. pending_read (λ (p : Self). p.lower) (λ p. S.Fits p m) (λ (p : Self). Self.Fits p m) (λ p. S.cpu_of p)
         (λ d. S.IsStepwise × (is_in_section (phase d (S.acts m)) ≡ true)) (λ d. ⊥ × (is_in_section (phase d (Self.acts m)) ≡ true)) (λ p fits. fits.0)
         (λ d inside. absurd (acts.1 inside.0)) (λ p. S.queue_with p d) (S.queue_at m d)
         (pending_by (moves_in (sleep_kernel attempts (S.opening m)) (S.seen m)) d)

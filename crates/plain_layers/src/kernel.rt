@@ -6,13 +6,13 @@ ghost use Rattle.event_log.specs.declared.ids.TheConstants.{CPUS};
 ghost use Rattle.thread_blocks.specs.Queues.{is_in};
 ghost use Rattle.layer_traits.specs.QueueBlocks.{homes_in, inner};
 ghost use Rattle.layer_traits.specs.Queues.{CallAllowed, answer_of, event, kernel, lock_of};
-ghost use Rattle.layer_traits.specs.Trays.{call_carried, queue_brought};
+ghost use Rattle.layer_traits.specs.Payloads.{call_carried, queue_brought};
 ghost use Rattle.plain_layers.specs.Kernels.{CanDo, IsDone, IsKernel, calls_in, call_room, opening_of};
 ghost use Rattle.shared_queue.specs.Opening.{AreQueues};
 
 use arrayvec::ArrayVec;
 use event_log::{BufId, CpuId, EventLog, NoMemory, THREADS, Tid};
-use layer_traits::{Meant, Moves, QueueAnswer, QueueCall, QueueEvent, Tray, kept_homes};
+use layer_traits::{Ghost, Moves, Payload, QueueAnswer, QueueCall, QueueEvent, kept_homes};
 use std::alloc::Global;
 use std::snapshot::Snapshot;
 use thread_blocks::ThreadQueue;
@@ -77,21 +77,26 @@ impl<E: Moves> PlainKernel<E> {
     }
 
     /// Does a whole call: does it on the lists, notes it and gives its answer.
-    pub fn done(&mut self, cpu: CpuId, call: QueueCall<E>, tray: &mut Tray) -> QueueAnswer<E::Out>
+    pub fn done(
+        &mut self,
+        cpu: CpuId,
+        call: QueueCall<E>,
+        payload: &mut Payload,
+    ) -> QueueAnswer<E::Out>
         requires sound { IsKernel E.rules E.moves self.old.opening (calls_in self.old) self.old.lists }
         requires room { 0 < call_room self.old }
         requires cpu { cpu.0 < CPUS }
         requires lock { IsSome (opening_of self.old.opening (lock_of call)) }
         requires call { CallAllowed (kernel E.rules E.moves (opening_of self.old.opening)) (calls_in self.old) cpu call }
-        requires carried { call_carried E.carried call tray.old }
+        requires carried { call_carried E.carried call payload.old }
         ensures sound { IsKernel E.rules E.moves self.new.opening (calls_in self.new) self.new.lists }
         ensures opening { self.new.opening ≡ self.old.opening }
         ensures seen { calls_in self.new ≡ event cpu call ∷ calls_in self.old }
         ensures room { call_room self.old ≡ call_room self.new + 1 }
         ensures answer { answer_of (kernel E.rules E.moves (opening_of self.old.opening)) (calls_in self.old) call ≡ Some result }
-        ensures brought { queue_brought E.brought result tray.new }
+        ensures brought { queue_brought E.brought result payload.new }
     {
-        let answer = do_call::<E>(&mut self.lists, &call, tray);
+        let answer = do_call::<E>(&mut self.lists, &call, payload);
         self.log.push(QueueEvent { cpu, call }).unwrap();
         answer
     }
@@ -118,12 +123,12 @@ impl<E: Moves> PlainKernel<E> {
 fn do_call<E: Moves>(
     lists: &mut Lists<E::Block>,
     call: &QueueCall<E>,
-    tray: &mut Tray,
+    payload: &mut Payload,
 ) -> QueueAnswer<E::Out>
     requires can { CanDo call.now lists.old }
-    requires carried { call_carried E.carried call.now tray.old }
+    requires carried { call_carried E.carried call.now payload.old }
     ensures done { IsDone E.rules call.now lists.old lists.new result }
-    ensures brought { queue_brought E.brought result tray.new }
+    ensures brought { queue_brought E.brought result payload.new }
 {
     match call {
         QueueCall::Push(queue, t) => {
@@ -131,11 +136,11 @@ fn do_call<E: Moves>(
             QueueAnswer::Done
         }
         QueueCall::TakeAll(queue) => {
-            tray.taken = lists.pending[usize::from(queue.0)].take();
-            QueueAnswer::Taken(Meant::of(&tray.taken))
+            payload.taken = lists.pending[usize::from(queue.0)].take();
+            QueueAnswer::Taken(Ghost::of(&payload.taken))
         }
         QueueCall::OnBuffer(buffer, edit) => {
-            QueueAnswer::Answer(edit.apply(&mut lists.buffers[usize::from(buffer.0)], tray))
+            QueueAnswer::Answer(edit.apply(&mut lists.buffers[usize::from(buffer.0)], payload))
         }
     }
 }

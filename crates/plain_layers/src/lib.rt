@@ -31,13 +31,13 @@ pub use wholes::whole;
 #[cfg(test)]
 mod attempt_tests;
 #[cfg(test)]
-mod cond_paces;
+mod cond_sections;
 #[cfg(test)]
 mod cond_tests;
 #[cfg(test)]
 mod count_tests;
 #[cfg(test)]
-mod lock_paces;
+mod lock_sections;
 #[cfg(test)]
 mod lock_tests;
 #[cfg(test)]

@@ -10,7 +10,7 @@ ghost use Rattle.layer_traits.specs.Polls.{Answers};
 ghost use Rattle.plain_layers.specs.Tables.{IsSlot, IsTable, opening_in, room_in, sections_noted};
 
 use event_log::{CpuId, EventLog, LockId, NoMemory};
-use layer_traits::{Edit, Tray};
+use layer_traits::{Edit, Payload};
 use std::alloc::Global;
 use std::snapshot::Snapshot;
 
@@ -59,21 +59,21 @@ impl<E: Edit> LockTable<E> {
     }
 
     /// Does a whole section: edits the block of `lock`, notes it and gives the edit's answer.
-    pub fn done(&mut self, cpu: CpuId, lock: LockId, edit: E, tray: &mut Tray) -> E::Out
+    pub fn done(&mut self, cpu: CpuId, lock: LockId, edit: E, payload: &mut Payload) -> E::Out
         requires sound { IsTable E.rules (opening_in self.old) (sections_noted self.old) self.old.blocks.items }
         requires room { 0 < room_in self.old }
         requires cpu { cpu.0 < CPUS }
         requires lock { IsSome (opening_in self.old lock) }
         requires allowed { E.rules.allowed (opening_in self.old) (sections_noted self.old) (section cpu lock edit) }
-        requires carried { E.carried edit tray.old }
+        requires carried { E.carried edit payload.old }
         ensures sound { IsTable E.rules (opening_in self.new) (sections_noted self.new) self.new.blocks.items }
         ensures opening { opening_in self.new ≡ opening_in self.old }
         ensures seen { sections_noted self.new ≡ section cpu lock edit ∷ sections_noted self.old }
         ensures room { room_in self.old ≡ room_in self.new + 1 }
         ensures answer { Answers E.rules (opening_in self.old) (sections_noted self.old) (section cpu lock edit) result }
-        ensures brought { E.brought result tray.new }
+        ensures brought { E.brought result payload.new }
     {
-        let answer = edit_at(&mut self.blocks, lock, &edit, tray);
+        let answer = edit_at(&mut self.blocks, lock, &edit, payload);
         self.log.push(Noted { cpu, lock, edit }).unwrap();
         answer
     }
@@ -94,17 +94,17 @@ fn edit_at<E: Edit>(
     blocks: &mut Vec<(LockId, E::Block)>,
     lock: LockId,
     edit: &E,
-    tray: &mut Tray,
+    payload: &mut Payload,
 ) -> E::Out
     requires there { IsSome (opened blocks.old.items lock) }
-    requires carried { E.carried edit.now tray.old }
+    requires carried { E.carried edit.now payload.old }
     ensures block { (l : LockId) → opened blocks.new.items l
         ≡ (if same_lock l lock then option_map (E.rules.edited edit.now) (opened blocks.old.items l) else opened blocks.old.items l) }
     ensures answer { option_map (E.rules.answer edit.now) (opened blocks.old.items lock) ≡ Some result }
-    ensures brought { E.brought result tray.new }
+    ensures brought { E.brought result payload.new }
 {
     let slot = slot_of(blocks, lock);
-    edit.apply(&mut blocks[slot].1, tray)
+    edit.apply(&mut blocks[slot].1, payload)
 }
 
 /// The slot of `lock` in the list: the first entry that names it.

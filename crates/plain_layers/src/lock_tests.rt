@@ -8,16 +8,19 @@ ghost use Rattle.event_log.specs.declared.ids.TheConstants.{CPUS, THREADS};
 ghost use Rattle.layer_traits.specs.Locking.{AreAtRest};
 ghost use Rattle.layer_traits.specs.QueueBlocks.{homes_in, inner};
 ghost use Rattle.layer_traits.specs.Renaming.{viewed};
-ghost use Rattle.queuing_lock.specs.Nested.{lock_of};
-ghost use Rattle.plain_layers.specs.LockPaces.{HasEnded, SleepsFor};
+ghost use Rattle.queuing_lock.specs.Nested.{nested_lock_of};
+ghost use Rattle.plain_layers.specs.LockSections.{LockHasEnded, SleepsFor};
 ghost use Rattle.sleep_wakeup.specs.Nested.{state_of};
 
 use crate::PlainSched;
-use crate::lock_paces::{Pace, acquires, drains, is_handed, paces, releases, switches};
+use crate::lock_sections::{
+    PollSection, acquires, drains, is_handed, releases, section_polls, switches,
+};
 use crate::openings::Opens;
 use event_log::{BufId, CPUS, CpuId, NoMemory, THREADS, Tid};
 use layer_traits::{
-    Line, Locked, OwnedLocks, OwnedQLocks, QEdit, QLockLayer, QOut, QueueEdit, Side, Signal, Tray,
+    Locked, OwnedLocks, OwnedQLocks, Payload, QEdit, QLockLayer, QOut, QueueEdit, Side, WaitList,
+    WakeWaiter,
 };
 use plain_machine::Plain;
 use queuing_lock::{QBlock, QLock, QLockEdit, lock_blocks};
@@ -36,7 +39,7 @@ struct Reads {
 
 impl Locked for Reads {
     ghost use Rattle.std.specs.Prelude.{None};
-    ghost use Rattle.layer_traits.specs.declared.locked.Signal.TheVariants.{Nobody};
+    ghost use Rattle.layer_traits.specs.declared.locked.WakeWaiter.TheVariants.{Nobody};
 
     type Block = u8;
 
@@ -60,12 +63,12 @@ impl Locked for Reads {
         self.caller
     }
 
-    fn apply(&self, block: &mut u8, _tray: &mut Tray) -> u8 {
+    fn apply(&self, block: &mut u8, _payload: &mut Payload) -> u8 {
         *block
     }
 
-    fn signals(_out: &u8) -> Signal {
-        Signal::Nobody
+    fn signals(_out: &u8) -> WakeWaiter {
+        WakeWaiter::Nobody
     }
 
     fn last_caller(last: Tid) -> Tid {
@@ -94,8 +97,8 @@ fn one_sleeps<F: Locked + Copy, Q: OwnedQLocks<F>>(
     requires apart { Q.cpu_of zero.old ≢ Q.cpu_of one.old }
     requires buffer { IsSome (Q.opening m.old (Buffer (record { 0 = 0 }))) }
     requires room { section + section ≤ Q.room m.old }
-    requires owner { HasEnded F.rules (Q.own zero.old) (Q.under_way zero.old) (record { 0 = 0 }) }
-    requires asker { HasEnded F.rules (Q.own one.old) (Q.under_way one.old) (record { 0 = 1 }) }
+    requires owner { LockHasEnded F.rules (Q.own zero.old) (Q.under_way zero.old) (record { 0 = 0 }) }
+    requires asker { LockHasEnded F.rules (Q.own one.old) (Q.under_way one.old) (record { 0 = 1 }) }
     ensures zero { Q.Fits zero.new m.new }
     ensures one { Q.Fits one.new m.new }
     ensures first { Q.cpu_of zero.new ≡ Q.cpu_of zero.old }
@@ -103,19 +106,20 @@ fn one_sleeps<F: Locked + Copy, Q: OwnedQLocks<F>>(
     ensures opening { Q.opening m.new ≡ Q.opening m.old }
     ensures room { Q.room m.old ≤ Q.room m.new + (section + section) }
     ensures others { (p : Q) → Q.cpu_of p ≢ Q.cpu_of zero.old → Q.cpu_of p ≢ Q.cpu_of one.old → Q.Fits p m.old → Q.Fits p m.new }
-    ensures owner { result ≡ true → HasEnded F.rules (Q.own zero.new) (Q.under_way zero.new) (record { 0 = 0 }) }
+    ensures owner { result ≡ true → LockHasEnded F.rules (Q.own zero.new) (Q.under_way zero.new) (record { 0 = 0 }) }
     ensures sleeper { result ≡ true → SleepsFor F.rules (Q.own one.new) (Q.under_way one.new) (record { 0 = 1 }) (record { 0 = 0 }) }
 {
     let at = BufId(0);
-    let Some(Pace::Answered(acquired)) = acquires::<F, Q>(zero, m, at, Tid(0), section) else {
+    let Some(PollSection::Answered(acquired)) = acquires::<F, Q>(zero, m, at, Tid(0), section)
+    else {
         return false;
     };
-    let Some(Pace::Sleeps) = acquires::<F, Q>(one, m, at, Tid(1), section) else {
+    let Some(PollSection::Sleeps) = acquires::<F, Q>(one, m, at, Tid(1), section) else {
         return false;
     };
     matches!(acquired.out, QOut::Acquired)
         && one.current().is_none()
-        && Q::line_in(m, at, Tid(1)) == Some(Line::Sleepers)
+        && Q::wait_list_in(m, at, Tid(1)) == Some(WaitList::Sleepers)
 }
 
 /// Thread 0's Release leaves thread 1 the owner and in CPU 0's hand after the polls of a section,
@@ -130,26 +134,27 @@ fn hands_over<F: Locked + Copy, Q: OwnedQLocks<F>>(
     requires fits { Q.Fits zero.old m.old }
     requires buffer { IsSome (Q.opening m.old (Buffer (record { 0 = 0 }))) }
     requires room { section + section ≤ Q.room m.old }
-    requires owner { HasEnded F.rules (Q.own zero.old) (Q.under_way zero.old) (F.rules.last_caller last) }
+    requires owner { LockHasEnded F.rules (Q.own zero.old) (Q.under_way zero.old) (F.rules.last_caller last) }
     ensures opening { Q.opening m.new ≡ Q.opening m.old }
     ensures room { Q.room m.old ≤ Q.room m.new + (section + section) }
     ensures others { (p : Q) → Q.cpu_of p ≢ Q.cpu_of zero.old → Q.Fits p m.old → Q.Fits p m.new }
 {
     let at = BufId(0);
-    let Some(Pace::GoesOn) = releases::<F, Q>(zero, m, at, last, section) else {
+    let Some(PollSection::GoesOn) = releases::<F, Q>(zero, m, at, last, section) else {
         return false;
     };
     if zero.hand() != Some(Tid(1)) || Q::owner_in(m, at) != Some(Some(Tid(1))) {
         return false;
     }
-    match paces::<F, Q>(zero, m, at, &QEdit::Release(last), section) {
-        Some(Pace::Answered(released)) => released.woke == Some(Tid(1)) && zero.hand().is_none(),
+    match section_polls::<F, Q>(zero, m, at, &QEdit::Release(last), section) {
+        Some(PollSection::Answered(released)) => released.woke == Some(Tid(1))
+            && zero.hand().is_none(),
         _ => false,
     }
 }
 
 /// Thread 1 is told that it owns the lock only once it runs again on its CPU.
-fn one_is_told<F: Locked + Copy, Q: OwnedQLocks<F>>(
+fn one_is_observed<F: Locked + Copy, Q: OwnedQLocks<F>>(
     one: &mut Q,
     m: &mut Q::Machine,
     section: usize,
@@ -166,7 +171,7 @@ fn one_is_told<F: Locked + Copy, Q: OwnedQLocks<F>>(
         return false;
     }
     match is_handed::<F, Q>(one, m, BufId(0), Tid(1)) {
-        Some(Pace::Answered(handed)) => {
+        Some(PollSection::Answered(handed)) => {
             matches!(handed.out, QOut::Acquired) && Q::owner_in(m, BufId(0)) == Some(Some(Tid(1)))
         }
         _ => false,
@@ -192,9 +197,9 @@ fn is_handed_over<F: Locked + Copy, Q: OwnedQLocks<F>>(
     requires third { Q.cpu_of two.old ≡ record { 0 = 2 } }
     requires buffer { IsSome (Q.opening m.old (Buffer (record { 0 = 0 }))) }
     requires room { 6 * section < Q.room m.old }
-    requires owner { HasEnded F.rules (Q.own zero.old) (Q.under_way zero.old) (record { 0 = 0 }) }
-    requires asker { HasEnded F.rules (Q.own one.old) (Q.under_way one.old) (record { 0 = 1 }) }
-    requires last_asker { HasEnded F.rules (Q.own two.old) (Q.under_way two.old) (record { 0 = 2 }) }
+    requires owner { LockHasEnded F.rules (Q.own zero.old) (Q.under_way zero.old) (record { 0 = 0 }) }
+    requires asker { LockHasEnded F.rules (Q.own one.old) (Q.under_way one.old) (record { 0 = 1 }) }
+    requires last_asker { LockHasEnded F.rules (Q.own two.old) (Q.under_way two.old) (record { 0 = 2 }) }
 {
     if !switches::<F, Q>(zero, m) || !switches::<F, Q>(one, m) || !switches::<F, Q>(two, m) {
         return false;
@@ -202,32 +207,32 @@ fn is_handed_over<F: Locked + Copy, Q: OwnedQLocks<F>>(
     if !one_sleeps::<F, Q>(zero, one, m, section) || !hands_over::<F, Q>(zero, m, last, section) {
         return false;
     }
-    let Some(Pace::Sleeps) = acquires::<F, Q>(two, m, BufId(0), Tid(2), section) else {
+    let Some(PollSection::Sleeps) = acquires::<F, Q>(two, m, BufId(0), Tid(2), section) else {
         return false;
     };
-    one.current().is_none() && one_is_told::<F, Q>(one, m, section)
+    one.current().is_none() && one_is_observed::<F, Q>(one, m, section)
 }
 
 /// Thread 0 acquires: the machine tells of the lock, and the part has no block in its hands; then it
 /// begins a Release, and looks again.
-fn is_told<Q: OwnedQLocks<Reads>>(zero: &mut Q, m: &mut Q::Machine) -> bool
+fn is_observed<Q: OwnedQLocks<Reads>>(zero: &mut Q, m: &mut Q::Machine) -> bool
     requires fits { Q.Fits zero.old m.old }
     requires buffer { IsSome (Q.opening m.old (Buffer (record { 0 = 0 }))) }
     requires queue { IsSome (Q.opening m.old (Pending (record { 0 = 1 }))) }
     requires room { 5 < Q.room m.old }
-    requires ended { HasEnded ⟦<Reads as Locked>⟧.rules (Q.own zero.old) (Q.under_way zero.old) (record { 0 = 0 }) }
+    requires ended { LockHasEnded ⟦<Reads as Locked>⟧.rules (Q.own zero.old) (Q.under_way zero.old) (record { 0 = 0 }) }
 {
     let at = BufId(0);
     if !switches::<Reads, Q>(zero, m) || zero.is_ready(Tid(0)) || zero.has_ended(Tid(0)) {
         return false;
     }
-    let Some(Pace::Answered(_)) = acquires::<Reads, Q>(zero, m, at, Tid(0), 3) else {
+    let Some(PollSection::Answered(_)) = acquires::<Reads, Q>(zero, m, at, Tid(0), 3) else {
         return false;
     };
     if Q::block_in(m, at) != Some(&7) || zero.block_here(at).is_some() {
         return false;
     }
-    if zero.owner_here(at).is_some() || zero.line_here(at, Tid(0)).is_some() {
+    if zero.owner_here(at).is_some() || zero.wait_list_here(at, Tid(0)).is_some() {
         return false;
     }
     if Q::pends_in(m, CpuId(1), Tid(0)) != Some(false)
@@ -235,7 +240,7 @@ fn is_told<Q: OwnedQLocks<Reads>>(zero: &mut Q, m: &mut Q::Machine) -> bool
     {
         return false;
     }
-    let Some(Pace::GoesOn) = releases::<Reads, Q>(zero, m, at, Tid(0), 1) else {
+    let Some(PollSection::GoesOn) = releases::<Reads, Q>(zero, m, at, Tid(0), 1) else {
         return false;
     };
     zero.is_busy() && zero.look(m)
@@ -266,7 +271,7 @@ fn machine<S: Opens<Edits>>(alloc: Global) -> Result<S::Machine, NoMemory>
     ensures room { IfOk result (λ m. S.room m ≡ 30) }
     ensures homes { IfOk result (λ m. homes_in (S.opening m) ≡ record { 0 = 0 } ∷ record { 0 = 1 } ∷ record { 0 = 2 } ∷ []) }
     ensures queues { IfOk result (λ m. (c : CpuId) → c.0 < 3 → IsSome (S.opening m (Pending c))) }
-    ensures rest { IfOk result (λ m. AreAtRest (inner (viewed lock_of (viewed state_of (S.opening m))))) }
+    ensures rest { IfOk result (λ m. AreAtRest (inner (viewed nested_lock_of (viewed state_of (S.opening m))))) }
     ensures buffer { IfOk result (λ m. IsSome (S.opening m (Buffer (record { 0 = 0 })))) }
 {
     let above = one_block(alloc)?;
@@ -285,7 +290,7 @@ fn part<F: Locked, Q: QLockLayer<F>>(m: &Q::Machine, cpu: CpuId) -> Q
     requires rest { AreAtRest (inner (Q.opening m.now)) }
     ensures cpu { Q.cpu_of result ≡ cpu }
     ensures fits { Q.Fits result m.now }
-    ensures ended { (t : Tid) → t.0 < THREADS → HasEnded F.rules (Q.own result) (Q.under_way result) t }
+    ensures ended { (t : Tid) → t.0 < THREADS → LockHasEnded F.rules (Q.own result) (Q.under_way result) t }
 {
     let _ = m;
     Q::part(cpu, &[CpuId(0), CpuId(1), CpuId(2)], 1)
@@ -305,13 +310,13 @@ where
 }
 
 /// A machine of ticket locks tells of its lock.
-fn tells<S: Opens<Edits> + Drop>(alloc: Global) -> Result<bool, NoMemory>
+fn reads_true<S: Opens<Edits> + Drop>(alloc: Global) -> Result<bool, NoMemory>
 where
     S::Machine: Drop,
 {
     let mut m = machine::<S>(alloc)?;
     let mut zero = part::<Reads, Locks<S>>(&m, CpuId(0));
-    Ok(is_told::<Locks<S>>(&mut zero, &mut m))
+    Ok(is_observed::<Locks<S>>(&mut zero, &mut m))
 }
 
 /// Both over schedulers on these critical sections, which take three polls.
@@ -322,7 +327,7 @@ where
     if !is_handed_on::<Sched<SharedQueues<L>>>(alloc, 3)? {
         return Ok(false);
     }
-    tells::<Sched<SharedQueues<L>>>(alloc)
+    reads_true::<Sched<SharedQueues<L>>>(alloc)
 }
 
 #[test]

@@ -4,7 +4,7 @@ ghost use Rattle.std.specs.Prelude.{◌≡◌, [], None};
 
 use crate::lock_table::LockTable;
 use event_log::{CpuId, LockId, NoMemory};
-use layer_traits::{Edit, LockLayer, OwnedLocks, Tray};
+use layer_traits::{Edit, LockLayer, OwnedLocks, Payload};
 use std::alloc::Global;
 use std::marker::PhantomData;
 
@@ -63,9 +63,9 @@ impl<E: Edit> LockLayer<E> for PlainLock<E> {
         m: &mut LockTable<E>,
         lock: LockId,
         edit: E,
-        tray: &mut Tray,
+        payload: &mut Payload,
     ) -> Option<E::Out> {
-        Some(m.done(self.cpu, lock, edit, tray))
+        Some(m.done(self.cpu, lock, edit, payload))
     }
 
     ghost own_cpu = { λ p m fits. fits };

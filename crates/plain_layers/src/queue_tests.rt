@@ -7,15 +7,15 @@ ghost use Rattle.event_log.specs.declared.ids.TheConstants.{CPUS};
 ghost use Rattle.layer_traits.specs.Plans.{IsWhole};
 ghost use Rattle.layer_traits.specs.QueueBlocks.{homes_in, inner};
 ghost use Rattle.layer_traits.specs.Queues.{QueueAllowed, StaysCallable, event, kernel, lock_of};
-ghost use Rattle.layer_traits.specs.Trays.{call_carried, queue_brought};
-ghost use Rattle.plain_layers.specs.Naps.{bed};
-ghost use Rattle.plain_layers.specs.QueuePaces.{cpu_one, cpu_zero};
+ghost use Rattle.layer_traits.specs.Payloads.{call_carried, queue_brought};
+ghost use Rattle.plain_layers.specs.Naps.{waiters_of};
+ghost use Rattle.plain_layers.specs.QueueSections.{cpu_one, cpu_zero};
 
 use crate::PlainQueues;
 use crate::kernel::PlainKernel;
 use crate::sched_tests::Nap;
 use event_log::{BufId, CpuId, NoMemory, Tid};
-use layer_traits::{Moves, QueueAnswer, QueueCall, QueueLayer, Tray};
+use layer_traits::{Moves, Payload, QueueAnswer, QueueCall, QueueLayer};
 use std::alloc::Global;
 use std::process::Abort;
 use std::test::Fail;
@@ -27,7 +27,7 @@ fn at_once<E: Moves, Q: QueueLayer<E>>(
     part: &mut Q,
     m: &mut Q::Machine,
     call: QueueCall<E>,
-    tray: &mut Tray,
+    payload: &mut Payload,
 ) -> QueueAnswer<E::Out>
     requires whole { IsWhole Q.IsStepwise }
     requires all { (c : CpuId) → c.0 < CPUS → Q.ActsFor m.old c }
@@ -36,7 +36,7 @@ fn at_once<E: Moves, Q: QueueLayer<E>>(
     requires lock { IsSome (Q.opening m.old (lock_of call)) }
     requires room { 0 < Q.room m.old }
     requires call { StaysCallable (QueueAllowed (kernel E.rules E.moves (Q.opening m.old))) (Q.seen m.old) (event (Q.cpu_of part.old) call) }
-    requires carried { call_carried E.carried call tray.old }
+    requires carried { call_carried E.carried call payload.old }
     ensures all { (c : CpuId) → c.0 < CPUS → Q.ActsFor m.new c }
     ensures fits { Q.Fits part.new m.new }
     ensures idle { Q.under_way part.new ≡ None }
@@ -45,18 +45,18 @@ fn at_once<E: Moves, Q: QueueLayer<E>>(
     ensures room { Q.room m.old ≤ Q.room m.new + 1 }
     ensures seen { Q.seen m.new ≡ event (Q.cpu_of part.old) call ∷ Q.seen m.old }
     ensures others { (p : Q) → Q.cpu_of p ≢ Q.cpu_of part.old → Q.Fits p m.old → Q.Fits p m.new }
-    ensures brought { queue_brought E.brought result tray.new }
+    ensures brought { queue_brought E.brought result payload.new }
 {
-    part.poll(m, call, tray).unwrap()
+    part.poll(m, call, payload).unwrap()
 }
 
-/// Whether the threads that were taken, which lie in the tray, are this one alone.
-fn is_taken(answer: QueueAnswer<(bool, Option<Tid>)>, tray: &mut Tray, t: Tid) -> bool {
+/// Whether the threads that were taken, which lie in the payload, are this one alone.
+fn is_taken(answer: QueueAnswer<(bool, Option<Tid>)>, payload: &mut Payload, t: Tid) -> bool {
     let QueueAnswer::Taken(_) = answer else {
         return false;
     };
     let mut queue = ThreadQueue::new();
-    tray.taken.drain_into(&mut queue);
+    payload.taken.drain_into(&mut queue);
     queue.len() == 1 && queue.front() == Some(t)
 }
 
@@ -80,7 +80,7 @@ fn meet_at_one_queue<Q: QueueLayer<Nap>>(
     requires apart { Q.cpu_of first.old ≢ Q.cpu_of second.old }
     requires others { Q.cpu_of second.old ≢ Q.cpu_of first.old }
     requires homes { homes_in (Q.opening m.old) ≡ cpu_one ∷ cpu_zero ∷ [] }
-    requires free { inner (Q.opening m.old) bed ≡ Some None }
+    requires free { inner (Q.opening m.old) waiters_of ≡ Some None }
     requires queue { IsSome (Q.opening m.old (Pending cpu_zero)) }
     requires seen { Q.seen m.old ≡ [] }
     requires room { 4 ≤ Q.room m.old }
@@ -93,15 +93,15 @@ fn meet_at_one_queue<Q: QueueLayer<Nap>>(
         by: Tid(0),
         wakes: true,
     };
-    let mut tray = Tray::new();
-    let slept = at_once(first, m, QueueCall::OnBuffer(BufId(0), sleep), &mut tray);
+    let mut payload = Payload::new();
+    let slept = at_once(first, m, QueueCall::OnBuffer(BufId(0), sleep), &mut payload);
     assert!(rt; matches!(slept, QueueAnswer::Answer((true, None))));
-    let woke = at_once(second, m, QueueCall::OnBuffer(BufId(0), wake), &mut tray);
+    let woke = at_once(second, m, QueueCall::OnBuffer(BufId(0), wake), &mut payload);
     assert!(rt; matches!(woke, QueueAnswer::Answer((false, Some(Tid(1))))));
-    let pushed = at_once(second, m, QueueCall::Push(CpuId(0), Tid(1)), &mut tray);
+    let pushed = at_once(second, m, QueueCall::Push(CpuId(0), Tid(1)), &mut payload);
     assert!(rt; matches!(pushed, QueueAnswer::Done));
-    let taken = at_once(first, m, QueueCall::TakeAll(CpuId(0)), &mut tray);
-    assert!(rt; is_taken(taken, &mut tray, Tid(1)));
+    let taken = at_once(first, m, QueueCall::TakeAll(CpuId(0)), &mut payload);
+    assert!(rt; is_taken(taken, &mut payload, Tid(1)));
 }
 
 /// Two CPUs at the queue of the first, on a machine of lists.

@@ -4,7 +4,7 @@ ghost use Rattle.std.specs.Prelude.{◌≡◌, [], None};
 
 use crate::kernel::PlainKernel;
 use event_log::{BufId, CpuId, Tid};
-use layer_traits::{Moves, OwnedQueues, QueueAnswer, QueueCall, QueueLayer, Tray};
+use layer_traits::{Moves, OwnedQueues, Payload, QueueAnswer, QueueCall, QueueLayer};
 use std::marker::PhantomData;
 
 /// One CPU's part of shared queues as they are meant: a push, a taking or an edit is done in one
@@ -21,7 +21,7 @@ impl<E: Moves> QueueLayer<E> for PlainQueues<E> {
     ghost use Rattle.layer_traits.specs.Plans.{Follows, IsWhole, answered, table_of};
     ghost use Rattle.layer_traits.specs.QueueRules.{queue_rules};
     ghost use Rattle.layer_traits.specs.Queues.{MayQueue, QueueAllowed, QueuePolled, event, kernel, lock_of, queue_plan};
-    ghost use Rattle.layer_traits.specs.Trays.{call_carried, queue_brought};
+    ghost use Rattle.layer_traits.specs.Payloads.{call_carried, queue_brought};
     ghost use Rattle.plain_layers.specs.declared.queues.PlainQueues.{PlainQueues};
     ghost use Rattle.plain_layers.specs.Kernels.{HasKernel, calls_in, call_room, no_site, opening_of};
 
@@ -68,19 +68,19 @@ impl<E: Moves> QueueLayer<E> for PlainQueues<E> {
         &mut self,
         m: &mut PlainKernel<E>,
         call: QueueCall<E>,
-        tray: &mut Tray,
+        payload: &mut Payload,
     ) -> Option<QueueAnswer<E::Out>>
         requires fits { HasKernel E.rules E.moves m.old self.old.cpu }
         requires lock { IsSome (opening_of m.old.opening (lock_of call)) }
         requires room { 0 < call_room m.old }
         requires call { MayQueue (QueueAllowed (kernel E.rules E.moves (opening_of m.old.opening))) (calls_in m.old) None
             (event self.old.cpu call) }
-        requires carried { call_carried E.carried call tray.old }
+        requires carried { call_carried E.carried call payload.old }
         ensures fits { HasKernel E.rules E.moves m.new self.new.cpu }
         ensures cpu { self.new.cpu ≡ self.old.cpu }
         ensures call { None ≡ (if is_some result then None else Some (event self.old.cpu call)) }
         ensures prompt { IsWhole ⊥ → IsSome result }
-        ensures brought { IfSome result (λ answer. queue_brought E.brought answer tray.new) }
+        ensures brought { IfSome result (λ answer. queue_brought E.brought answer payload.new) }
         ensures seen { QueuePolled (kernel E.rules E.moves (opening_of m.old.opening)) (HasKernel E.rules E.moves m.old)
             (event self.old.cpu call) result (calls_in m.old) (calls_in m.new) }
         ensures opening { opening_of m.new.opening ≡ opening_of m.old.opening }
@@ -92,7 +92,7 @@ impl<E: Moves> QueueLayer<E> for PlainQueues<E> {
         ensures follows { ⊥ → Follows (HasKernel E.rules E.moves m.old) (table_of (queue_rules E.rules E.moves)) (opening_of m.old.opening) self.old.cpu
             (queue_plan call) [] [] (answered result) }
     {
-        Some(m.done(self.cpu, call, tray))
+        Some(m.done(self.cpu, call, payload))
     }
 
     ghost own_cpu = { λ p m fits. fits };

@@ -7,14 +7,14 @@ ghost use Rattle.event_log.specs.declared.ids.TheConstants.{CPUS, THREADS};
 ghost use Rattle.layer_traits.specs.declared.scheds.SchedCall.TheVariants.{Pass as ThePass};
 ghost use Rattle.layer_traits.specs.Passes.{MayPass};
 ghost use Rattle.layer_traits.specs.QueueBlocks.{StartsWell, homes_in, inner};
-ghost use Rattle.plain_layers.specs.Naps.{bed};
+ghost use Rattle.plain_layers.specs.Naps.{waiters_of};
 ghost use Rattle.shared_queue.specs.Opening.{AreQueues};
 
 use crate::openings::Opens;
 use crate::{PlainLock, PlainQueues, PlainSched};
 use event_log::{BufId, CPUS, CpuId, LockId, NoMemory, Tid};
 use layer_traits::{
-    Edit, Line, Moves, OwnedLocks, OwnedScheds, Pass, QueueEdit, SchedCall, SchedLayer, Tray,
+    Edit, Moves, OwnedLocks, OwnedScheds, Pass, Payload, QueueEdit, SchedCall, SchedLayer, WaitList,
 };
 use plain_machine::{GrantLockWords, GrantPlain, Plain};
 use scheduler::Sched;
@@ -40,7 +40,7 @@ impl Edit for Nap {
 
     ghost rules = { nap_rules (λ e. e.wakes) (λ e. e.by) };
 
-    fn apply(&self, block: &mut Option<Tid>, _tray: &mut Tray) -> (bool, Option<Tid>) {
+    fn apply(&self, block: &mut Option<Tid>, _payload: &mut Payload) -> (bool, Option<Tid>) {
         if self.wakes {
             let woke = *block;
             *block = None;
@@ -61,8 +61,12 @@ impl Moves for Nap {
 
     ghost moves = { nap_moves (λ e. e.by) };
 
-    fn slept(out: &(bool, Option<Tid>)) -> Option<Line> {
-        if out.0 { Some(Line::Sleepers) } else { None }
+    fn slept(out: &(bool, Option<Tid>)) -> Option<WaitList> {
+        if out.0 {
+            Some(WaitList::Sleepers)
+        } else {
+            None
+        }
     }
 
     fn woke(out: &(bool, Option<Tid>)) -> Option<Tid> {
@@ -81,7 +85,7 @@ fn machine<S: Opens<Nap>>(alloc: Global, cpus: u8, homes: &[CpuId]) -> Result<S:
     ensures room { IfOk result (λ m. S.room m ≡ 40) }
     ensures homes { IfOk result (λ m. homes_in (S.opening m) ≡ homes.now) }
     ensures queues { IfOk result (λ m. (c : CpuId) → c.0 < cpus → IsSome (S.opening m (Pending c))) }
-    ensures free { IfOk result (λ m. inner (S.opening m) bed ≡ Some None) }
+    ensures free { IfOk result (λ m. inner (S.opening m) waiters_of ≡ Some None) }
 {
     let mut blocks = Vec::new(alloc);
     if blocks.push(None).is_err() {
@@ -108,7 +112,7 @@ fn may_pass<S: SchedLayer<Nap>>(part: &S, pass: Pass) -> bool
 fn passed_at<S: SchedLayer<Nap>>(part: &mut S, m: &mut S::Machine, pass: Pass) -> u8
     requires fits { S.Fits part.old m.old }
     requires room { 3 ≤ S.room m.old }
-    requires free { inner (S.opening m.old) bed ≡ Some None }
+    requires free { inner (S.opening m.old) waiters_of ≡ Some None }
     ensures fits { S.Fits part.new m.new }
     ensures room { S.room m.old ≤ S.room m.new + 3 }
     ensures opening { S.opening m.new ≡ S.opening m.old }
@@ -118,14 +122,14 @@ fn passed_at<S: SchedLayer<Nap>>(part: &mut S, m: &mut S::Machine, pass: Pass) -
     if part.is_busy() || !may_pass(part, pass) {
         return 0;
     }
-    let mut tray = Tray::new();
-    if part.poll(m, SchedCall::Pass(pass), &mut tray).is_some() {
+    let mut payload = Payload::new();
+    if part.poll(m, SchedCall::Pass(pass), &mut payload).is_some() {
         return 1;
     }
-    if part.poll(m, SchedCall::Pass(pass), &mut tray).is_some() {
+    if part.poll(m, SchedCall::Pass(pass), &mut payload).is_some() {
         return 2;
     }
-    if part.poll(m, SchedCall::Pass(pass), &mut tray).is_some() {
+    if part.poll(m, SchedCall::Pass(pass), &mut payload).is_some() {
         3
     } else {
         0
@@ -136,7 +140,7 @@ fn passed_at<S: SchedLayer<Nap>>(part: &mut S, m: &mut S::Machine, pass: Pass) -
 fn napped_at<S: SchedLayer<Nap>>(part: &mut S, m: &mut S::Machine, nap: Nap) -> u8
     requires fits { S.Fits part.old m.old }
     requires room { 3 ≤ S.room m.old }
-    requires free { inner (S.opening m.old) bed ≡ Some None }
+    requires free { inner (S.opening m.old) waiters_of ≡ Some None }
     ensures fits { S.Fits part.new m.new }
     ensures room { S.room m.old ≤ S.room m.new + 3 }
     ensures opening { S.opening m.new ≡ S.opening m.old }
@@ -146,21 +150,21 @@ fn napped_at<S: SchedLayer<Nap>>(part: &mut S, m: &mut S::Machine, nap: Nap) -> 
     if part.is_busy() || part.current() != Some(nap.by) || part.hand().is_some() {
         return 0;
     }
-    let mut tray = Tray::new();
+    let mut payload = Payload::new();
     if part
-        .poll(m, SchedCall::OnBuffer(BufId(0), nap), &mut tray)
+        .poll(m, SchedCall::OnBuffer(BufId(0), nap), &mut payload)
         .is_some()
     {
         return 1;
     }
     if part
-        .poll(m, SchedCall::OnBuffer(BufId(0), nap), &mut tray)
+        .poll(m, SchedCall::OnBuffer(BufId(0), nap), &mut payload)
         .is_some()
     {
         return 2;
     }
     if part
-        .poll(m, SchedCall::OnBuffer(BufId(0), nap), &mut tray)
+        .poll(m, SchedCall::OnBuffer(BufId(0), nap), &mut payload)
         .is_some()
     {
         3
@@ -171,9 +175,9 @@ fn napped_at<S: SchedLayer<Nap>>(part: &mut S, m: &mut S::Machine, nap: Nap) -> 
 
 /// Thread `t` sleeps at buffer 0, or waits in CPU 0's queue: the machine tells it, and no part has the
 /// block or the queue in its hands.
-fn is_told<S: OwnedScheds<Nap>>(part: &S, m: &S::Machine, t: Tid, pends: bool) -> bool
+fn is_observed<S: OwnedScheds<Nap>>(part: &S, m: &S::Machine, t: Tid, pends: bool) -> bool
     requires fits { S.Fits part.now m.now }
-    requires free { inner (S.opening m.now) bed ≡ Some None }
+    requires free { inner (S.opening m.now) waiters_of ≡ Some None }
     requires queue { IsSome (S.opening m.now (Pending (record { 0 = 0 }))) }
 {
     let sleeper = if pends { None } else { Some(t) };
@@ -218,7 +222,7 @@ fn part<S: SchedLayer<Nap>>(m: &S::Machine, cpu: CpuId, homes: &[CpuId]) -> S
 fn take_turns<S: SchedLayer<Nap>>(rt: &impl Abort, part: &mut S, m: &mut S::Machine, polls: u8)
     requires fits { S.Fits part.old m.old }
     requires room { 12 ≤ S.room m.old }
-    requires free { inner (S.opening m.old) bed ≡ Some None }
+    requires free { inner (S.opening m.old) waiters_of ≡ Some None }
 {
     assert_eq!(rt; passed_at(part, m, Pass::Switch), 1);
     assert!(rt; part.current() == Some(Tid(0)));
@@ -241,7 +245,7 @@ fn falls_asleep<S: SchedLayer<Nap>>(
 )
     requires fits { S.Fits part.old m.old }
     requires room { 6 ≤ S.room m.old }
-    requires free { inner (S.opening m.old) bed ≡ Some None }
+    requires free { inner (S.opening m.old) waiters_of ≡ Some None }
     ensures fits { S.Fits part.new m.new }
     ensures room { S.room m.old ≤ S.room m.new + 6 }
     ensures opening { S.opening m.new ≡ S.opening m.old }
@@ -268,7 +272,7 @@ fn wakes<S: SchedLayer<Nap>>(
 )
     requires fits { S.Fits part.old m.old }
     requires room { 6 ≤ S.room m.old }
-    requires free { inner (S.opening m.old) bed ≡ Some None }
+    requires free { inner (S.opening m.old) waiters_of ≡ Some None }
     ensures fits { S.Fits part.new m.new }
     ensures room { S.room m.old ≤ S.room m.new + 6 }
     ensures opening { S.opening m.new ≡ S.opening m.old }
@@ -291,7 +295,7 @@ fn sends_home<S: SchedLayer<Nap>>(
 )
     requires fits { S.Fits part.old m.old }
     requires room { 3 ≤ S.room m.old }
-    requires free { inner (S.opening m.old) bed ≡ Some None }
+    requires free { inner (S.opening m.old) waiters_of ≡ Some None }
     ensures room { S.room m.old ≤ S.room m.new + 3 }
     ensures opening { S.opening m.new ≡ S.opening m.old }
     ensures others { (p : S) → S.cpu_of p ≢ S.cpu_of part.old → S.Fits p m.old → S.Fits p m.new }
@@ -310,7 +314,7 @@ fn runs_again<S: SchedLayer<Nap>>(
 )
     requires fits { S.Fits part.old m.old }
     requires room { 6 ≤ S.room m.old }
-    requires free { inner (S.opening m.old) bed ≡ Some None }
+    requires free { inner (S.opening m.old) waiters_of ≡ Some None }
 {
     assert_eq!(rt; passed_at(part, m, Pass::Drain), polls);
     assert!(rt; part.is_ready(t));
@@ -332,7 +336,7 @@ fn polled<S: SchedLayer<Nap>>(part: &mut S, m: &mut S::Machine, pass: Pass) -> b
     if !part.is_busy() && !may_pass(part, pass) {
         return false;
     }
-    part.poll(m, SchedCall::Pass(pass), &mut Tray::new())
+    part.poll(m, SchedCall::Pass(pass), &mut Payload::new())
         .is_some()
 }
 
@@ -393,10 +397,10 @@ where
     let mut first: S = part(&m, CpuId(0), &homes);
     let mut second: S = part(&m, CpuId(1), &homes);
     falls_asleep(rt, &mut first, &mut m, Tid(0), polls);
-    assert!(rt; is_told(&first, &m, Tid(0), false));
+    assert!(rt; is_observed(&first, &m, Tid(0), false));
     wakes(rt, &mut second, &mut m, Tid(1), Tid(0), polls);
     sends_home(rt, &mut second, &mut m, Tid(0), polls);
-    assert!(rt; is_told(&first, &m, Tid(0), true));
+    assert!(rt; is_observed(&first, &m, Tid(0), true));
     runs_again(rt, &mut first, &mut m, Tid(0), polls);
     Ok(())
 }
@@ -497,13 +501,13 @@ fn one_step_schedulers_do_a_call_in_one_poll(rt: HostRuntime) -> Result<(), Fail
 }
 
 /// A scheduler over locks with a grant word for each waiter.
-type OverGrants = Sched<SharedQueues<Grant<GrantPlain<QueueEdit<Nap>>>>>;
+type TowerOverGrants = Sched<SharedQueues<Grant<GrantPlain<QueueEdit<Nap>>>>>;
 
 /// Whether two drains of a CPU's empty queue each answer at their third poll.
 fn drains_twice<S: SchedLayer<Nap>>(part: &mut S, m: &mut S::Machine) -> bool
     requires fits { S.Fits part.old m.old }
     requires room { 6 ≤ S.room m.old }
-    requires free { inner (S.opening m.old) bed ≡ Some None }
+    requires free { inner (S.opening m.old) waiters_of ≡ Some None }
     ensures fits { S.Fits part.new m.new }
     ensures opening { S.opening m.new ≡ S.opening m.old }
     ensures cpu { S.cpu_of part.new ≡ S.cpu_of part.old }
@@ -517,8 +521,8 @@ fn drains_twice<S: SchedLayer<Nap>>(part: &mut S, m: &mut S::Machine) -> bool
 /// `None` where one took other polls.
 fn words_behind_two_drains(alloc: Global) -> Result<Option<GrantLockWords>, NoMemory> {
     let homes = [CpuId(1)];
-    let mut m = machine::<OverGrants>(alloc, 2, &homes)?;
-    let mut drains: OverGrants = part(&m, CpuId(0), &homes);
+    let mut m = machine::<TowerOverGrants>(alloc, 2, &homes)?;
+    let mut drains: TowerOverGrants = part(&m, CpuId(0), &homes);
     if !drains_twice(&mut drains, &mut m) {
         return Ok(None);
     }

@@ -5,7 +5,7 @@ ghost use Rattle.std.specs.Prelude.{◌≡◌, [], None};
 use crate::kernel::PlainKernel;
 use arrayvec::ArrayVec;
 use event_log::{BufId, CpuId, THREADS, Tid};
-use layer_traits::{Moves, OwnedScheds, SchedAnswer, SchedCall, SchedLayer, Tray, kept_homes};
+use layer_traits::{Moves, OwnedScheds, Payload, SchedAnswer, SchedCall, SchedLayer, kept_homes};
 use scheduler::{OwnThreads, call_beneath};
 use std::marker::PhantomData;
 
@@ -27,7 +27,7 @@ impl<E: Moves> SchedLayer<E> for PlainSched<E> {
     ghost use Rattle.layer_traits.specs.QueueRules.{queue_rules};
     ghost use Rattle.layer_traits.specs.Queues.{kernel};
     ghost use Rattle.layer_traits.specs.Scheds.{BufferIsThere, IsLocal, IsShared, MaySched, SchedPolled, left, sched_plan};
-    ghost use Rattle.layer_traits.specs.Trays.{sched_brought, sched_carried};
+    ghost use Rattle.layer_traits.specs.Payloads.{sched_brought, sched_carried};
     ghost use Rattle.plain_layers.specs.declared.scheds.PlainSched.{PlainSched};
     ghost use Rattle.plain_layers.specs.Kernels.{HasKernel, calls_in, call_room, no_site, opening_of};
     ghost use Rattle.plain_layers.specs.KernelParts.{HasThreads};
@@ -99,18 +99,18 @@ impl<E: Moves> SchedLayer<E> for PlainSched<E> {
         &mut self,
         m: &mut PlainKernel<E>,
         call: SchedCall<E>,
-        tray: &mut Tray,
+        payload: &mut Payload,
     ) -> Option<SchedAnswer<E::Out>>
         requires fits { HasThreads E.rules E.moves m.old self.old.cpu self.old.homes.items self.old.own }
         requires buffer { BufferIsThere (opening_of m.old.opening) call }
         requires room { 0 < call_room m.old }
         requires call { MaySched (kernel E.rules E.moves (opening_of m.old.opening)) self.old.cpu (calls_in m.old) self.old.own None call }
-        requires carried { sched_carried E.carried call tray.old }
+        requires carried { sched_carried E.carried call payload.old }
         ensures fits { HasThreads E.rules E.moves m.new self.new.cpu self.new.homes.items self.new.own }
         ensures cpu { self.new.cpu ≡ self.old.cpu }
         ensures call { None ≡ (if is_some result then None else Some call) }
         ensures prompt { IsWhole ⊥ → IsSome result }
-        ensures brought { IfSome result (λ answer. sched_brought E.brought answer tray.new) }
+        ensures brought { IfSome result (λ answer. sched_brought E.brought answer payload.new) }
         ensures seen { SchedPolled (kernel E.rules E.moves (opening_of m.old.opening)) (HasKernel E.rules E.moves m.old) self.old.cpu call result
             (calls_in m.old) (calls_in m.new) self.old.own self.new.own }
         ensures still { IsLocal call → m.new ≡ m.old }
@@ -131,8 +131,8 @@ impl<E: Moves> SchedLayer<E> for PlainSched<E> {
                 Some(SchedAnswer::Done)
             }
             Ok(step) => {
-                let answer = m.done(self.cpu, step, tray);
-                Some(self.own.answered::<E>(homes, self.cpu, answer, tray))
+                let answer = m.done(self.cpu, step, payload);
+                Some(self.own.answered::<E>(homes, self.cpu, answer, payload))
             }
         }
     }

@@ -14,7 +14,7 @@ use crate::PlainSched;
 use crate::openings::Opens;
 use event_log::{BufId, CPUS, CpuId, NoMemory, Tid};
 use layer_traits::{
-    Leave, Line, Outcome, OwnedLocks, OwnedSleeps, Pass, QueueEdit, SleepLayer, Sleeps, Tray,
+    Outcome, OwnedLocks, OwnedSleeps, Pass, Payload, QueueEdit, SleepLayer, Sleeps, WaitList, Wake,
 };
 use plain_machine::Plain;
 use scheduler::Sched;
@@ -34,8 +34,8 @@ struct Nap {
 
 impl Sleeps for Nap {
     ghost use Rattle.std.specs.Prelude.{Some, None, if◌then◌else◌};
-    ghost use Rattle.layer_traits.specs.declared.moves.Line.TheVariants.{Receivers};
-    ghost use Rattle.layer_traits.specs.declared.sleeps.Leave.TheVariants.{Nobody, Receiver};
+    ghost use Rattle.layer_traits.specs.declared.moves.WaitList.TheVariants.{Receivers};
+    ghost use Rattle.layer_traits.specs.declared.sleeps.Wake.TheVariants.{Nobody, Receiver};
 
     type Block = u8;
 
@@ -54,22 +54,22 @@ impl Sleeps for Nap {
         self.caller
     }
 
-    fn apply(&self, _first: Option<Tid>, _block: &mut u8, _tray: &mut Tray) -> Nap {
+    fn apply(&self, _first: Option<Tid>, _block: &mut u8, _payload: &mut Payload) -> Nap {
         *self
     }
 
-    fn joins(out: &Nap) -> Option<Line> {
+    fn joins(out: &Nap) -> Option<WaitList> {
         if out.sleeps {
-            return Some(Line::Receivers);
+            return Some(WaitList::Receivers);
         }
         None
     }
 
-    fn leaves(out: &Nap) -> Leave {
+    fn leaves(out: &Nap) -> Wake {
         if out.sleeps {
-            return Leave::Nobody;
+            return Wake::Nobody;
         }
-        Leave::Receiver(out.other)
+        Wake::Receiver(out.other)
     }
 }
 
@@ -106,7 +106,7 @@ fn switches<S: SleepLayer<Nap>>(part: &mut S, m: &mut S::Machine) -> bool
     if part.current().is_some() || part.hand().is_some() || !part.has_ready() {
         return false;
     }
-    part.pass(m, Pass::Switch, &mut Tray::new()).is_some()
+    part.pass(m, Pass::Switch, &mut Payload::new()).is_some()
 }
 
 /// Polls a section, if its caller runs and nobody stands in the hand, until it answers, at most three
@@ -130,14 +130,14 @@ fn ends_at<S: SleepLayer<Nap>>(
     if part.current() != Some(nap.caller) || part.hand().is_some() {
         return None;
     }
-    let mut tray = Tray::new();
-    if let Some(outcome) = part.poll(m, BufId(0), nap, &mut tray) {
+    let mut payload = Payload::new();
+    if let Some(outcome) = part.poll(m, BufId(0), nap, &mut payload) {
         return Some((1, outcome));
     }
-    if let Some(outcome) = part.poll(m, BufId(0), nap, &mut tray) {
+    if let Some(outcome) = part.poll(m, BufId(0), nap, &mut payload) {
         return Some((2, outcome));
     }
-    match part.poll(m, BufId(0), nap, &mut tray) {
+    match part.poll(m, BufId(0), nap, &mut payload) {
         None => None,
         Some(outcome) => Some((3, outcome)),
     }
@@ -160,20 +160,20 @@ fn takes_in_hand_at<S: SleepLayer<Nap>>(part: &mut S, m: &mut S::Machine, nap: N
     if part.current() != Some(nap.caller) || part.hand().is_some() {
         return 0;
     }
-    let mut tray = Tray::new();
-    if part.poll(m, BufId(0), nap, &mut tray).is_some() {
+    let mut payload = Payload::new();
+    if part.poll(m, BufId(0), nap, &mut payload).is_some() {
         return 0;
     }
     if part.hand().is_some() {
         return 1;
     }
-    if part.poll(m, BufId(0), nap, &mut tray).is_some() {
+    if part.poll(m, BufId(0), nap, &mut payload).is_some() {
         return 0;
     }
     if part.hand().is_some() {
         return 2;
     }
-    if part.poll(m, BufId(0), nap, &mut tray).is_some() {
+    if part.poll(m, BufId(0), nap, &mut payload).is_some() {
         return 0;
     }
     if part.hand().is_some() { 3 } else { 0 }
@@ -196,14 +196,14 @@ fn sends_at<S: SleepLayer<Nap>>(
     ensures idle { is_some result ≡ true → S.under_way part.new ≡ None }
     ensures others { (p : S) → S.cpu_of p ≢ S.cpu_of part.old → S.Fits p m.old → S.Fits p m.new }
 {
-    let mut tray = Tray::new();
-    if let Some(outcome) = part.poll(m, BufId(0), nap, &mut tray) {
+    let mut payload = Payload::new();
+    if let Some(outcome) = part.poll(m, BufId(0), nap, &mut payload) {
         return Some((1, outcome));
     }
-    if let Some(outcome) = part.poll(m, BufId(0), nap, &mut tray) {
+    if let Some(outcome) = part.poll(m, BufId(0), nap, &mut payload) {
         return Some((2, outcome));
     }
-    match part.poll(m, BufId(0), nap, &mut tray) {
+    match part.poll(m, BufId(0), nap, &mut payload) {
         None => None,
         Some(outcome) => Some((3, outcome)),
     }
@@ -263,7 +263,7 @@ fn at_home<S: SleepLayer<Nap>>(home: &mut S, m: &mut S::Machine, polls: u8) -> b
     }
     if home.current().is_none()
         || home.hand().is_some()
-        || home.pass(m, Pass::End, &mut Tray::new()).is_none()
+        || home.pass(m, Pass::End, &mut Payload::new()).is_none()
     {
         return false;
     }
@@ -271,7 +271,7 @@ fn at_home<S: SleepLayer<Nap>>(home: &mut S, m: &mut S::Machine, polls: u8) -> b
 }
 
 /// Thread 0 sleeps: the machine tells in which line, and the part has no block in its hands.
-fn is_told<S: OwnedSleeps<Nap>>(home: &mut S, m: &mut S::Machine) -> bool
+fn is_observed<S: OwnedSleeps<Nap>>(home: &mut S, m: &mut S::Machine) -> bool
     requires fits { S.Fits home.old m.old }
     requires idle { S.under_way home.old ≡ None }
     requires buffer { IsSome (S.opening m.old (Buffer (record { 0 = 0 }))) }
@@ -281,12 +281,12 @@ fn is_told<S: OwnedSleeps<Nap>>(home: &mut S, m: &mut S::Machine) -> bool
     if !switches(home, m) || ends_at(home, m, sleep(Tid(0))).is_none() {
         return false;
     }
-    if S::line_in(m, BufId(0), Tid(0)) != Some(Line::Receivers)
+    if S::wait_list_in(m, BufId(0), Tid(0)) != Some(WaitList::Receivers)
         || S::block_in(m, BufId(0)) != Some(&7)
     {
         return false;
     }
-    if home.line_here(BufId(0), Tid(0)).is_some() || home.block_here(BufId(0)).is_some() {
+    if home.wait_list_here(BufId(0), Tid(0)).is_some() || home.block_here(BufId(0)).is_some() {
         return false;
     }
     S::pends_in(m, CpuId(1), Tid(0)) == Some(false) && home.pends_here(CpuId(1), Tid(0)).is_none()
@@ -357,7 +357,7 @@ where
     }
     let mut m = machine::<S>(alloc)?;
     let mut home: Sleeper<Nap, S> = part(&m, CpuId(0));
-    Ok(is_told(&mut home, &mut m))
+    Ok(is_observed(&mut home, &mut m))
 }
 
 /// All this over schedulers on these critical sections, which take so many polls.

@@ -54,6 +54,24 @@ end
 Some(AllEnded) Ended
 quiet true, closed false
 ==
+# The same with as many steps as the tower takes for it: a CPU whose threads have all ended takes no more.
+cpus = 1
+trace = 4
+buffers = [1]
+[[thread]]
+cpu = 0
+program = ["set r0 7", "send 0 r0", "exit"]
+-- 000000000000000000000
+mctower-trace 1
+buffers 1
+cap 0 1
+e 0 0 send 0 7 0 0
+left 0 7
+end
+--
+Some(AllEnded) Ended
+quiet true, closed false
+==
 # One thread that sends 7 twice into a buffer with room for one. The second send finds it full, and its thread waits.
 cpus = 1
 trace = 4

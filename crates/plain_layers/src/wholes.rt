@@ -9,7 +9,7 @@ ghost use Rattle.layer_traits.specs.SleepLaw.{MaySleep, sleep_kernel};
 ghost use Rattle.plain_layers.specs.Wholes.{IsDoneWhole, asked};
 
 use event_log::BufId;
-use layer_traits::{Outcome, SleepLayer, Sleeps, Tray};
+use layer_traits::{Outcome, Payload, SleepLayer, Sleeps};
 
 /// Does the whole section of `edit` at the lock of `buffer`, where the holder of the machine acts
 /// for every CPU: one poll, or two where the section wakes a thread of another CPU and its caller
@@ -19,20 +19,20 @@ pub fn whole<E: Sleeps + Copy, S: SleepLayer<E>>(
     m: &mut S::Machine,
     buffer: BufId,
     edit: E,
-    tray: &mut Tray,
+    payload: &mut Payload,
 ) -> Outcome<E::Out>
     requires whole { IsWhole S.IsStepwise }
     requires all { (c : CpuId) → c.0 < CPUS → S.ActsFor m.old c }
     requires fits { S.Fits part.old m.old }
     requires none { S.under_way part.old ≡ None }
-    requires kept { (S.own part.old).kept ≡ None }
+    requires deferred { (S.own part.old).deferred ≡ None }
     requires buffer { IsSome (S.opening m.old (Buffer buffer)) }
     requires room { 1 < S.room m.old }
     requires call { MaySleep (sleep_kernel E.rules (S.opening m.old)) (S.cpu_of part.old) (S.seen m.old) (S.own part.old).threads buffer edit }
-    requires carried { E.carried edit tray.old.message }
+    requires carried { E.carried edit payload.old.message }
     ensures done { IsDoneWhole (asked (sleep_kernel E.rules (S.opening m.old)) (S.cpu_of part.old) buffer edit) (S.seen m.old) (S.seen m.new)
         (S.own part.old).threads (S.own part.new) result }
-    ensures brought { E.brought result.out tray.new.message }
+    ensures brought { E.brought result.out payload.new.message }
     ensures fits { S.Fits part.new m.new }
     ensures cpu { S.cpu_of part.new ≡ S.cpu_of part.old }
     ensures none { S.under_way part.new ≡ None }
@@ -42,13 +42,13 @@ pub fn whole<E: Sleeps + Copy, S: SleepLayer<E>>(
     ensures acts { (c : CpuId) → S.ActsFor m.old c → S.ActsFor m.new c }
     ensures others { (p : S) → S.cpu_of p ≢ S.cpu_of part.old → S.Fits p m.old → S.Fits p m.new }
 {
-    let message = tray.message;
-    match part.poll(m, buffer, edit, tray) {
+    let message = payload.message;
+    match part.poll(m, buffer, edit, payload) {
         Some(outcome) => outcome,
         None => {
             // The section may have put its answer's message in the place of the edit's.
-            tray.message = message;
-            part.poll(m, buffer, edit, tray).unwrap()
+            payload.message = message;
+            part.poll(m, buffer, edit, payload).unwrap()
         }
     }
 }

@@ -100,9 +100,9 @@ struct Door {
 }
 
 impl Gate for Door {
-    ghost MayLimit = { λ gate cpu turn. turn ≡ 0 };
+    ghost use Rattle.cpu_workers.specs.declared.gates.Go.TheVariants.{Limit};
 
-    ghost MayPass = { λ gate cpu turn. Unit {0} };
+    ghost MayAnswer = { λ gate cpu go turn. go ≡ Limit → turn ≡ 0 };
 
     fn pass(&self, _cpu: CpuId, turn: u64) -> Go {
         if self.shut && turn == 0 {
@@ -152,9 +152,7 @@ fn until(flag: &AtomicBool, patience: u32) -> Go {
 }
 
 impl Gate for Together {
-    ghost MayLimit = { λ gate cpu turn. Unit {0} };
-
-    ghost MayPass = { λ gate cpu turn. Unit {0} };
+    ghost MayAnswer = { λ gate cpu go turn. Unit {0} };
 
     fn pass(&self, cpu: CpuId, turn: u64) -> Go {
         if cpu.0 == 0 && turn == 3 {
@@ -315,9 +313,9 @@ struct Counting {
 }
 
 impl Gate for Counting {
-    ghost MayLimit = { λ gate cpu turn. ⊥ };
+    ghost use Rattle.cpu_workers.specs.declared.gates.Go.TheVariants.{Pass};
 
-    ghost MayPass = { λ gate cpu turn. Unit {0} };
+    ghost MayAnswer = { λ gate cpu go turn. go ≡ Pass };
 
     fn pass(&self, _cpu: CpuId, _turn: u64) -> Go {
         self.asked.fetch_add(1, Ordering::SeqCst);

@@ -8,10 +8,11 @@ use Rattle.event_log.specs.declared.events.Event.{Event}
 use Rattle.event_log.specs.declared.events.Event.TheVariants.{Draw, Look, Free}
 use Rattle.event_log.specs.Grants.{ticket_in}
 use Rattle.event_log.specs.History.{same_lock}
-use Rattle.event_log.specs.WordsLog.{IsLegalWords, Outside, Waiting, Inside, draws, frees, standing}
+use Rattle.event_log.specs.WordsLog.{IsLegalWords, Idle, Waiting, Holding, draws, frees, lock_phase}
 use Rattle.event_log.specs.Sections.{block_after}
 use Rattle.event_log.proofs.Same.{same_lock_self, same_lock_true}
-use Rattle.layer_traits.proofs.OneLockLemmas.{counts_elsewhere, event_lock, standing_own, elsewhere, drew, missed, hit, freed, hit_finds, fresh, serves_exactly}
+use Rattle.layer_traits.proofs.OneLockLemmas.{counts_elsewhere, event_lock, lock_phase_own, elsewhere, drew}
+use Rattle.layer_traits.proofs.OneLockLemmas.{missed, hit, freed, hit_finds, fresh, serves_exactly}
 use Rattle.layer_traits.proofs.Seen.{words_legal, sections_allowed}
 use Rattle.layer_traits.specs.declared.edits.Mark.{Mark}
 use Rattle.layer_traits.specs.OneLock.{HomeFits, opened}
@@ -139,7 +140,7 @@ module _ {E B O K : Type 0} (m : AtLock E B O K) where
           }
 
   -- a draw gives the number of earlier draws
-  pub took : (cpu : CpuId) → cpu.0 < CPUS → standing cpu log ≡ Outside → (ticket : ℕ) (cells' : List (Option (Cell K B)))
+  pub took : (cpu : CpuId) → cpu.0 < CPUS → lock_phase cpu log ≡ Idle → (ticket : ℕ) (cells' : List (Option (Cell K B)))
       → IfSome (cell_at cells lock) (λ c. (words : K)
       × ((taken given : ℕ) → Fit taken given c.words → (ticket ≡ taken % 2 ^ 64) × Fit (taken + 1) given words)
       × (cells' ≡ with_cell cells lock (worded_cell c words)))
@@ -158,7 +159,7 @@ module _ {E B O K : Type 0} (m : AtLock E B O K) where
             (drew rules.edited opening lock cpu ticket log outside cell.home cell_home))),
       )
 
-  module _ (cpu : CpuId) (ticket : ℕ) (waiting : standing cpu log ≡ Waiting lock ticket) where
+  module _ (cpu : CpuId) (ticket : ℕ) (waiting : lock_phase cpu log ≡ Waiting lock ticket) where
     look_may : MayCome (rules.allowed opening) log (Look cpu lock ticket (frees lock log % 2 ^ 64))
     look_may = ((waiting, refl), tt)
 
@@ -173,31 +174,31 @@ module _ {E B O K : Type 0} (m : AtLock E B O K) where
     -- a look gives the block exactly where it enters
     look_finds : (served : Bool) → served ≡ (frees lock log % 2 ^ 64 == ticket)
         → MatchOption (if served then cell.home else None)
-        (standing cpu (looked cpu lock ticket log) ≡ Waiting lock ticket)
-        (λ block. (standing cpu (looked cpu lock ticket log) ≡ Inside lock ticket) × (block_after rules.edited opening lock (sections log) ≡ Some block))
+        (lock_phase cpu (looked cpu lock ticket log) ≡ Waiting lock ticket)
+        (λ block. (lock_phase cpu (looked cpu lock ticket log) ≡ Holding lock ticket) × (block_after rules.edited opening lock (sections log) ≡ Some block))
     look_finds true is =
-        let entered : standing cpu (looked cpu lock ticket log) ≡ Inside lock ticket
-        = standing_own (Look cpu lock ticket (frees lock log % 2 ^ 64)) log ∙ ap (λ b. if b then Inside lock ticket else Waiting lock ticket) (sym is) in
+        let entered : lock_phase cpu (looked cpu lock ticket log) ≡ Holding lock ticket
+        = lock_phase_own (Look cpu lock ticket (frees lock log % 2 ^ 64)) log ∙ ap (λ b. if b then Holding lock ticket else Waiting lock ticket) (sym is) in
         found cell.home cell_home
         (hit_finds rules.edited opening lock cpu ticket (frees lock log % 2 ^ 64) log (look_may.0, legal) (sym is) cell.home cell_home) entered
       where
         found : (home : Option B) → HomeFits rules.edited opening log lock home → IsSome home
-            → standing cpu (looked cpu lock ticket log) ≡ Inside lock ticket
-            → MatchOption home (standing cpu (looked cpu lock ticket log) ≡ Waiting lock ticket)
-            (λ block. (standing cpu (looked cpu lock ticket log) ≡ Inside lock ticket) × (block_after rules.edited opening lock (sections log) ≡ Some block))
+            → lock_phase cpu (looked cpu lock ticket log) ≡ Holding lock ticket
+            → MatchOption home (lock_phase cpu (looked cpu lock ticket log) ≡ Waiting lock ticket)
+            (λ block. (lock_phase cpu (looked cpu lock ticket log) ≡ Holding lock ticket) × (block_after rules.edited opening lock (sections log) ≡ Some block))
         found None fits some entered = absurd (cc some)
         found (Some block) fits some entered = (entered, fits.1)
     look_finds false is =
-        standing_own (Look cpu lock ticket (frees lock log % 2 ^ 64)) log ∙ ap (λ b. if b then Inside lock ticket else Waiting lock ticket) (sym is)
+        lock_phase_own (Look cpu lock ticket (frees lock log % 2 ^ 64)) log ∙ ap (λ b. if b then Holding lock ticket else Waiting lock ticket) (sym is)
 
     pub tried : (found : Option B) (cells' : List (Option (Cell K B)))
         → IfSome (cell_at cells lock) (λ c. (served : Bool)
         × ((taken given spot : ℕ) → Fit taken given c.words → given ≤ spot → spot < given + CPUS → ticket ≡ spot % 2 ^ 64 → served ≡ (given == spot))
         × (found ≡ (if served then c.home else None)) × (cells' ≡ with_cell cells lock (looked_cell c served)))
-        → (log' : List (Event (Mark E))) → log' ≡ Look cpu lock (ticket_in (standing cpu log)) (frees lock log % 2 ^ 64) ∷ log
+        → (log' : List (Event (Mark E))) → log' ≡ Look cpu lock (ticket_in (lock_phase cpu log)) (frees lock log % 2 ^ 64) ∷ log
         → (log' ≡ looked cpu lock ticket log)
-        × MatchOption found (standing cpu log' ≡ Waiting lock ticket)
-        (λ block. (standing cpu log' ≡ Inside lock ticket) × (block_after rules.edited opening lock (sections log') ≡ Some block))
+        × MatchOption found (lock_phase cpu log' ≡ Waiting lock ticket)
+        (λ block. (lock_phase cpu log' ≡ Holding lock ticket) × (block_after rules.edited opening lock (sections log') ≡ Some block))
         × IsSound Fit rules opening log' cells'
     tried found cells' did log' grew =
         let here = subst (λ o. IfSome o (λ c. (served : Bool)
@@ -207,17 +208,17 @@ module _ {E B O K : Type 0} (m : AtLock E B O K) where
         = serves_exactly log legal cpu lock ticket waiting here.0 (λ spot. here.1 (draws lock log) (frees lock log) spot cell_words) in
         let same : log' ≡ looked cpu lock ticket log = grew ∙ ap (λ s. Look cpu lock (ticket_in s) (frees lock log % 2 ^ 64) ∷ log) waiting in (
           same,
-          subst (λ l. MatchOption found (standing cpu l ≡ Waiting lock ticket)
-              (λ block. (standing cpu l ≡ Inside lock ticket) × (block_after rules.edited opening lock (sections l) ≡ Some block))) (sym same)
-              (subst (λ f. MatchOption f (standing cpu (looked cpu lock ticket log) ≡ Waiting lock ticket)
-              (λ block. (standing cpu (looked cpu lock ticket log) ≡ Inside lock ticket)
+          subst (λ l. MatchOption found (lock_phase cpu l ≡ Waiting lock ticket)
+              (λ block. (lock_phase cpu l ≡ Holding lock ticket) × (block_after rules.edited opening lock (sections l) ≡ Some block))) (sym same)
+              (subst (λ f. MatchOption f (lock_phase cpu (looked cpu lock ticket log) ≡ Waiting lock ticket)
+              (λ block. (lock_phase cpu (looked cpu lock ticket log) ≡ Holding lock ticket)
               × (block_after rules.edited opening lock (sections log) ≡ Some block))) (sym here.2) (look_finds here.0 is)),
           subst (λ l. IsSound Fit rules opening l cells') (sym same)
               (subst (λ cs. IsSound Fit rules opening (looked cpu lock ticket log) cs) (sym here.3) (look_sound here.0 is)),
         )
 
   -- a free brings the edited block home
-  pub gave : (cpu : CpuId) (ticket : ℕ) (mark : Mark E) (block : B) → standing cpu log ≡ Inside lock ticket
+  pub gave : (cpu : CpuId) (ticket : ℕ) (mark : Mark E) (block : B) → lock_phase cpu log ≡ Holding lock ticket
       → option_map (rules.edited mark.edit) (block_after rules.edited opening lock (sections log)) ≡ Some block
       → StaysAllowed (rules.allowed opening) (sections log) (section cpu lock mark.edit) → (cells' : List (Option (Cell K B)))
       → IfSome (cell_at cells lock) (λ c. (words : K) × ((taken given : ℕ) → Fit taken given c.words → Fit taken (given + 1) words)

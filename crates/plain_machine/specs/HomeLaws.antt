@@ -11,11 +11,11 @@ use Rattle.plain_machine.specs.declared.cells.Cell.{Cell}
 use Rattle.plain_machine.specs.Machine.{HasCell}
 use Rattle.plain_machine.specs.Table.{home_at, home_in}
 
-pub home_tells : {E B K : Type 0} (Fit : ℕ → ℕ → K → Type 0) (edited : E → B → B) (opening : LockId → Option B) (log : List (Event (Mark E)))
+pub home_reads : {E B K : Type 0} (Fit : ℕ → ℕ → K → Type 0) (edited : E → B → B) (opening : LockId → Option B) (log : List (Event (Mark E)))
     (cells : List (Option (Cell K B))) (lock : LockId)
     → HasCell Fit edited opening log cells lock
     → MatchOption (home_at cells lock) (SomeoneInside lock log) (λ block. block_after edited opening lock (sections log) ≡ Some block)
-home_tells {B = B} Fit edited opening log cells lock has =
+home_reads {B = B} Fit edited opening log cells lock has =
     subst (λ c. MatchOption (home_in c) (SomeoneInside lock log) (λ block. block_after edited opening lock (sections log) ≡ Some block)) (sym has.is)
     (go has.cell.home has.home_is)
   where

@@ -8,7 +8,7 @@ use Rattle.event_log.specs.declared.events.Event.TheVariants as event
 use Rattle.event_log.specs.Grants.{ticket_in}
 use Rattle.event_log.specs.History.{IsLawful}
 use Rattle.event_log.specs.Log.{events_in, room_of}
-use Rattle.event_log.specs.WordsLog.{standing, draws, frees}
+use Rattle.event_log.specs.WordsLog.{lock_phase, draws, frees}
 use Rattle.layer_traits.specs.declared.edits.Mark.{Mark}
 use Rattle.layer_traits.specs.OneLock.{HomeFits}
 use Rattle.layer_traits.specs.Protocol.{Rules}
@@ -24,7 +24,7 @@ use Rattle.plain_machine.specs.Table.{cell_at}
 -- earlier draws, a look has its CPU's ticket and reads the number of earlier frees, and a free has the newest mark.
 abbrev pub with_event : {M : Type 0} → Atom → CpuId → LockId → List M → List (Event M) → List (Event M)
 with_event Draw cpu lock marks past = event.Draw cpu lock (draws lock past % 2 ^ 64) ∷ past
-with_event Look cpu lock marks past = event.Look cpu lock (ticket_in (standing cpu past)) (frees lock past % 2 ^ 64) ∷ past
+with_event Look cpu lock marks past = event.Look cpu lock (ticket_in (lock_phase cpu past)) (frees lock past % 2 ^ 64) ∷ past
 with_event Free cpu lock [] past = past
 with_event Free cpu lock (mark ∷ marks) past = event.Free cpu lock mark ∷ past
 

@@ -42,7 +42,7 @@ pub struct Notes<M> {
 
 impl<M> Notes<M> {
     ghost use Rattle.event_log.specs.Grants.{ticket_in};
-    ghost use Rattle.event_log.specs.WordsLog.{draws, frees, standing};
+    ghost use Rattle.event_log.specs.WordsLog.{draws, frees, lock_phase};
     ghost use Rattle.event_log.specs.declared.events.Event.TheVariants as event;
     ghost use Rattle.plain_machine.specs.Machine.{history, room_left};
 
@@ -79,7 +79,7 @@ impl<M> Notes<M> {
     pub fn look(&mut self, cpu: CpuId, lock: LockId)
         requires { 0 < room_left self.old }
         ensures history { history self.new
-            ≡ event.Look cpu lock (ticket_in (standing cpu (history self.old))) (frees lock (history self.old) % 2 ^ 64) ∷ history self.old }
+            ≡ event.Look cpu lock (ticket_in (lock_phase cpu (history self.old))) (frees lock (history self.old) % 2 ^ 64) ∷ history self.old }
         ensures room { room_left self.old ≡ room_left self.new + 1 }
     {
         self.put(Note {

@@ -6,7 +6,7 @@ use crate::cells::{self, Cell};
 use crate::line_words::{GrantLockWords, Granting, LineWords, LockWords};
 use crate::notes::Notes;
 use event_log::{CPUS, CpuId, LockId, NoMemory};
-use layer_traits::{Edit, GrantWords, Mark, OwnedWords, TellsGrants, Words};
+use layer_traits::{Edit, GrantWords, Mark, OwnedWords, UsesGrantWords, Words};
 use std::alloc::Global;
 use std::snapshot::Snapshot;
 
@@ -156,7 +156,7 @@ impl<E: Edit, K: LineWords> Words for Plain<E, K> {
 impl<E: Edit, K: LineWords> OwnedWords for Plain<E, K> {
     ghost use Rattle.event_log.specs.declared.ids.TheConstants.{CPUS};
     ghost use Rattle.layer_traits.specs.OneLock.{AreDistinct, opened};
-    ghost use Rattle.plain_machine.specs.HomeLaws.{home_tells};
+    ghost use Rattle.plain_machine.specs.HomeLaws.{home_reads};
     ghost use Rattle.plain_machine.specs.Machine.{history};
     ghost use Rattle.plain_machine.specs.Table.{home_at};
 
@@ -176,8 +176,8 @@ impl<E: Edit, K: LineWords> OwnedWords for Plain<E, K> {
         self.home(lock)
     }
 
-    ghost blocks = { λ w c lock acts there. home_tells K.Fit E.rules.edited (opened w.opening.value.items) (history w.log) w.cells.items lock
+    ghost blocks = { λ w c lock acts there. home_reads K.Fit E.rules.edited (opened w.opening.value.items) (history w.log) w.cells.items lock
         (acts.1.fits lock there) };
 }
 
-impl<E: Edit> TellsGrants for Plain<E, Granting> {}
+impl<E: Edit> UsesGrantWords for Plain<E, Granting> {}

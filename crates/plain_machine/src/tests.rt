@@ -1,12 +1,12 @@
 //! The owned machine, run.
 
 ghost use Rattle.std.specs.Prelude.{◌≡◌, ◌+◌, ◌%◌, ◌^◌, ◌<◌, ◌≤◌, [], ◌∷◌, IsSome, IfOk, IfSome};
-ghost use Rattle.event_log.specs.Grants.{grant_standing};
-ghost use Rattle.event_log.specs.WordsLog.{standing, Outside};
+ghost use Rattle.event_log.specs.Grants.{grant_lock_phase};
+ghost use Rattle.event_log.specs.WordsLog.{lock_phase, Idle};
 
 use crate::{GrantLockWords, Granting, LineWords, LockWords, Plain};
 use event_log::{BufId, CPUS, CpuId, LockId, NoMemory};
-use layer_traits::{Edit, GrantWords, Tray, Words};
+use layer_traits::{Edit, GrantWords, Payload, Words};
 use std::alloc::Global;
 use std::test::Fail;
 
@@ -25,7 +25,7 @@ impl Edit for AddOne {
       allowed = λ opening past s. Unit {0};
     } };
 
-    fn apply(&self, block: &mut u64, _tray: &mut Tray) -> u64 {
+    fn apply(&self, block: &mut u64, _payload: &mut Payload) -> u64 {
         let old = *block;
         *block = old.wrapping_add(1);
         old
@@ -64,15 +64,15 @@ fn add_one<W: Words<Edit = AddOne>>(words: &mut W, cpu: CpuId, lock: LockId) -> 
     requires cpu { W.ActsFor words.old cpu }
     requires lock { IsSome (W.opening words.old lock) }
     requires room { 2 < W.room words.old }
-    requires outside { standing cpu (W.seen words.old) ≡ Outside }
+    requires outside { lock_phase cpu (W.seen words.old) ≡ Idle }
     ensures acts { (c : _) → W.ActsFor words.old c → W.ActsFor words.new c }
     ensures opening { W.opening words.new ≡ W.opening words.old }
     ensures room { W.room words.old ≤ W.room words.new + 3 }
-    ensures outside { IfSome result (λ _. standing cpu (W.seen words.new) ≡ Outside) }
+    ensures outside { IfSome result (λ _. lock_phase cpu (W.seen words.new) ≡ Idle) }
 {
     let ticket = words.draw(cpu, lock);
     let mut block = words.look(cpu, lock, ticket)?;
-    let number = AddOne.apply(&mut block, &mut Tray::new());
+    let number = AddOne.apply(&mut block, &mut Payload::new());
     words.free(cpu, lock, block, W::mark(AddOne));
     Some(number)
 }
@@ -86,13 +86,13 @@ fn add_one_granted<W: GrantWords<Edit = AddOne>>(
     requires cpu { W.ActsFor words.old cpu }
     requires lock { IsSome (W.opening words.old lock) }
     requires room { 2 < W.room words.old }
-    requires outside { grant_standing cpu (W.seen words.old) ≡ Outside }
+    requires outside { grant_lock_phase cpu (W.seen words.old) ≡ Idle }
     ensures acts { (c : _) → W.ActsFor words.old c → W.ActsFor words.new c }
     ensures opening { W.opening words.new ≡ W.opening words.old }
 {
     let ticket = words.take(cpu, lock);
     let mut block = words.peek(cpu, lock, ticket)?;
-    let number = AddOne.apply(&mut block, &mut Tray::new());
+    let number = AddOne.apply(&mut block, &mut Payload::new());
     words.give(cpu, lock, block, W::mark(AddOne));
     Some(number)
 }

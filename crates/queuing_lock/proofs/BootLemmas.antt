@@ -14,30 +14,30 @@ use Rattle.sleep_wakeup.specs.declared.edits.SleepBlock.{SleepBlock}
 use Rattle.sleep_wakeup.specs.Nested.{resting, state_of}
 use Rattle.std.proofs.lemmas.Option.{slice_get-map}
 use Rattle.queuing_lock.specs.declared.edits.QBlock.{QBlock}
-use Rattle.queuing_lock.specs.Nested.{lock_of, unowned}
+use Rattle.queuing_lock.specs.Nested.{nested_lock_of, unowned}
 
-at_rest : {B : Type 0} (o : Option B) → IsAtRest (option_map lock_of (option_map state_of (option_map resting (option_map unowned o))))
+at_rest : {B : Type 0} (o : Option B) → IsAtRest (option_map nested_lock_of (option_map state_of (option_map resting (option_map unowned o))))
 at_rest None = tt
 at_rest (Some above) = (refl, refl, refl, refl)
 
 -- locks are at rest where each buffer has a block at rest without an owner
 pub rest_at_boot : {B : Type 0} (opening : LockId → Option (QueueBlock (SleepBlock (QBlock B)))) (above : List B) → StartsWell opening
     → ((b : BufId) → inner opening (Buffer b) ≡ slice_get (map resting (map unowned above)) b.0)
-    → AreAtRest (inner (viewed lock_of (viewed state_of opening)))
+    → AreAtRest (inner (viewed nested_lock_of (viewed state_of opening)))
 rest_at_boot {B} opening above starts blocks lock =
     subst (λ o. IsAtRest o)
-    (sym (inner_viewed lock_of (viewed state_of opening) lock ∙ ap (option_map lock_of) (inner_viewed state_of opening lock)))
+    (sym (inner_viewed nested_lock_of (viewed state_of opening) lock ∙ ap (option_map nested_lock_of) (inner_viewed state_of opening lock)))
     (by_lock lock (starts.kinds lock))
   where
     queue : (c : CpuId) (o : Option (QueueBlock (SleepBlock (QBlock B)))) → StartsAs (Pending c) o
-        → IsAtRest (option_map lock_of (option_map state_of (above_of o)))
+        → IsAtRest (option_map nested_lock_of (option_map state_of (above_of o)))
     queue c None kind = tt
     queue c (Some (block.Queue threads homes)) kind = tt
     queue c (Some (block.Above b)) kind = absurd kind
 
-    by_lock : (l : LockId) → StartsAs l (opening l) → IsAtRest (option_map lock_of (option_map state_of (inner opening l)))
+    by_lock : (l : LockId) → StartsAs l (opening l) → IsAtRest (option_map nested_lock_of (option_map state_of (inner opening l)))
     by_lock (Pending c) kind = queue c (opening (Pending c)) kind
     by_lock (Buffer b) kind =
-        subst (λ o. IsAtRest (option_map lock_of (option_map state_of o)))
+        subst (λ o. IsAtRest (option_map nested_lock_of (option_map state_of o)))
         (sym (blocks b ∙ (slice_get-map resting (map unowned above) b.0 ∙ ap (option_map resting) (slice_get-map unowned above b.0))))
         (at_rest (slice_get above b.0))

@@ -1,6 +1,6 @@
 pub mod OwnerLemmas
 pub mod SleptLemmas
-pub mod KeptLemmas
+pub mod DeferredLemmas
 pub mod PollLemmas
 pub mod PartLemmas
 pub mod BootLemmas

@@ -9,16 +9,16 @@ use Rattle.event_log.specs.History.{AreOthers, IsLawful}
 use Rattle.event_log.specs.Sections.{renamed_section}
 use Rattle.layer_traits.specs.declared.locked.QEdit.{QEdit}
 use Rattle.layer_traits.specs.declared.locked.QEdit.TheVariants.{Acquire, Inside, Release}
-use Rattle.layer_traits.specs.declared.moves.Line.TheVariants.{Sleepers}
+use Rattle.layer_traits.specs.declared.moves.WaitList.TheVariants.{Sleepers}
 use Rattle.layer_traits.specs.declared.queue_edits.QueueBlock.{QueueBlock}
 use Rattle.layer_traits.specs.declared.queues.QueueEvent.{QueueEvent}
 use Rattle.layer_traits.specs.declared.scheds.SchedCall.TheVariants as call
-use Rattle.layer_traits.specs.Locking.{IsOwners, LockAllowed, LockRules, LockState, line_in, lock_after, lock_caller, owner_in, owner_of}
+use Rattle.layer_traits.specs.Locking.{IsOwners, LockAllowed, LockRules, LockState, wait_list_in, lock_after, lock_caller, owner_in, owner_of}
 use Rattle.layer_traits.specs.LockLaw.{LocksAgree, MayLock, lock_kernel}
 use Rattle.layer_traits.specs.ListsAgree.{is_at}
-use Rattle.layer_traits.specs.Places.{AreMoves, Home, Stands, Threads, home_of, one_if, berth_of, where_is}
+use Rattle.layer_traits.specs.Places.{AreMoves, Home, Stands, Threads, home_of, one_if, wait_channel_of, where_is}
 use Rattle.layer_traits.specs.QueueBlocks.{homes_in, inner}
-use Rattle.layer_traits.specs.Queues.{QueueAllowed, buffer_sections, event_actor, moves_in}
+use Rattle.layer_traits.specs.Queues.{QueueAllowed, buffer_sections, cpu_of_queue_event, moves_in}
 use Rattle.layer_traits.specs.Renaming.{renamed_events, viewed}
 use Rattle.layer_traits.specs.Scheds.{EditStays}
 use Rattle.layer_traits.specs.SleepLaw.{MaySleep}
@@ -29,20 +29,20 @@ use Rattle.layer_traits.proofs.PlaceLemmas.{current_at}
 use Rattle.thread_blocks.specs.Queues.{is_in}
 use Rattle.queuing_lock.specs.declared.edits.QBlock.{QBlock}
 use Rattle.queuing_lock.specs.declared.edits.QLockEdit.{QLockEdit}
-use Rattle.queuing_lock.specs.Nested.{as_section, edit_in, lock_of}
+use Rattle.queuing_lock.specs.Nested.{as_section, edit_in, nested_lock_of}
 use Rattle.queuing_lock.specs.NestedLaws.{beneath, here, inner_locks, locks_wrap}
-use Rattle.queuing_lock.specs.Steady.{HasNothing, IsKept, IsOwner, keeps_nothing, keeps_owned, kept_others}
+use Rattle.queuing_lock.specs.Steady.{HasNothing, IsPreserved, IsOwner, keeps_nothing, keeps_owned, preserved_by_others}
 
 module _ {F R B O : Type 0} (rules : LockRules F R B O) (opening : LockId → Option (QueueBlock (LockState B))) where
   -- who runs sleeps for no lock
   pub runs_awake : (past : List (QueueEvent (QEdit F R))) → LocksAgree rules opening past → (t : Tid)
       → where_is (homes_in opening) (moves_in (lock_kernel rules opening) past) t ≡ Home
-      → (lock : LockId) → is_in t (line_in Sleepers (lock_after rules (inner opening) lock (buffer_sections past))) ≡ false
+      → (lock : LockId) → is_in t (wait_list_in Sleepers (lock_after rules (inner opening) lock (buffer_sections past))) ≡ false
   runs_awake past agree t home lock =
-      not_counted t (line_in Sleepers (lock_after rules (inner opening) lock (buffer_sections past)))
-      (agree lock Sleepers t ∙ ap (λ w. one_if (is_at lock Sleepers (berth_of w))) home)
+      not_counted t (wait_list_in Sleepers (lock_after rules (inner opening) lock (buffer_sections past)))
+      (agree lock Sleepers t ∙ ap (λ w. one_if (is_at lock Sleepers (wait_channel_of w))) home)
 
-  nothing_at : (t : Tid) (o : Option (LockState B)) → owner_in o ≢ Some t → is_in t (line_in Sleepers o) ≡ false → HasNothing rules t o
+  nothing_at : (t : Tid) (o : Option (LockState B)) → owner_in o ≢ Some t → is_in t (wait_list_in Sleepers o) ≡ false → HasNothing rules t o
   nothing_at t None apart missing = tt
   nothing_at t (Some state) apart missing = (apart, missing)
 
@@ -50,25 +50,25 @@ module _ {F R B O : Type 0} (rules : LockRules F R B O) (opening : LockId → Op
   not_owner t None nothing = λ is. absurd cc
   not_owner t (Some state) nothing = nothing.0
 
-  abbrev owns : (t : Tid) (c : CpuId) (b : BufId) → home_of (homes_in opening) t ≡ Some c → IsKept rules opening
+  abbrev owns : (t : Tid) (c : CpuId) (b : BufId) → home_of (homes_in opening) t ≡ Some c → IsPreserved rules opening
   owns t c b at = record { t = t; P = IsOwner rules t; keeps = keeps_owned rules t; c = c; at_home = at; lock = Buffer b }
 
   -- the call stays the owner's, and an Acquire that of a thread which is not
   pub owners_stay : (c : CpuId) (b : BufId) (e : QEdit F R) (past : List (QueueEvent (QEdit F R))) → home_of (homes_in opening) (lock_caller rules e) ≡ Some c
-      → is_in (lock_caller rules e) (line_in Sleepers (lock_after rules (inner opening) (Buffer b) (buffer_sections past))) ≡ false
+      → is_in (lock_caller rules e) (wait_list_in Sleepers (lock_after rules (inner opening) (Buffer b) (buffer_sections past))) ≡ false
       → IsOwners rules e (owner_of rules (inner opening) (buffer_sections past) (Buffer b)) → (more : List (QueueEvent (QEdit F R)))
-      → AreOthers event_actor c more
+      → AreOthers cpu_of_queue_event c more
       → IsLawful (QueueAllowed (lock_kernel rules opening)) (more ++ past)
       → IsOwners rules e (owner_of rules (inner opening) (buffer_sections (more ++ past)) (Buffer b))
   owners_stay c b (Acquire t) past at awake owners more others lawful =
       not_owner t (lock_after rules (inner opening) (Buffer b) (buffer_sections (more ++ past)))
-      (kept_others rules opening
+      (preserved_by_others rules opening
       (record { t = t; P = HasNothing rules t; keeps = keeps_nothing rules t; c = c; at_home = at; lock = Buffer b }) more past others lawful
       (nothing_at t (lock_after rules (inner opening) (Buffer b) (buffer_sections past)) owners awake))
   owners_stay c b (Inside f) past at awake owners more others lawful =
-      kept_others rules opening (owns (rules.caller f) c b at) more past others lawful owners
+      preserved_by_others rules opening (owns (rules.caller f) c b at) more past others lawful owners
   owners_stay c b (Release r) past at awake owners more others lawful =
-      kept_others rules opening (owns (rules.last_caller r) c b at) more past others lawful owners
+      preserved_by_others rules opening (owns (rules.last_caller r) c b at) more past others lawful owners
 
   -- so a call that may begin stays allowed
   pub stays_here : (c : CpuId) (b : BufId) (e : QEdit F R) (past : List (QueueEvent (QEdit F R))) (own : Threads)
@@ -85,9 +85,9 @@ module _ {F R B O : Type 0} (rules : LockRules F R B O) (opening : LockId → Op
 module _ {F R B O : Type 0} (rules : LockRules F R B O) (opening : LockId → Option (QueueBlock (SleepState (QBlock B)))) where
   -- and its section may begin beneath
   pub locks_may : (c : CpuId) (b : BufId) (e : QEdit F R) (past : List (QueueEvent (QLockEdit F R))) (own : Threads)
-      → AreMoves (homes_in (viewed lock_of opening)) (moves_in (here rules opening) (renamed_events edit_in past))
-      → Stands (homes_in (viewed lock_of opening)) c (moves_in (here rules opening) (renamed_events edit_in past)) own
-      → LocksAgree rules (viewed lock_of opening) (renamed_events edit_in past)
+      → AreMoves (homes_in (viewed nested_lock_of opening)) (moves_in (here rules opening) (renamed_events edit_in past))
+      → Stands (homes_in (viewed nested_lock_of opening)) c (moves_in (here rules opening) (renamed_events edit_in past)) own
+      → LocksAgree rules (viewed nested_lock_of opening) (renamed_events edit_in past)
       → own.current ≡ Some (lock_caller rules e) → MayLock rules (here rules opening) c (renamed_events edit_in past) own.hand b e
       → MaySleep (beneath rules opening) c past own b (as_section e)
   locks_may c b e past own moving stands agree current may = record {
@@ -97,6 +97,6 @@ module _ {F R B O : Type 0} (rules : LockRules F R B O) (opening : LockId → Op
         subst (λ (o : LockId → Option (LockState B)). LockAllowed rules o (map (renamed_section edit_in) (buffer_sections (more ++ past)))
         (record { cpu = c; lock = Buffer b; edit = e }))
         (inner_locks rules opening)
-        (stays_renamed (beneath rules opening) (here rules opening) edit_in lock_of (locks_wrap rules opening) c past b (as_section e)
-        (stays_here rules (viewed lock_of opening) c b e (renamed_events edit_in past) own moving stands agree current may) more others lawful);
+        (stays_renamed (beneath rules opening) (here rules opening) edit_in nested_lock_of (locks_wrap rules opening) c past b (as_section e)
+        (stays_here rules (viewed nested_lock_of opening) c b e (renamed_events edit_in past) own moving stands agree current may) more others lawful);
   }

@@ -39,10 +39,10 @@ use Rattle.layer_traits.proofs.PlaceLemmas.{current_at}
 use Rattle.layer_traits.proofs.SleepRenaming.{pass_plan_renamed, sleep_plan_renamed, sleeps_renamed}
 use Rattle.queuing_lock.specs.declared.edits.QBlock.{QBlock}
 use Rattle.queuing_lock.specs.declared.edits.QLockEdit.{QLockEdit}
-use Rattle.queuing_lock.specs.Nested.{as_section, busy_rules, edit_in, lock_of}
-use Rattle.queuing_lock.specs.NestedLaws.{beneath, here, locks_lawful, locks_lists, locks_moving, locks_stand, locks_wrap}
-use Rattle.queuing_lock.specs.Parts.{KeptFits, SleptFits, kept_by}
-use Rattle.queuing_lock.proofs.KeptLemmas.{KeptIn, asks_none, kept_deed, kept_goes, may_beneath}
+use Rattle.queuing_lock.specs.Nested.{as_section, busy_rules, edit_in, nested_lock_of}
+use Rattle.queuing_lock.specs.NestedLaws.{beneath, here, locks_lawful, locks_lists, locks_moves_legal, locks_stand, locks_wrap}
+use Rattle.queuing_lock.specs.Parts.{DeferredFits, SleptFits, slept_left_by}
+use Rattle.queuing_lock.proofs.DeferredLemmas.{DeferredIn, asks_none, deferred_result, deferred_goes, may_beneath}
 use Rattle.queuing_lock.proofs.OwnerLemmas.{locks_may, runs_awake}
 use Rattle.queuing_lock.proofs.PollLemmas.{SectionPoll, awaits_owner, slept_of_others, slept_polled, slept_queued}
 
@@ -67,7 +67,7 @@ pub pass_here : {F R B O : Type 0} (rules : LockRules F R B O) (opening : LockId
     → SchedPolled (beneath rules opening) ActsFor c (call.Pass p) answer old new own own'
     → SchedPolled (here rules opening) ActsFor c (call.Pass p) answer (renamed_events edit_in old) (renamed_events edit_in new) own own'
 pass_here rules opening ActsFor c p answer old new own own' polled =
-    polled_renamed (beneath rules opening) (here rules opening) edit_in lock_of (locks_wrap rules opening) ActsFor c (call.Pass p) answer old new own own'
+    polled_renamed (beneath rules opening) (here rules opening) edit_in nested_lock_of (locks_wrap rules opening) ActsFor c (call.Pass p) answer old new own own'
     polled
 
 -- what a part knows before a poll
@@ -80,11 +80,11 @@ pub record Before {F R B O : Type 0} (rules : LockRules F R B O) (opening : Lock
   pub under : Option (SchedCall (QLockEdit F R))
   pub slept : List (Option BufId)
   pub starts : StartsWell opening
-  pub moving : AreMoves (homes_in opening) (moves_in (beneath rules opening) past)
+  pub moves_legal : AreMoves (homes_in opening) (moves_in (beneath rules opening) past)
   pub stands : Stands (homes_in opening) c (moves_in (beneath rules opening) past) own.threads
   pub lists : ListsAgree (busy_rules rules) opening past
-  pub fits : SleptFits rules (viewed lock_of opening) c (renamed_events edit_in past) slept
-  pub kept : KeptFits (option_map (renamed_sched edit_in) under) own.kept own.threads.hand
+  pub fits : SleptFits rules (viewed nested_lock_of opening) c (renamed_events edit_in past) slept
+  pub deferred : DeferredFits (option_map (renamed_sched edit_in) under) own.deferred own.threads.hand
   pub caller : own.threads.current ≡ Some (lock_caller rules e)
   pub may : MayGo (slept_for slept (lock_caller rules e)) (option_map (renamed_sched edit_in) under) b e (lock_caller rules e)
       (MayLock rules (here rules opening) c (renamed_events edit_in past) own.threads.hand b e)
@@ -93,24 +93,24 @@ module _ {F R B O : Type 0} (rules : LockRules F R B O) (opening : LockId → Op
     (before : Before rules opening) where
   open before use {c, b, e, past, own, under, slept}
 
-  moving_here : AreMoves (homes_in (viewed lock_of opening)) (moves_in (here rules opening) (renamed_events edit_in past))
-  moving_here = locks_moving rules opening past before.moving
+  legal_here : AreMoves (homes_in (viewed nested_lock_of opening)) (moves_in (here rules opening) (renamed_events edit_in past))
+  legal_here = locks_moves_legal rules opening past before.moves_legal
 
-  stands_here : Stands (homes_in (viewed lock_of opening)) c (moves_in (here rules opening) (renamed_events edit_in past)) own.threads
+  stands_here : Stands (homes_in (viewed nested_lock_of opening)) c (moves_in (here rules opening) (renamed_events edit_in past)) own.threads
   stands_here = locks_stand rules opening c past own.threads before.stands
 
-  at_home : home_of (homes_in (viewed lock_of opening)) (lock_caller rules e) ≡ Some c
-  at_home = (current_at (homes_in (viewed lock_of opening)) c
-      (moves_in (here rules opening) (renamed_events edit_in past)) own.threads moving_here stands_here (lock_caller rules e) before.caller).0
+  at_home : home_of (homes_in (viewed nested_lock_of opening)) (lock_caller rules e) ≡ Some c
+  at_home = (current_at (homes_in (viewed nested_lock_of opening)) c
+      (moves_in (here rules opening) (renamed_events edit_in past)) own.threads legal_here stands_here (lock_caller rules e) before.caller).0
 
-  runs : where_is (homes_in (viewed lock_of opening)) (moves_in (here rules opening) (renamed_events edit_in past)) (lock_caller rules e) ≡ Home
-  runs = (current_at (homes_in (viewed lock_of opening)) c (moves_in (here rules opening) (renamed_events edit_in past)) own.threads moving_here stands_here
+  runs : where_is (homes_in (viewed nested_lock_of opening)) (moves_in (here rules opening) (renamed_events edit_in past)) (lock_caller rules e) ≡ Home
+  runs = (current_at (homes_in (viewed nested_lock_of opening)) c (moves_in (here rules opening) (renamed_events edit_in past)) own.threads legal_here stands_here
       (lock_caller rules e) before.caller).1
 
   -- the caller is a thread of the machine
   pub caller_small : (lock_caller rules e).0 < THREADS
   caller_small = let within = slice_get_within (homes_in opening) (lock_caller rules e).0 c
-      (subst (λ h. home_of h (lock_caller rules e) ≡ Some c) (homes_viewed lock_of opening) at_home) in
+      (subst (λ h. home_of h (lock_caller rules e) ≡ Some c) (homes_viewed nested_lock_of opening) at_home) in
       let room = before.starts.room in omega (arith, within, room)
 
   handed_by : (ActsFor : CpuId → Type 0) (x : Option BufId) → slept_for slept (lock_caller rules e) ≡ x → is_some x ≡ true
@@ -122,12 +122,12 @@ module _ {F R B O : Type 0} (rules : LockRules F R B O) (opening : LockId → Op
   handed_by ActsFor None is some may = absurd cc
   handed_by ActsFor (Some at) is some may =
       let one = subst (λ x. HasOrAwaits (lock_caller rules e)
-      (lock_after rules (inner (viewed lock_of opening)) (Buffer x) (buffer_sections (renamed_events edit_in past)))) may.1
+      (lock_after rules (inner (viewed nested_lock_of opening)) (Buffer x) (buffer_sections (renamed_events edit_in past)))) may.1
       (before.fits (lock_caller rules e) at is).awaits in
       record {
         owns = awaits_owner (lock_caller rules e)
-            (lock_after rules (inner (viewed lock_of opening)) (Buffer b) (buffer_sections (renamed_events edit_in past))) one
-            (runs_awake rules (viewed lock_of opening) (renamed_events edit_in past) (locks_lists rules opening past before.lists) (lock_caller rules e) runs
+            (lock_after rules (inner (viewed nested_lock_of opening)) (Buffer b) (buffer_sections (renamed_events edit_in past))) one
+            (runs_awake rules (viewed nested_lock_of opening) (renamed_events edit_in past) (locks_lists rules opening past before.lists) (lock_caller rules e) runs
             (Buffer b));
         ends = may.0;
         leaves = refl;
@@ -152,19 +152,19 @@ module _ {F R B O : Type 0} (rules : LockRules F R B O) (opening : LockId → Op
     pub owed : MayCall under (call.OnBuffer b (as_section e)) (MaySleep (beneath rules opening) c past own.threads b (as_section e))
     owed = may_beneath under b e (MayLock rules (here rules opening) c (renamed_events edit_in past) own.threads.hand b e)
         (MaySleep (beneath rules opening) c past own.threads b (as_section e))
-        (λ may. locks_may rules opening c b e past own.threads moving_here stands_here (locks_lists rules opening past before.lists) before.caller may) goes
+        (λ may. locks_may rules opening c b e past own.threads legal_here stands_here (locks_lists rules opening past before.lists) before.caller may) goes
 
-    kept_now : KeptFits (Some (call.OnBuffer b e)) own.kept own.threads.hand
-    kept_now = kept_goes (option_map (renamed_sched edit_in) under) own.kept own.threads.hand b e
+    deferred_now : DeferredFits (Some (call.OnBuffer b e)) own.deferred own.threads.hand
+    deferred_now = deferred_goes (option_map (renamed_sched edit_in) under) own.deferred own.threads.hand b e
         (MayLock rules (here rules opening) c (renamed_events edit_in past) own.threads.hand b e)
-        before.kept goes (λ may. may.empty)
+        before.deferred goes (λ may. may.empty)
 
     module _ (ActsFor : CpuId → Type 0) (new : List (QueueEvent (QLockEdit F R))) (got : Left (Sleeping (QOut O)) (Outcome (QOut O)))
         (polled : SleepPolled (beneath rules opening) ActsFor c b (as_section e) past new own got) where
       -- the poll beneath is a poll here
       polled_here : SleepPolled (here rules opening) ActsFor c b e (renamed_events edit_in past) (renamed_events edit_in new) own got
       polled_here =
-          sleeps_renamed (beneath rules opening) (here rules opening) edit_in lock_of (locks_wrap rules opening) ActsFor c b (as_section e) past new own got
+          sleeps_renamed (beneath rules opening) (here rules opening) edit_in nested_lock_of (locks_wrap rules opening) ActsFor c b (as_section e) past new own got
           polled
 
       pub locks : (under' : Option (SchedCall (QEdit F R))) (got' : Left (Locking O) (Outcome (QOut O)))
@@ -175,15 +175,15 @@ module _ {F R B O : Type 0} (rules : LockRules F R B O) (opening : LockId → Op
       locks under' got' ends leaves =
           subst (λ x. LockPolled rules (here rules opening) ActsFor c b e x (renamed_events edit_in past) (renamed_events edit_in new)
           (record { sleep = own; slept = slept }) under' got') (sym none)
-          (record { left = got; polled = polled_here; ends = ends; asks = asks_none own.kept own.threads.hand b e kept_now; leaves = leaves })
+          (record { left = got; polled = polled_here; ends = ends; asks = asks_none own.deferred own.threads.hand b e deferred_now; leaves = leaves })
 
       -- what is kept agrees with the call that goes on
-      pub kept_after : KeptIn rules (viewed lock_of opening) c b e got
-      kept_after = kept_deed rules (viewed lock_of opening) c b e polled_here.deed
-          (polled_here.others ++ renamed_events edit_in past) own got polled_here.may polled_here.leaves kept_now
+      pub deferred_after : DeferredIn rules (viewed nested_lock_of opening) c b e got
+      deferred_after = deferred_result rules (viewed nested_lock_of opening) c b e polled_here.poll_result
+          (polled_here.others ++ renamed_events edit_in past) own got polled_here.may polled_here.leaves deferred_now
 
       module _ (acts : ActsFor c) (lawful : IsLawful (QueueAllowed (beneath rules opening)) new) where
-        abbrev section_poll : SectionPoll rules (viewed lock_of opening) c
+        abbrev section_poll : SectionPoll rules (viewed nested_lock_of opening) c
         section_poll = record {
           ActsFor = ActsFor;
           acts = acts;
@@ -201,25 +201,25 @@ module _ {F R B O : Type 0} (rules : LockRules F R B O) (opening : LockId → Op
         }
 
         -- who slept owns or sleeps still
-        pub slept_after : SleptFits rules (viewed lock_of opening) c (renamed_events edit_in new) slept
-        slept_after = slept_polled rules (viewed lock_of opening) c section_poll
+        pub slept_after : SleptFits rules (viewed nested_lock_of opening) c (renamed_events edit_in new) slept
+        slept_after = slept_polled rules (viewed nested_lock_of opening) c section_poll
 
-        pub slept_told : (outcome : Outcome (QOut O)) → got.answer ≡ Some outcome
-            → SleptFits rules (viewed lock_of opening) c (renamed_events edit_in new) (kept_by (lock_caller rules e) b slept outcome)
-        slept_told outcome answer =
-            slept_queued rules (viewed lock_of opening) c section_poll outcome at_home
-            (subst (λ h. length h ≤ THREADS) (sym (homes_viewed lock_of opening)) before.starts.room) answer kept_now
+        pub slept_reported : (outcome : Outcome (QOut O)) → got.answer ≡ Some outcome
+            → SleptFits rules (viewed nested_lock_of opening) c (renamed_events edit_in new) (slept_left_by (lock_caller rules e) b slept outcome)
+        slept_reported outcome answer =
+            slept_queued rules (viewed nested_lock_of opening) c section_poll outcome at_home
+            (subst (λ h. length h ≤ THREADS) (sym (homes_viewed nested_lock_of opening)) before.starts.room) answer deferred_now
 
 -- the part of another CPU agrees still
 pub others_after : {F R B O : Type 0} (rules : LockRules F R B O) (opening : LockId → Option (QueueBlock (SleepState (QBlock B)))) (c d : CpuId) → c ≢ d
     → (ActsFor : CpuId → Type 0) → ActsFor c
     → (b : BufId) (e : QEdit F R) (past new : List (QueueEvent (QLockEdit F R))) (own : Sleeping (QOut O)) (got : Left (Sleeping (QOut O)) (Outcome (QOut O)))
     → SleepPolled (beneath rules opening) ActsFor d b (as_section e) past new own got → IsLawful (QueueAllowed (beneath rules opening)) new
-    → (slept : List (Option BufId)) → SleptFits rules (viewed lock_of opening) c (renamed_events edit_in past) slept
-    → SleptFits rules (viewed lock_of opening) c (renamed_events edit_in new) slept
+    → (slept : List (Option BufId)) → SleptFits rules (viewed nested_lock_of opening) c (renamed_events edit_in past) slept
+    → SleptFits rules (viewed nested_lock_of opening) c (renamed_events edit_in new) slept
 others_after rules opening c d apart ActsFor acts b e past new own got polled lawful slept fits =
-    slept_of_others rules (viewed lock_of opening) c ActsFor d apart acts slept b e (renamed_events edit_in past) (renamed_events edit_in new) own got
-    (sleeps_renamed (beneath rules opening) (here rules opening) edit_in lock_of (locks_wrap rules opening) ActsFor d b (as_section e) past new own
+    slept_of_others rules (viewed nested_lock_of opening) c ActsFor d apart acts slept b e (renamed_events edit_in past) (renamed_events edit_in new) own got
+    (sleeps_renamed (beneath rules opening) (here rules opening) edit_in nested_lock_of (locks_wrap rules opening) ActsFor d b (as_section e) past new own
     got polled) (locks_lawful rules opening new lawful) fits
 
 -- A poll that followed its plan beneath followed it here.
@@ -230,38 +230,38 @@ module _ {F R B O : Type 0} (rules : LockRules F R B O) (opening : LockId → Op
       → slept_for slept (lock_caller rules e) ≡ None
       → Follows ActsFor (table_of (queue_rules (sleep_rules (busy_rules rules)) (sleep_moves (busy_rules rules)))) opening c
       (sleep_plan (sleep_moves (busy_rules rules)) (homes_in opening) c b (as_section e) own) acts acts' got
-      → Follows ActsFor (table_of (queue_rules (lock_rules rules) (lock_moves rules))) (viewed lock_of opening) c
-      (lock_plan (lock_moves rules) (homes_in (viewed lock_of opening)) c b e (record { sleep = own; slept = slept }))
+      → Follows ActsFor (table_of (queue_rules (lock_rules rules) (lock_moves rules))) (viewed nested_lock_of opening) c
+      (lock_plan (lock_moves rules) (homes_in (viewed nested_lock_of opening)) c b e (record { sleep = own; slept = slept }))
       (map (renamed (renamed_edit edit_in)) acts) (map (renamed (renamed_edit edit_in)) acts') (left_after (lock_caller rules e) b slept got.own got.answer)
   locks_follow b e own slept got none follows =
-      subst (λ x. Follows ActsFor (table_of (queue_rules (lock_rules rules) (lock_moves rules))) (viewed lock_of opening) c
-      (plan_for (lock_moves rules) (homes_in (viewed lock_of opening)) c b e (record { sleep = own; slept = slept }) x)
+      subst (λ x. Follows ActsFor (table_of (queue_rules (lock_rules rules) (lock_moves rules))) (viewed nested_lock_of opening) c
+      (plan_for (lock_moves rules) (homes_in (viewed nested_lock_of opening)) c b e (record { sleep = own; slept = slept }) x)
       (map (renamed (renamed_edit edit_in)) acts) (map (renamed (renamed_edit edit_in)) acts') (left_after (lock_caller rules e) b slept got.own got.answer))
       (sym none)
-      (follows_raised ActsFor (table_of (queue_rules (lock_rules rules) (lock_moves rules))) (viewed lock_of opening) c
+      (follows_raised ActsFor (table_of (queue_rules (lock_rules rules) (lock_moves rules))) (viewed nested_lock_of opening) c
       (λ l. left_after (lock_caller rules e) b slept l.own l.answer)
-      (sleep_plan (lock_moves rules) (homes_in (viewed lock_of opening)) c b e own)
+      (sleep_plan (lock_moves rules) (homes_in (viewed nested_lock_of opening)) c b e own)
       (map (renamed (renamed_edit edit_in)) acts) (map (renamed (renamed_edit edit_in)) acts') got
-      (subst (λ plan. Follows ActsFor (table_of (queue_rules (lock_rules rules) (lock_moves rules))) (viewed lock_of opening) c plan
+      (subst (λ plan. Follows ActsFor (table_of (queue_rules (lock_rules rules) (lock_moves rules))) (viewed nested_lock_of opening) c plan
       (map (renamed (renamed_edit edit_in)) acts) (map (renamed (renamed_edit edit_in)) acts') got)
-      (sleep_plan_renamed (beneath rules opening) (here rules opening) edit_in lock_of (locks_wrap rules opening) (homes_in opening) c b (as_section e) own
-      ∙ ap (λ h. sleep_plan (lock_moves rules) h c b e own) (sym (homes_viewed lock_of opening)))
-      (follows_named (beneath rules opening) (here rules opening) edit_in lock_of (locks_wrap rules opening) ActsFor opening c
+      (sleep_plan_renamed (beneath rules opening) (here rules opening) edit_in nested_lock_of (locks_wrap rules opening) (homes_in opening) c b (as_section e) own
+      ∙ ap (λ h. sleep_plan (lock_moves rules) h c b e own) (sym (homes_viewed nested_lock_of opening)))
+      (follows_named (beneath rules opening) (here rules opening) edit_in nested_lock_of (locks_wrap rules opening) ActsFor opening c
       (sleep_plan (sleep_moves (busy_rules rules)) (homes_in opening) c b (as_section e) own) acts acts' got follows)))
 
   pub locks_pass_follow : (p : Pass) (own : Sleeping (QOut O)) (slept : List (Option BufId)) (got : Left (Sleeping (QOut O)) (Unit {0}))
       → Follows ActsFor (table_of (queue_rules (sleep_rules (busy_rules rules)) (sleep_moves (busy_rules rules)))) opening c
       (pass_plan (sleep_moves (busy_rules rules)) (homes_in opening) c p own) acts acts' got
-      → Follows ActsFor (table_of (queue_rules (lock_rules rules) (lock_moves rules))) (viewed lock_of opening) c
-      (lock_pass_plan (lock_moves rules) (homes_in (viewed lock_of opening)) c p (record { sleep = own; slept = slept }))
+      → Follows ActsFor (table_of (queue_rules (lock_rules rules) (lock_moves rules))) (viewed nested_lock_of opening) c
+      (lock_pass_plan (lock_moves rules) (homes_in (viewed nested_lock_of opening)) c p (record { sleep = own; slept = slept }))
       (map (renamed (renamed_edit edit_in)) acts) (map (renamed (renamed_edit edit_in)) acts') (locks_passed slept got)
   locks_pass_follow p own slept got follows =
-      follows_raised ActsFor (table_of (queue_rules (lock_rules rules) (lock_moves rules))) (viewed lock_of opening) c (locks_passed slept)
-      (pass_plan (lock_moves rules) (homes_in (viewed lock_of opening)) c p own)
+      follows_raised ActsFor (table_of (queue_rules (lock_rules rules) (lock_moves rules))) (viewed nested_lock_of opening) c (locks_passed slept)
+      (pass_plan (lock_moves rules) (homes_in (viewed nested_lock_of opening)) c p own)
       (map (renamed (renamed_edit edit_in)) acts) (map (renamed (renamed_edit edit_in)) acts') got
-      (subst (λ plan. Follows ActsFor (table_of (queue_rules (lock_rules rules) (lock_moves rules))) (viewed lock_of opening) c plan
+      (subst (λ plan. Follows ActsFor (table_of (queue_rules (lock_rules rules) (lock_moves rules))) (viewed nested_lock_of opening) c plan
       (map (renamed (renamed_edit edit_in)) acts) (map (renamed (renamed_edit edit_in)) acts') got)
-      (pass_plan_renamed (beneath rules opening) (here rules opening) edit_in lock_of (locks_wrap rules opening) (homes_in opening) c p own
-      ∙ ap (λ h. pass_plan (lock_moves rules) h c p own) (sym (homes_viewed lock_of opening)))
-      (follows_named (beneath rules opening) (here rules opening) edit_in lock_of (locks_wrap rules opening) ActsFor opening c
+      (pass_plan_renamed (beneath rules opening) (here rules opening) edit_in nested_lock_of (locks_wrap rules opening) (homes_in opening) c p own
+      ∙ ap (λ h. pass_plan (lock_moves rules) h c p own) (sym (homes_viewed nested_lock_of opening)))
+      (follows_named (beneath rules opening) (here rules opening) edit_in nested_lock_of (locks_wrap rules opening) ActsFor opening c
       (pass_plan (sleep_moves (busy_rules rules)) (homes_in opening) c p own) acts acts' got follows))

@@ -17,7 +17,7 @@ use Rattle.layer_traits.specs.declared.locked.QEdit.{QEdit}
 use Rattle.layer_traits.specs.declared.locked.QEdit.TheVariants.{Acquire, Inside, Release}
 use Rattle.layer_traits.specs.declared.locked.QOut.{QOut}
 use Rattle.layer_traits.specs.declared.locked.QOut.TheVariants.{Acquired, Queued, Did, Released}
-use Rattle.layer_traits.specs.declared.moves.Line.TheVariants.{Sleepers}
+use Rattle.layer_traits.specs.declared.moves.WaitList.TheVariants.{Sleepers}
 use Rattle.layer_traits.specs.declared.passes.Pass.{Pass as PassCall}
 use Rattle.layer_traits.specs.declared.passes.Pass.TheVariants as pass
 use Rattle.layer_traits.specs.declared.queue_edits.QueueBlock.{QueueBlock}
@@ -26,8 +26,8 @@ use Rattle.layer_traits.specs.declared.queues.QueueEvent.{QueueEvent}
 use Rattle.layer_traits.specs.declared.scheds.SchedAnswer.{SchedAnswer}
 use Rattle.layer_traits.specs.declared.scheds.SchedCall.TheVariants as call
 use Rattle.layer_traits.specs.declared.sleeps.Outcome.{Outcome}
-use Rattle.layer_traits.specs.Locking.{LockRules, LockState, asked, line_in, lock_after, lock_answer, lock_caller, lock_edited, lock_moves, owner_in}
-use Rattle.layer_traits.specs.Locking.{told_asker}
+use Rattle.layer_traits.specs.Locking.{LockRules, LockState, asked, wait_list_in, lock_after, lock_answer, lock_caller, lock_edited, lock_moves, owner_in}
+use Rattle.layer_traits.specs.Locking.{asker_report}
 use Rattle.layer_traits.specs.LockLaw.{HasOrAwaits, left_locked, locking, lock_kernel, slept_for}
 use Rattle.layer_traits.specs.Passes.{queue_for}
 use Rattle.layer_traits.specs.Places.{Threads, home_of}
@@ -35,17 +35,17 @@ use Rattle.layer_traits.specs.QueueBlocks.{homes_in, inner}
 use Rattle.layer_traits.specs.Queues.{QueueAllowed, buffer_sections, event}
 use Rattle.layer_traits.specs.Plans.{Left}
 use Rattle.layer_traits.specs.Scheds.{SchedPolled, events_of, own_answered, queue_call}
-use Rattle.layer_traits.specs.SleepLaw.{Deed, MayDo, SleepPolled, Sleeping, Waits, Does, Sends, left_done, left_with, must_send, seen_with}
+use Rattle.layer_traits.specs.SleepLaw.{PollResult, MayDo, SleepPolled, Sleeping, Waits, Does, Sends, left_done, left_with, must_send, seen_with}
 use Rattle.layer_traits.specs.Sleeping.{joined}
 use Rattle.thread_blocks.specs.Queues.{is_in}
 use Rattle.thread_blocks.proofs.Distinct.{pushed_in}
 use Rattle.thread_blocks.proofs.Members.{same_tid_self}
-use Rattle.queuing_lock.specs.Parts.{KeptFits, SleptFits, is_queued, kept_by, kept_with, told_with}
-use Rattle.queuing_lock.proofs.KeptLemmas.{kept_is}
-use Rattle.queuing_lock.proofs.SleptLemmas.{slept_deed, slept_more, slept_others}
+use Rattle.queuing_lock.specs.Parts.{DeferredFits, SleptFits, is_queued, slept_left_by, slept_left_with, reported_with}
+use Rattle.queuing_lock.proofs.DeferredLemmas.{deferred_is}
+use Rattle.queuing_lock.proofs.SleptLemmas.{slept_result, slept_more, slept_others}
 
 -- who owns a lock or sleeps for it, and does not sleep, owns it
-pub awaits_owner : {B : Type 0} (t : Tid) (o : Option (LockState B)) → HasOrAwaits t o → is_in t (line_in Sleepers o) ≡ false → owner_in o ≡ Some t
+pub awaits_owner : {B : Type 0} (t : Tid) (o : Option (LockState B)) → HasOrAwaits t o → is_in t (wait_list_in Sleepers o) ≡ false → owner_in o ≡ Some t
 awaits_owner t None awaits awake = absurd awaits
 awaits_owner t (Some state) (inl owns) awake = owns
 awaits_owner t (Some state) (inr waits) awake = absurd cc
@@ -70,21 +70,21 @@ answered_with : {O : Type 0} (done : Outcome O) (threads : Threads) (outcome : O
     → Some done ≡ Some outcome
 answered_with {O = O} done threads outcome answers = go (must_send done threads) answers
   where
-    go : (send : Bool) → answer_of O (if send then record { own = record { threads = threads; kept = Some done }; answer = None }
-        else record { own = record { threads = threads; kept = None }; answer = Some done }) ≡ Some outcome → Some done ≡ Some outcome
+    go : (send : Bool) → answer_of O (if send then record { own = record { threads = threads; deferred = Some done }; answer = None }
+        else record { own = record { threads = threads; deferred = None }; answer = Some done }) ≡ Some outcome → Some done ≡ Some outcome
     go true answers = absurd cc
     go false answers = answers
 
 -- what the lock's outcome leaves
-pub told_is : {O : Type 0} (t : Tid) (b : BufId) (slept : List (Option BufId)) (sleep : Sleeping (QOut O)) (out : QOut O) (outcome : Outcome (QOut O))
-    → left_locked t b slept sleep out outcome ≡ locking sleep (kept_with t b slept out) (told_with out outcome)
-told_is t b slept sleep Acquired outcome = refl
-told_is t b slept sleep Queued outcome = refl
-told_is t b slept sleep (Did out) outcome = refl
-told_is t b slept sleep (Released out) outcome = refl
+pub reported_is : {O : Type 0} (t : Tid) (b : BufId) (slept : List (Option BufId)) (sleep : Sleeping (QOut O)) (out : QOut O) (outcome : Outcome (QOut O))
+    → left_locked t b slept sleep out outcome ≡ locking sleep (slept_left_with t b slept out) (reported_with out outcome)
+reported_is t b slept sleep Acquired outcome = refl
+reported_is t b slept sleep Queued outcome = refl
+reported_is t b slept sleep (Did out) outcome = refl
+reported_is t b slept sleep (Released out) outcome = refl
 
 module _ {F R B O : Type 0} (rules : LockRules F R B O) where
-  asked_waits : (t : Tid) (owner : Option Tid) (state : LockState B) → t.0 < THREADS → told_asker {O = O} owner ≡ Queued
+  asked_waits : (t : Tid) (owner : Option Tid) (state : LockState B) → t.0 < THREADS → asker_report {O = O} owner ≡ Queued
       → HasOrAwaits t (Some (asked t owner state))
   asked_waits t None state small queued = absurd cc
   asked_waits t (Some owner) state small queued = inr (joined_in t state.sleepers small)
@@ -126,11 +126,11 @@ module _ {F R B O : Type 0} (rules : LockRules F R B O) (opening : LockId → Op
   module _ (poll : SectionPoll rules opening c) where
     open poll use {ActsFor, acts, b, e, old, new, own, got, polled, lawful, slept, none, fits}
 
-    after : IsLawful (QueueAllowed (lock_kernel rules opening)) (seen_with (lock_kernel rules opening) c b e polled.deed (polled.others ++ old))
+    after : IsLawful (QueueAllowed (lock_kernel rules opening)) (seen_with (lock_kernel rules opening) c b e polled.poll_result (polled.others ++ old))
     after = subst (λ l. IsLawful (QueueAllowed (lock_kernel rules opening)) l) polled.is lawful
 
-    before : (deed : Deed (QOut O)) (past : List (QueueEvent (QEdit F R)))
-        → IsLawful (QueueAllowed (lock_kernel rules opening)) (seen_with (lock_kernel rules opening) c b e deed past)
+    before : (poll_result : PollResult (QOut O)) (past : List (QueueEvent (QEdit F R)))
+        → IsLawful (QueueAllowed (lock_kernel rules opening)) (seen_with (lock_kernel rules opening) c b e poll_result past)
         → IsLawful (QueueAllowed (lock_kernel rules opening)) past
     before Waits past lawful = lawful
     before (Does outcome) past lawful = lawful.1
@@ -140,34 +140,35 @@ module _ {F R B O : Type 0} (rules : LockRules F R B O) (opening : LockId → Op
     pub slept_polled : SleptFits rules opening c new slept
     slept_polled =
         subst (λ l. SleptFits rules opening c l slept) (sym polled.is)
-        (slept_deed rules opening c b e polled.deed (polled.others ++ old) slept after none
-        (slept_others rules opening c polled.others old (polled.foreign c acts) (before polled.deed (polled.others ++ old) after) slept fits))
+        (slept_result rules opening c b e polled.poll_result (polled.others ++ old) slept after none
+        (slept_others rules opening c polled.others old (polled.foreign c acts) (before polled.poll_result (polled.others ++ old) after) slept fits))
 
-    queued_deed : (deed : Deed (QOut O)) (past : List (QueueEvent (QEdit F R))) (outcome : Outcome (QOut O)) → (lock_caller rules e).0 < THREADS
-        → MayDo (lock_kernel rules opening) c b e deed past own → (left_with (lock_kernel rules opening) c b e deed own).answer ≡ Some outcome
+    queued_result : (poll_result : PollResult (QOut O)) (past : List (QueueEvent (QEdit F R))) (outcome : Outcome (QOut O)) → (lock_caller rules e).0 < THREADS
+        → MayDo (lock_kernel rules opening) c b e poll_result past own → (left_with (lock_kernel rules opening) c b e poll_result own).answer ≡ Some outcome
         → outcome.out ≡ Queued
-        → KeptFits (Some (call.OnBuffer b e)) own.kept own.threads.hand
+        → DeferredFits (Some (call.OnBuffer b e)) own.deferred own.threads.hand
         → HasOrAwaits (lock_caller rules e) (lock_after rules (inner opening) (Buffer b)
-        (buffer_sections (seen_with (lock_kernel rules opening) c b e deed past)))
-    queued_deed Waits past outcome small may answers queued kept = absurd cc
-    queued_deed (Does done) past outcome small may answers queued kept =
+        (buffer_sections (seen_with (lock_kernel rules opening) c b e poll_result past)))
+    queued_result Waits past outcome small may answers queued deferred = absurd cc
+    queued_result (Does done) past outcome small may answers queued deferred =
         subst (λ same. HasOrAwaits (lock_caller rules e)
         (if same then option_map (lock_edited rules e) (lock_after rules (inner opening) (Buffer b) (buffer_sections past))
         else lock_after rules (inner opening) (Buffer b) (buffer_sections past))) (sym (same_lock_self (Buffer b)))
         (queued_awaits rules e (lock_after rules (inner opening) (Buffer b) (buffer_sections past)) outcome small
         (may.1 ∙ answered_with done (own_answered (lock_moves rules) (lock_kernel rules opening).homes c (Some done) own.threads) outcome answers) queued)
-    queued_deed (Sends t) past outcome small may answers queued kept =
-        let told = kept_is own.kept own.threads.hand b e outcome kept answers in
+    queued_result (Sends t) past outcome small may answers queued deferred =
+        let told = deferred_is own.deferred own.threads.hand b e outcome deferred answers in
         let is = ap is_queued queued in
         absurd cc
 
     -- and who is queued sleeps for the lock
     pub slept_queued : (outcome : Outcome (QOut O)) → home_of (homes_in opening) (lock_caller rules e) ≡ Some c → length (homes_in opening) ≤ THREADS
         → got.answer ≡ Some outcome
-        → KeptFits (Some (call.OnBuffer b e)) own.kept own.threads.hand → SleptFits rules opening c new (kept_by (lock_caller rules e) b slept outcome)
-    slept_queued outcome here room answers kept = go outcome.out refl
+        → DeferredFits (Some (call.OnBuffer b e)) own.deferred own.threads.hand
+        → SleptFits rules opening c new (slept_left_by (lock_caller rules e) b slept outcome)
+    slept_queued outcome here room answers deferred = go outcome.out refl
       where
-        go : (out : QOut O) → outcome.out ≡ out → SleptFits rules opening c new (kept_with (lock_caller rules e) b slept out)
+        go : (out : QOut O) → outcome.out ≡ out → SleptFits rules opening c new (slept_left_with (lock_caller rules e) b slept out)
         go Acquired is = slept_polled
         go (Did out) is = slept_polled
         go (Released out) is = slept_polled
@@ -176,9 +177,9 @@ module _ {F R B O : Type 0} (rules : LockRules F R B O) (opening : LockId → Op
             (record {
               here = here;
               awaits = subst (λ l. HasOrAwaits (lock_caller rules e) (lock_after rules (inner opening) (Buffer b) (buffer_sections l))) (sym polled.is)
-                  (queued_deed polled.deed (polled.others ++ old) outcome
+                  (queued_result polled.poll_result (polled.others ++ old) outcome
                   (let small = slice_get_within (homes_in opening) (lock_caller rules e).0 c here in omega (arith, small, room))
-                  polled.may (ap (λ (l : Left (Sleeping (QOut O)) (Outcome (QOut O))). l.answer) (sym polled.leaves) ∙ answers) is kept);
+                  polled.may (ap (λ (l : Left (Sleeping (QOut O)) (Outcome (QOut O))). l.answer) (sym polled.leaves) ∙ answers) is deferred);
             })
             slept_polled
 
@@ -198,11 +199,11 @@ module _ {F R B O : Type 0} (rules : LockRules F R B O) (opening : LockId → Op
         → SleptFits rules opening c old slept → SleptFits rules opening c new slept
     slept_of_others b e old new own got polled lawful fits =
         subst (λ l. SleptFits rules opening c l slept) (sym polled.is)
-        (go polled.deed (subst (λ l. IsLawful (QueueAllowed (lock_kernel rules opening)) l) polled.is lawful))
+        (go polled.poll_result (subst (λ l. IsLawful (QueueAllowed (lock_kernel rules opening)) l) polled.is lawful))
       where
-        go : (deed : Deed (QOut O)) → IsLawful (QueueAllowed (lock_kernel rules opening))
-            (seen_with (lock_kernel rules opening) by b e deed (polled.others ++ old))
-            → SleptFits rules opening c (seen_with (lock_kernel rules opening) by b e deed (polled.others ++ old)) slept
+        go : (poll_result : PollResult (QOut O)) → IsLawful (QueueAllowed (lock_kernel rules opening))
+            (seen_with (lock_kernel rules opening) by b e poll_result (polled.others ++ old))
+            → SleptFits rules opening c (seen_with (lock_kernel rules opening) by b e poll_result (polled.others ++ old)) slept
         go Waits lawful = slept_others rules opening c polled.others old (polled.foreign c acts) lawful slept fits
         go (Does outcome) lawful =
             slept_others rules opening c (event by (OnBuffer b e) ∷ polled.others) old (not_by, polled.foreign c acts) lawful slept fits

@@ -13,19 +13,19 @@ use Rattle.layer_traits.specs.declared.queue_edits.QueueBlock.{QueueBlock}
 use Rattle.layer_traits.specs.declared.queues.QueueEvent.{QueueEvent}
 use Rattle.layer_traits.specs.Locking.{LockRules, LockState, lock_caller}
 use Rattle.layer_traits.specs.LockLaw.{HasOrAwaits, lock_kernel, slept_for}
-use Rattle.layer_traits.specs.Queues.{QueueAllowed, event_actor}
-use Rattle.layer_traits.specs.SleepLaw.{Deed, Waits, Does, Sends, seen_with}
+use Rattle.layer_traits.specs.Queues.{QueueAllowed, cpu_of_queue_event}
+use Rattle.layer_traits.specs.SleepLaw.{PollResult, Waits, Does, Sends, seen_with}
 use Rattle.queuing_lock.specs.Parts.{SleptFits, SleptOne}
-use Rattle.queuing_lock.specs.Steady.{keeps_awaits, kept_by, kept_others}
+use Rattle.queuing_lock.specs.Steady.{keeps_awaits, preserved_by, preserved_by_others}
 
 -- what stands in a list in which one was set stands there because it was set, or stood there before
-pub set_tells : {A : Type 0} (xs : List (Option A)) (i j : ℕ) (v : Option A) (a : A) → slice_index_or (slice_set xs i v) j None ≡ Some a
+pub set_reads : {A : Type 0} (xs : List (Option A)) (i j : ℕ) (v : Option A) (a : A) → slice_index_or (slice_set xs i v) j None ≡ Some a
     → ((i ≡ j) × (v ≡ Some a)) ⊎ (slice_index_or xs j None ≡ Some a)
-set_tells [] i j v a is = inr is
-set_tells (x ∷ xs) zero zero v a is = inl (refl, is)
-set_tells (x ∷ xs) zero (suc j) v a is = inr is
-set_tells (x ∷ xs) (suc i) zero v a is = inr is
-set_tells (x ∷ xs) (suc i) (suc j) v a is = further (set_tells xs i j v a is)
+set_reads [] i j v a is = inr is
+set_reads (x ∷ xs) zero zero v a is = inl (refl, is)
+set_reads (x ∷ xs) zero (suc j) v a is = inr is
+set_reads (x ∷ xs) (suc i) zero v a is = inr is
+set_reads (x ∷ xs) (suc i) (suc j) v a is = further (set_reads xs i j v a is)
   where
     further : ((i ≡ j) × (v ≡ Some a)) ⊎ (slice_index_or xs j None ≡ Some a) → ((suc i ≡ suc j) × (v ≡ Some a)) ⊎ (slice_index_or xs j None ≡ Some a)
     further (inl both) = inl (ap suc both.0, both.1)
@@ -39,18 +39,18 @@ none_at (suc n) (suc j) x is = none_at n j x is
 
 module _ {F R B O : Type 0} (rules : LockRules F R B O) (opening : LockId → Option (QueueBlock (LockState B))) (c : CpuId) where
   -- others call
-  pub slept_others : (more past : List (QueueEvent (QEdit F R))) → AreOthers event_actor c more
+  pub slept_others : (more past : List (QueueEvent (QEdit F R))) → AreOthers cpu_of_queue_event c more
       → IsLawful (QueueAllowed (lock_kernel rules opening)) (more ++ past)
       → (slept : List (Option BufId)) → SleptFits rules opening c past slept → SleptFits rules opening c (more ++ past) slept
   slept_others more past others lawful slept fits t b is = record {
     here = (fits t b is).here;
-    awaits = kept_others rules opening
+    awaits = preserved_by_others rules opening
         (record { t = t; P = HasOrAwaits t; keeps = keeps_awaits rules t; c = c; at_home = (fits t b is).here; lock = Buffer b })
         more past others lawful (fits t b is).awaits;
   }
 
   -- the history went on by calls of others
-  pub slept_goes : (more past new : List (QueueEvent (QEdit F R))) → AreOthers event_actor c more → new ≡ more ++ past
+  pub slept_goes : (more past new : List (QueueEvent (QEdit F R))) → AreOthers cpu_of_queue_event c more → new ≡ more ++ past
       → IsLawful (QueueAllowed (lock_kernel rules opening)) new
       → (slept : List (Option BufId)) → SleptFits rules opening c past slept → SleptFits rules opening c new slept
   slept_goes more past new others is lawful slept fits =
@@ -64,24 +64,24 @@ module _ {F R B O : Type 0} (rules : LockRules F R B O) (opening : LockId → Op
       clash none some = absurd cc
 
   -- a thread that slept for no lock calls
-  pub slept_deed : (b : BufId) (e : QEdit F R) (deed : Deed (QOut O)) (past : List (QueueEvent (QEdit F R))) (slept : List (Option BufId))
-      → IsLawful (QueueAllowed (lock_kernel rules opening)) (seen_with (lock_kernel rules opening) c b e deed past)
+  pub slept_result : (b : BufId) (e : QEdit F R) (poll_result : PollResult (QOut O)) (past : List (QueueEvent (QEdit F R))) (slept : List (Option BufId))
+      → IsLawful (QueueAllowed (lock_kernel rules opening)) (seen_with (lock_kernel rules opening) c b e poll_result past)
       → slept_for slept (lock_caller rules e) ≡ None
-      → SleptFits rules opening c past slept → SleptFits rules opening c (seen_with (lock_kernel rules opening) c b e deed past) slept
-  slept_deed b e Waits past slept lawful none fits = fits
-  slept_deed b e (Does outcome) past slept lawful none fits = λ t at is. record {
+      → SleptFits rules opening c past slept → SleptFits rules opening c (seen_with (lock_kernel rules opening) c b e poll_result past) slept
+  slept_result b e Waits past slept lawful none fits = fits
+  slept_result b e (Does outcome) past slept lawful none fits = λ t at is. record {
     here = (fits t at is).here;
-    awaits = kept_by rules opening
+    awaits = preserved_by rules opening
         (record { t = t; P = HasOrAwaits t; keeps = keeps_awaits rules t; c = c; at_home = (fits t at is).here; lock = Buffer at })
         past c b e lawful.0.upper.owners
         (apart slept (lock_caller rules e) t at none is) (fits t at is).awaits;
   }
-  slept_deed b e (Sends u) past slept lawful none fits = λ t at is. record { here = (fits t at is).here; awaits = (fits t at is).awaits }
+  slept_result b e (Sends u) past slept lawful none fits = λ t at is. record { here = (fits t at is).here; awaits = (fits t at is).awaits }
 
   -- whose call was handed its lock has slept
   pub slept_less : (t : Tid) (past : List (QueueEvent (QEdit F R))) (slept : List (Option BufId)) → SleptFits rules opening c past slept
       → SleptFits rules opening c past (slice_set slept t.0 None)
-  slept_less t past slept fits u b is = go (set_tells slept t.0 u.0 None b is)
+  slept_less t past slept fits u b is = go (set_reads slept t.0 u.0 None b is)
     where
       go : ((t.0 ≡ u.0) × (None ≡ Some b)) ⊎ (slept_for slept u ≡ Some b) → SleptOne rules opening c past u b
       go (inl both) = let none = both.1 in absurd cc
@@ -90,7 +90,7 @@ module _ {F R B O : Type 0} (rules : LockRules F R B O) (opening : LockId → Op
   -- who is queued now sleeps
   pub slept_more : (t : Tid) (b : BufId) (past : List (QueueEvent (QEdit F R))) (slept : List (Option BufId)) → SleptOne rules opening c past t b
       → SleptFits rules opening c past slept → SleptFits rules opening c past (slice_set slept t.0 (Some b))
-  slept_more t b past slept one fits u at is = go (set_tells slept t.0 u.0 (Some b) at is)
+  slept_more t b past slept one fits u at is = go (set_reads slept t.0 u.0 (Some b) at is)
     where
       go : ((t.0 ≡ u.0) × (Some b ≡ Some at)) ⊎ (slept_for slept u ≡ Some at) → SleptOne rules opening c past u at
       go (inl both) =

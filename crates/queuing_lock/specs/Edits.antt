@@ -6,62 +6,62 @@ use Rattle.layer_traits.specs.declared.locked.QEdit.TheVariants.{Acquire, Inside
 use Rattle.layer_traits.specs.declared.locked.QOut.TheVariants.{Did}
 use Rattle.layer_traits.specs.declared.locked.Side.{Side}
 use Rattle.layer_traits.specs.declared.locked.Side.TheVariants as side
-use Rattle.layer_traits.specs.declared.locked.Signal.{Signal}
-use Rattle.layer_traits.specs.declared.locked.Signal.TheVariants as signal
-use Rattle.layer_traits.specs.declared.moves.Line.TheVariants.{Sleepers, Receivers, Senders}
-use Rattle.layer_traits.specs.Locking.{LockRules, line_for, lock_answer, lock_edited, signalled, waiting_with, waiting_without}
-use Rattle.layer_traits.specs.Sleeping.{SleepState, left, line_joined, sleep_answer, sleep_edited, woken}
+use Rattle.layer_traits.specs.declared.locked.WakeWaiter.{WakeWaiter}
+use Rattle.layer_traits.specs.declared.locked.WakeWaiter.TheVariants as signal
+use Rattle.layer_traits.specs.declared.moves.WaitList.TheVariants.{Sleepers, Receivers, Senders}
+use Rattle.layer_traits.specs.Locking.{LockRules, wait_list_for, lock_answer, lock_edited, signalled, waiting_with, waiting_without}
+use Rattle.layer_traits.specs.Sleeping.{SleepState, left, wait_list_joined, sleep_answer, sleep_edited, woken}
 use Rattle.queuing_lock.specs.declared.edits.QBlock.{QBlock}
 use Rattle.queuing_lock.specs.declared.edits.QLockEdit.{QLockEdit}
-use Rattle.queuing_lock.specs.Nested.{busy_rules, edit_in, leaving, lock_of}
+use Rattle.queuing_lock.specs.Nested.{busy_rules, edit_in, leaving, nested_lock_of}
 use Rattle.thread_blocks.specs.Queues.{first, rest}
 
 -- Who leaves at a signal, and who joins that waits.
 
-signal_sleepers : (s : Signal) (queue : List Tid) → left Sleepers (leaving s) queue ≡ queue
+signal_sleepers : (s : WakeWaiter) (queue : List Tid) → left Sleepers (leaving s) queue ≡ queue
 signal_sleepers signal.Nobody queue = refl
 signal_sleepers (signal.Receiver u) queue = refl
 signal_sleepers (signal.Sender u) queue = refl
 
-signal_receivers : (s : Signal) (queue : List Tid) → left Receivers (leaving s) queue ≡ waiting_without side.Receivers s queue
+signal_receivers : (s : WakeWaiter) (queue : List Tid) → left Receivers (leaving s) queue ≡ waiting_without side.Receivers s queue
 signal_receivers signal.Nobody queue = refl
 signal_receivers (signal.Receiver u) queue = refl
 signal_receivers (signal.Sender u) queue = refl
 
-signal_senders : (s : Signal) (queue : List Tid) → left Senders (leaving s) queue ≡ waiting_without side.Senders s queue
+signal_senders : (s : WakeWaiter) (queue : List Tid) → left Senders (leaving s) queue ≡ waiting_without side.Senders s queue
 signal_senders signal.Nobody queue = refl
 signal_senders (signal.Receiver u) queue = refl
 signal_senders (signal.Sender u) queue = refl
 
-signal_wakes : (s : Signal) (sleepers receivers senders : List Tid) → woken (leaving s) sleepers receivers senders ≡ signalled s receivers senders
+signal_wakes : (s : WakeWaiter) (sleepers receivers senders : List Tid) → woken (leaving s) sleepers receivers senders ≡ signalled s receivers senders
 signal_wakes signal.Nobody sleepers receivers senders = refl
 signal_wakes (signal.Receiver u) sleepers receivers senders = refl
 signal_wakes (signal.Sender u) sleepers receivers senders = refl
 
-wait_sleepers : (w : Option Side) (t : Tid) (queue : List Tid) → line_joined Sleepers (line_for w) t queue ≡ queue
+wait_sleepers : (w : Option Side) (t : Tid) (queue : List Tid) → wait_list_joined Sleepers (wait_list_for w) t queue ≡ queue
 wait_sleepers None t queue = refl
 wait_sleepers (Some side.Receivers) t queue = refl
 wait_sleepers (Some side.Senders) t queue = refl
 
-wait_receivers : (w : Option Side) (t : Tid) (queue : List Tid) → line_joined Receivers (line_for w) t queue ≡ waiting_with side.Receivers w t queue
+wait_receivers : (w : Option Side) (t : Tid) (queue : List Tid) → wait_list_joined Receivers (wait_list_for w) t queue ≡ waiting_with side.Receivers w t queue
 wait_receivers None t queue = refl
 wait_receivers (Some side.Receivers) t queue = refl
 wait_receivers (Some side.Senders) t queue = refl
 
-wait_senders : (w : Option Side) (t : Tid) (queue : List Tid) → line_joined Senders (line_for w) t queue ≡ waiting_with side.Senders w t queue
+wait_senders : (w : Option Side) (t : Tid) (queue : List Tid) → wait_list_joined Senders (wait_list_for w) t queue ≡ waiting_with side.Senders w t queue
 wait_senders None t queue = refl
 wait_senders (Some side.Receivers) t queue = refl
 wait_senders (Some side.Senders) t queue = refl
 
 module _ {F R B O : Type 0} (rules : LockRules F R B O) where
   edits_asked : (t : Tid) (busy : Option Tid) (sleepers receivers senders : List Tid) (above : B) →
-      lock_of (sleep_edited (busy_rules rules) (record { edit = Acquire t })
+      nested_lock_of (sleep_edited (busy_rules rules) (record { edit = Acquire t })
       (record { sleepers = sleepers; receivers = receivers; senders = senders; above = record { busy = busy; above = above } }))
       ≡ lock_edited rules (Acquire t) (record { owner = busy; sleepers = sleepers; receivers = receivers; senders = senders; above = above })
   edits_asked t None sleepers receivers senders above = refl
   edits_asked t (Some owner) sleepers receivers senders above = refl
 
-  edits_by : (e : QEdit F R) (a : SleepState (QBlock B)) → lock_of (sleep_edited (busy_rules rules) (record { edit = e }) a) ≡ lock_edited rules e (lock_of a)
+  edits_by : (e : QEdit F R) (a : SleepState (QBlock B)) → nested_lock_of (sleep_edited (busy_rules rules) (record { edit = e }) a) ≡ lock_edited rules e (nested_lock_of a)
   edits_by (Acquire t) a = edits_asked t a.above.busy a.sleepers a.receivers a.senders a.above.above
   edits_by (Inside f) a = λ i. record {
     owner = a.above.busy;
@@ -79,7 +79,7 @@ module _ {F R B O : Type 0} (rules : LockRules F R B O) where
   }
 
   -- a section leaves the lock that the call leaves
-  pub edits : (d : QLockEdit F R) (a : SleepState (QBlock B)) → lock_of (sleep_edited (busy_rules rules) d a) ≡ lock_edited rules (edit_in d) (lock_of a)
+  pub edits : (d : QLockEdit F R) (a : SleepState (QBlock B)) → nested_lock_of (sleep_edited (busy_rules rules) d a) ≡ lock_edited rules (edit_in d) (nested_lock_of a)
   edits d a = edits_by d.edit a
 
   answers_asked : (t : Tid) (busy : Option Tid) (sleepers receivers senders : List Tid) (above : B) →
@@ -89,7 +89,7 @@ module _ {F R B O : Type 0} (rules : LockRules F R B O) where
   answers_asked t None sleepers receivers senders above = refl
   answers_asked t (Some owner) sleepers receivers senders above = refl
 
-  answers_by : (e : QEdit F R) (a : SleepState (QBlock B)) → sleep_answer (busy_rules rules) (record { edit = e }) a ≡ lock_answer rules e (lock_of a)
+  answers_by : (e : QEdit F R) (a : SleepState (QBlock B)) → sleep_answer (busy_rules rules) (record { edit = e }) a ≡ lock_answer rules e (nested_lock_of a)
   answers_by (Acquire t) a = answers_asked t a.above.busy a.sleepers a.receivers a.senders a.above.above
   answers_by (Inside f) a = λ i. record {
     out = Did (rules.answer f a.above.above);
@@ -99,5 +99,5 @@ module _ {F R B O : Type 0} (rules : LockRules F R B O) where
   answers_by (Release r) a = refl
 
   -- and answers what the call answers
-  pub answers : (d : QLockEdit F R) (a : SleepState (QBlock B)) → sleep_answer (busy_rules rules) d a ≡ lock_answer rules (edit_in d) (lock_of a)
+  pub answers : (d : QLockEdit F R) (a : SleepState (QBlock B)) → sleep_answer (busy_rules rules) d a ≡ lock_answer rules (edit_in d) (nested_lock_of a)
   answers d a = answers_by d.edit a

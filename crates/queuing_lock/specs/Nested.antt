@@ -7,11 +7,11 @@ use Rattle.layer_traits.specs.declared.locked.QEdit.{QEdit}
 use Rattle.layer_traits.specs.declared.locked.QEdit.TheVariants.{Acquire, Inside, Release}
 use Rattle.layer_traits.specs.declared.locked.QOut.{QOut}
 use Rattle.layer_traits.specs.declared.locked.QOut.TheVariants.{Acquired, Queued, Did, Released}
-use Rattle.layer_traits.specs.declared.locked.Signal.{Signal}
-use Rattle.layer_traits.specs.declared.locked.Signal.TheVariants as signal
-use Rattle.layer_traits.specs.declared.sleeps.Leave.{Leave}
-use Rattle.layer_traits.specs.declared.sleeps.Leave.TheVariants.{Nobody, First, Receiver, Sender}
-use Rattle.layer_traits.specs.Locking.{LockAllowed, LockRules, LockState, line_slept, lock_caller, told_asker}
+use Rattle.layer_traits.specs.declared.locked.WakeWaiter.{WakeWaiter}
+use Rattle.layer_traits.specs.declared.locked.WakeWaiter.TheVariants as signal
+use Rattle.layer_traits.specs.declared.sleeps.Wake.{Wake}
+use Rattle.layer_traits.specs.declared.sleeps.Wake.TheVariants.{Nobody, FirstSleeper, Receiver, Sender}
+use Rattle.layer_traits.specs.Locking.{LockAllowed, LockRules, LockState, wait_list_slept, lock_caller, asker_report}
 use Rattle.layer_traits.specs.Sleeping.{SleepRules, SleepState}
 use Rattle.queuing_lock.specs.declared.edits.QBlock.{QBlock}
 use Rattle.queuing_lock.specs.declared.edits.QLockEdit.{QLockEdit}
@@ -29,8 +29,8 @@ abbrev pub unowned : {B : Type 0} → B → QBlock B
 unowned above = record { busy = None; above = above }
 
 -- the lock that a block with waiting lists is: its owner is the thread in the busy word
-abbrev pub lock_of : {B : Type 0} → SleepState (QBlock B) → LockState B
-lock_of state = record {
+abbrev pub nested_lock_of : {B : Type 0} → SleepState (QBlock B) → LockState B
+nested_lock_of state = record {
   owner = state.above.busy;
   sleepers = state.sleepers;
   receivers = state.receivers;
@@ -40,10 +40,10 @@ lock_of state = record {
 
 -- the locks that these blocks are
 abbrev pub locks : {B : Type 0} → (LockId → Option (SleepState (QBlock B))) → LockId → Option (LockState B)
-locks opening lock = option_map lock_of (opening lock)
+locks opening lock = option_map nested_lock_of (opening lock)
 
 -- who leaves a waiting list at a signal
-abbrev pub leaving : Signal → Leave
+abbrev pub leaving : WakeWaiter → Wake
 leaving signal.Nobody = Nobody
 leaving (signal.Receiver t) = Receiver t
 leaving (signal.Sender t) = Sender t
@@ -62,16 +62,16 @@ module _ {F R B O : Type 0} (rules : LockRules F R B O) where
 
   -- what a call is told
   abbrev pub busy_answer : QEdit F R → Option Tid → QBlock B → QOut O
-  busy_answer (Acquire t) front block = told_asker block.busy
+  busy_answer (Acquire t) front block = asker_report block.busy
   busy_answer (Inside f) front block = Did (rules.answer f block.above)
   busy_answer (Release r) front block = Released (rules.last_answer r block.above)
 
   -- who leaves a waiting list, by what the call was told
-  abbrev pub busy_leaves : QOut O → Leave
+  abbrev pub busy_leaves : QOut O → Wake
   busy_leaves Acquired = Nobody
   busy_leaves Queued = Nobody
   busy_leaves (Did out) = leaving (rules.signals out)
-  busy_leaves (Released out) = First
+  busy_leaves (Released out) = FirstSleeper
 
 -- what the calls on a queuing lock mean as sections: each keeps the protocol of the lock
 abbrev pub busy_rules : {F R B O : Type 0} → LockRules F R B O → SleepRules (QLockEdit F R) (QBlock B) (QOut O)
@@ -79,7 +79,7 @@ busy_rules rules = record {
   caller = λ section. lock_caller rules section.edit;
   edited = λ section. busy_edited rules section.edit;
   answer = λ section. busy_answer rules section.edit;
-  joins = line_slept rules;
+  joins = wait_list_slept rules;
   leaves = busy_leaves rules;
   allowed = λ opening past s. LockAllowed rules (locks opening) (map (renamed_section edit_in) past) (renamed_section edit_in s);
 }

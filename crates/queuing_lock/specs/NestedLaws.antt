@@ -9,28 +9,28 @@ use Rattle.event_log.specs.Sections.{Section, block_after, renamed_section}
 use Rattle.event_log.proofs.Renaming.{phase_renamed}
 use Rattle.layer_traits.specs.declared.locked.QEdit.{QEdit}
 use Rattle.layer_traits.specs.declared.locked.QOut.{QOut}
-use Rattle.layer_traits.specs.declared.moves.Line.{Line}
-use Rattle.layer_traits.specs.declared.moves.Line.TheVariants.{Sleepers, Receivers, Senders}
+use Rattle.layer_traits.specs.declared.moves.WaitList.{WaitList}
+use Rattle.layer_traits.specs.declared.moves.WaitList.TheVariants.{Sleepers, Receivers, Senders}
 use Rattle.layer_traits.specs.declared.queue_edits.QueueBlock.{QueueBlock}
 use Rattle.layer_traits.specs.declared.queue_edits.QueueEdit.{QueueEdit}
 use Rattle.layer_traits.specs.declared.queues.QueueEvent.{QueueEvent}
 use Rattle.layer_traits.specs.declared.scheds.SchedCall.{SchedCall}
 use Rattle.layer_traits.specs.declared.sleeps.Outcome.{Outcome}
 use Rattle.layer_traits.specs.ListsAgree.{ListsAgree, is_at}
-use Rattle.layer_traits.specs.Locking.{LockAllowed, LockRules, LockState, line_in, lock_after}
+use Rattle.layer_traits.specs.Locking.{LockAllowed, LockRules, LockState, wait_list_in, lock_after}
 use Rattle.layer_traits.specs.LockLaw.{LocksAgree, lock_kernel}
-use Rattle.layer_traits.specs.Places.{AreMoves, Stands, Threads, count_in, one_if, berth_of, where_is}
+use Rattle.layer_traits.specs.Places.{AreMoves, Stands, Threads, count_in, one_if, wait_channel_of, where_is}
 use Rattle.layer_traits.specs.Plans.{is_in_section}
 use Rattle.layer_traits.specs.QueueBlocks.{homes_in, inner}
 use Rattle.layer_traits.specs.Queues.{Kernel, QueueAllowed, buffer_sections, moves_in}
 use Rattle.layer_traits.specs.Renaming.{renamed_edit, renamed_events, renamed_sched, viewed}
 use Rattle.layer_traits.specs.SleepLaw.{sleep_kernel}
-use Rattle.layer_traits.specs.Sleeping.{SleepState, line_at, sleep_edited}
+use Rattle.layer_traits.specs.Sleeping.{SleepState, wait_list_at, sleep_edited}
 use Rattle.layer_traits.proofs.KernelRenaming.{Wraps, block_renamed, homes_viewed, inner_viewed, lawful_renamed, moves_renamed, sections_renamed}
 use Rattle.queuing_lock.specs.declared.edits.QBlock.{QBlock}
 use Rattle.queuing_lock.specs.declared.edits.QLockEdit.{QLockEdit}
 use Rattle.queuing_lock.specs.Edits.{answers, edits}
-use Rattle.queuing_lock.specs.Nested.{busy_rules, edit_in, lock_of, locks}
+use Rattle.queuing_lock.specs.Nested.{busy_rules, edit_in, nested_lock_of, locks}
 
 module _ {F R B O : Type 0} (rules : LockRules F R B O) (opening : LockId → Option (QueueBlock (SleepState (QBlock B)))) where
   -- what stands beneath
@@ -39,24 +39,24 @@ module _ {F R B O : Type 0} (rules : LockRules F R B O) (opening : LockId → Op
 
   -- what stands here
   abbrev pub here : Kernel (QEdit F R) (LockState B) (Outcome (QOut O))
-  here = lock_kernel rules (viewed lock_of opening)
+  here = lock_kernel rules (viewed nested_lock_of opening)
 
-  pub inner_locks : (λ (lock : LockId). inner (viewed lock_of opening) lock) ≡ locks (inner opening)
-  inner_locks = λ i lock. inner_viewed lock_of opening lock i
+  pub inner_locks : (λ (lock : LockId). inner (viewed nested_lock_of opening) lock) ≡ locks (inner opening)
+  inner_locks = λ i lock. inner_viewed nested_lock_of opening lock i
 
   pub allowed_here : (past : List (Section (QLockEdit F R))) (s : Section (QLockEdit F R))
       → LockAllowed rules (locks (inner opening)) (map (renamed_section edit_in) past) (renamed_section edit_in s)
-      → LockAllowed rules (inner (viewed lock_of opening)) (map (renamed_section edit_in) past) (renamed_section edit_in s)
+      → LockAllowed rules (inner (viewed nested_lock_of opening)) (map (renamed_section edit_in) past) (renamed_section edit_in s)
   allowed_here past s allowed =
       subst (λ (o : LockId → Option (LockState B)). LockAllowed rules o (map (renamed_section edit_in) past) (renamed_section edit_in s))
       (sym inner_locks) allowed
 
-  pub locks_wrap : Wraps beneath here edit_in lock_of
+  pub locks_wrap : Wraps beneath here edit_in nested_lock_of
   locks_wrap = record {
     edits = edits rules;
     answers = answers rules;
-    openings = inner_viewed lock_of opening;
-    homes = homes_viewed lock_of opening;
+    openings = inner_viewed nested_lock_of opening;
+    homes = homes_viewed nested_lock_of opening;
     callers = λ d. refl;
     slept = refl;
     woke = refl;
@@ -66,46 +66,46 @@ module _ {F R B O : Type 0} (rules : LockRules F R B O) (opening : LockId → Op
   pub locks_lawful : (past : List (QueueEvent (QLockEdit F R))) → IsLawful (QueueAllowed beneath) past
       → IsLawful (QueueAllowed here) (renamed_events edit_in past)
   locks_lawful past lawful =
-      lawful_renamed beneath here edit_in lock_of locks_wrap past lawful
+      lawful_renamed beneath here edit_in nested_lock_of locks_wrap past lawful
 
   pub same_moves : (past : List (QueueEvent (QLockEdit F R))) → moves_in here (renamed_events edit_in past) ≡ moves_in beneath past
   same_moves past =
-      moves_renamed beneath here edit_in lock_of locks_wrap past
+      moves_renamed beneath here edit_in nested_lock_of locks_wrap past
 
   -- the threads stand here as they stand beneath
   pub locks_stand : (c : CpuId) (past : List (QueueEvent (QLockEdit F R))) (own : Threads) → Stands (homes_in opening) c (moves_in beneath past) own
-      → Stands (homes_in (viewed lock_of opening)) c (moves_in here (renamed_events edit_in past)) own
-  locks_stand c past own stands = transport (λ i. Stands (sym (homes_viewed lock_of opening) i) c (sym (same_moves past) i) own) stands
+      → Stands (homes_in (viewed nested_lock_of opening)) c (moves_in here (renamed_events edit_in past)) own
+  locks_stand c past own stands = transport (λ i. Stands (sym (homes_viewed nested_lock_of opening) i) c (sym (same_moves past) i) own) stands
 
   -- they move from where they stand
-  pub locks_moving : (past : List (QueueEvent (QLockEdit F R))) → AreMoves (homes_in opening) (moves_in beneath past)
-      → AreMoves (homes_in (viewed lock_of opening)) (moves_in here (renamed_events edit_in past))
-  locks_moving past moving = transport (λ i. AreMoves (sym (homes_viewed lock_of opening) i) (sym (same_moves past) i)) moving
+  pub locks_moves_legal : (past : List (QueueEvent (QLockEdit F R))) → AreMoves (homes_in opening) (moves_in beneath past)
+      → AreMoves (homes_in (viewed nested_lock_of opening)) (moves_in here (renamed_events edit_in past))
+  locks_moves_legal past moving = transport (λ i. AreMoves (sym (homes_viewed nested_lock_of opening) i) (sym (same_moves past) i)) moving
 
   -- a lock is the view of the block beneath
   pub lock_is : (lock : LockId) (past : List (QueueEvent (QLockEdit F R)))
-      → lock_after rules (inner (viewed lock_of opening)) lock (buffer_sections (renamed_events edit_in past))
-      ≡ option_map lock_of (block_after (sleep_edited (busy_rules rules)) (inner opening) lock (buffer_sections past))
+      → lock_after rules (inner (viewed nested_lock_of opening)) lock (buffer_sections (renamed_events edit_in past))
+      ≡ option_map nested_lock_of (block_after (sleep_edited (busy_rules rules)) (inner opening) lock (buffer_sections past))
   lock_is lock past =
-      ap (lock_after rules (inner (viewed lock_of opening)) lock) (sections_renamed edit_in past)
-      ∙ block_renamed beneath here edit_in lock_of locks_wrap lock (buffer_sections past)
+      ap (lock_after rules (inner (viewed nested_lock_of opening)) lock) (sections_renamed edit_in past)
+      ∙ block_renamed beneath here edit_in nested_lock_of locks_wrap lock (buffer_sections past)
 
-  line_seen : (line : Line) (o : Option (SleepState (QBlock B))) → line_in line (option_map lock_of o) ≡ line_at line o
-  line_seen Sleepers None = refl
-  line_seen Receivers None = refl
-  line_seen Senders None = refl
-  line_seen Sleepers (Some state) = refl
-  line_seen Receivers (Some state) = refl
-  line_seen Senders (Some state) = refl
+  wait_list_seen : (line : WaitList) (o : Option (SleepState (QBlock B))) → wait_list_in line (option_map nested_lock_of o) ≡ wait_list_at line o
+  wait_list_seen Sleepers None = refl
+  wait_list_seen Receivers None = refl
+  wait_list_seen Senders None = refl
+  wait_list_seen Sleepers (Some state) = refl
+  wait_list_seen Receivers (Some state) = refl
+  wait_list_seen Senders (Some state) = refl
 
   -- the waiting lists agree with the places
   pub locks_lists : (past : List (QueueEvent (QLockEdit F R))) → ListsAgree (busy_rules rules) opening past
-      → LocksAgree rules (viewed lock_of opening) (renamed_events edit_in past)
+      → LocksAgree rules (viewed nested_lock_of opening) (renamed_events edit_in past)
   locks_lists past lists lock line t =
-      ap (λ o. count_in t (line_in line o)) (lock_is lock past)
-      ∙ (ap (count_in t) (line_seen line (block_after (sleep_edited (busy_rules rules)) (inner opening) lock (buffer_sections past)))
+      ap (λ o. count_in t (wait_list_in line o)) (lock_is lock past)
+      ∙ (ap (count_in t) (wait_list_seen line (block_after (sleep_edited (busy_rules rules)) (inner opening) lock (buffer_sections past)))
       ∙ (lists lock line t
-      ∙ λ i. one_if (is_at lock line (berth_of (where_is (sym (homes_viewed lock_of opening) i) (sym (same_moves past) i) t)))))
+      ∙ λ i. one_if (is_at lock line (wait_channel_of (where_is (sym (homes_viewed nested_lock_of opening) i) (sym (same_moves past) i) t)))))
 
 -- a layer with no history beneath has none here
 pub nothing_seen : {F R : Type 0} (past : List (QueueEvent (QLockEdit F R))) → renamed_events edit_in past ≡ [] → past ≡ []

@@ -20,26 +20,26 @@ use Rattle.layer_traits.specs.QueueBlocks.{homes_in, inner}
 use Rattle.layer_traits.specs.Queues.{buffer_sections}
 
 -- who slept for which lock after a call of t was told this: who is queued sleeps
-abbrev pub kept_with : {O : Type 0} → Tid → BufId → List (Option BufId) → QOut O → List (Option BufId)
-kept_with t b slept Queued = slice_set slept t.0 (Some b)
-kept_with t b slept Acquired = slept
-kept_with t b slept (Did out) = slept
-kept_with t b slept (Released out) = slept
+abbrev pub slept_left_with : {O : Type 0} → Tid → BufId → List (Option BufId) → QOut O → List (Option BufId)
+slept_left_with t b slept Queued = slice_set slept t.0 (Some b)
+slept_left_with t b slept Acquired = slept
+slept_left_with t b slept (Did out) = slept
+slept_left_with t b slept (Released out) = slept
 
 -- the same, by the outcome of the call
-abbrev pub kept_by : {O : Type 0} → Tid → BufId → List (Option BufId) → Outcome (QOut O) → List (Option BufId)
-kept_by t b slept outcome = kept_with t b slept outcome.out
+abbrev pub slept_left_by : {O : Type 0} → Tid → BufId → List (Option BufId) → Outcome (QOut O) → List (Option BufId)
+slept_left_by t b slept outcome = slept_left_with t b slept outcome.out
 
 -- what is handed on of an outcome, by what the call was told: nothing to who is queued
-abbrev pub told_with : {O : Type 0} → QOut O → Outcome (QOut O) → Option (Outcome (QOut O))
-told_with Queued outcome = None
-told_with Acquired outcome = Some outcome
-told_with (Did out) outcome = Some outcome
-told_with (Released out) outcome = Some outcome
+abbrev pub reported_with : {O : Type 0} → QOut O → Outcome (QOut O) → Option (Outcome (QOut O))
+reported_with Queued outcome = None
+reported_with Acquired outcome = Some outcome
+reported_with (Did out) outcome = Some outcome
+reported_with (Released out) outcome = Some outcome
 
 -- what is handed on of an outcome
-abbrev pub told_by : {O : Type 0} → Outcome (QOut O) → Option (Outcome (QOut O))
-told_by outcome = told_with outcome.out outcome
+abbrev pub reported_by : {O : Type 0} → Outcome (QOut O) → Option (Outcome (QOut O))
+reported_by outcome = reported_with outcome.out outcome
 
 -- whether a call was told that it is queued
 abbrev pub is_queued : {O : Type 0} → QOut O → Bool
@@ -61,10 +61,10 @@ SleptFits rules opening c seen slept = (t : Tid) (b : BufId) → slept_for slept
 
 -- what is kept agrees with the call under way and the hand: an outcome is kept of a call inside or of a release alone, and not
 -- beside a pass
-abbrev pub KeptFits : {F R O : Type 0} → Option (SchedCall (QEdit F R)) → Option (Outcome (QOut O)) → Option Tid → Type 0
-KeptFits None None hand = Unit {0}
-KeptFits None (Some outcome) hand = ⊥
-KeptFits (Some (Pass p)) None hand = Unit {0}
-KeptFits (Some (Pass p)) (Some outcome) hand = ⊥
-KeptFits (Some (OnBuffer b e)) None hand = hand ≡ None
-KeptFits (Some (OnBuffer b e)) (Some outcome) hand = (IsAcquire e → ⊥) × (is_queued outcome.out ≡ false)
+abbrev pub DeferredFits : {F R O : Type 0} → Option (SchedCall (QEdit F R)) → Option (Outcome (QOut O)) → Option Tid → Type 0
+DeferredFits None None hand = Unit {0}
+DeferredFits None (Some outcome) hand = ⊥
+DeferredFits (Some (Pass p)) None hand = Unit {0}
+DeferredFits (Some (Pass p)) (Some outcome) hand = ⊥
+DeferredFits (Some (OnBuffer b e)) None hand = hand ≡ None
+DeferredFits (Some (OnBuffer b e)) (Some outcome) hand = (IsAcquire e → ⊥) × (is_queued outcome.out ≡ false)

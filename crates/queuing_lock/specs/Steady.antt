@@ -19,7 +19,7 @@ use Rattle.layer_traits.specs.Locking.{IsOwners, LockRules, LockState, lock_afte
 use Rattle.layer_traits.specs.LockLaw.{HasOrAwaits, lock_kernel}
 use Rattle.layer_traits.specs.Places.{home_of}
 use Rattle.layer_traits.specs.QueueBlocks.{homes_in, inner}
-use Rattle.layer_traits.specs.Queues.{CallAllowed, QueueAllowed, buffer_sections, event_actor, with_section}
+use Rattle.layer_traits.specs.Queues.{CallAllowed, QueueAllowed, buffer_sections, cpu_of_queue_event, with_section}
 use Rattle.thread_blocks.specs.Queues.{first, is_in, rest, same_tid}
 use Rattle.thread_blocks.proofs.Distinct.{out_of_rest, pushed_in}
 use Rattle.thread_blocks.proofs.Members.{same_tid_true}
@@ -31,7 +31,7 @@ Keeps rules t P = (e : QEdit _ _) (state : LockState _) → IsOwners rules e sta
     → P (Some (lock_edited rules e state))
 
 -- a thread of a CPU, and what is true of a lock and stays so while other threads call
-pub record IsKept {F R B O : Type 0} (rules : LockRules F R B O) (opening : LockId → Option (QueueBlock (LockState B))) : Type 1 where
+pub record IsPreserved {F R B O : Type 0} (rules : LockRules F R B O) (opening : LockId → Option (QueueBlock (LockState B))) : Type 1 where
   pub t : Tid
   pub P : Option (LockState B) → Type 0
   pub keeps : Keeps rules t P
@@ -39,24 +39,24 @@ pub record IsKept {F R B O : Type 0} (rules : LockRules F R B O) (opening : Lock
   pub at_home : home_of (homes_in opening) t ≡ Some c
   pub lock : LockId
 
-module _ {F R B O : Type 0} (rules : LockRules F R B O) (opening : LockId → Option (QueueBlock (LockState B))) (kept : IsKept rules opening) where
+module _ {F R B O : Type 0} (rules : LockRules F R B O) (opening : LockId → Option (QueueBlock (LockState B))) (kept : IsPreserved rules opening) where
   open kept use {t, P, keeps, c, at_home, lock}
 
-  kept_section : (b : BufId) (e : QEdit F R) (before at : Option (LockState B)) → (lock ≡ Buffer b → before ≡ at) → IsOwners rules e (owner_in at)
+  preserved_section : (b : BufId) (e : QEdit F R) (before at : Option (LockState B)) → (lock ≡ Buffer b → before ≡ at) → IsOwners rules e (owner_in at)
       → (lock_caller rules e ≡ t → ⊥)
       → (same : Bool) → same_lock lock (Buffer b) ≡ same → P before → P (if same then option_map (lock_edited rules e) before else before)
-  kept_section b e before at same_block owners apart false other holds = holds
-  kept_section b e None at same_block owners apart true here holds = holds
-  kept_section b e (Some state) at same_block owners apart true here holds =
+  preserved_section b e before at same_block owners apart false other holds = holds
+  preserved_section b e None at same_block owners apart true here holds = holds
+  preserved_section b e (Some state) at same_block owners apart true here holds =
       keeps e state (subst (λ o. IsOwners rules e (owner_in o)) (sym (same_block (same_lock_true lock (Buffer b) here))) owners) apart holds
 
   -- by a call of another thread
-  pub kept_by : (past : List (QueueEvent (QEdit F R))) (d : CpuId) (b : BufId) (e : QEdit F R)
+  pub preserved_by : (past : List (QueueEvent (QEdit F R))) (d : CpuId) (b : BufId) (e : QEdit F R)
       → IsOwners rules e (owner_in (lock_after rules (inner opening) (Buffer b) (buffer_sections past)))
       → (lock_caller rules e ≡ t → ⊥) → P (lock_after rules (inner opening) lock (buffer_sections past))
       → P (lock_after rules (inner opening) lock (with_section d (OnBuffer b e) (buffer_sections past)))
-  kept_by past d b e owners apart holds =
-      kept_section b e (lock_after rules (inner opening) lock (buffer_sections past)) (lock_after rules (inner opening) (Buffer b) (buffer_sections past))
+  preserved_by past d b e owners apart holds =
+      preserved_section b e (lock_after rules (inner opening) lock (buffer_sections past)) (lock_after rules (inner opening) (Buffer b) (buffer_sections past))
       (λ is. ap (λ l. lock_after rules (inner opening) l (buffer_sections past)) is) owners apart (same_lock lock (Buffer b)) refl holds
 
   other_caller : (d : CpuId) (u : Tid) → same_cpu d c ≡ false → home_of (homes_in opening) u ≡ Some d → u ≡ t → ⊥
@@ -66,21 +66,21 @@ module _ {F R B O : Type 0} (rules : LockRules F R B O) (opening : LockId → Op
       let clash : true ≡ false = sym (same_cpu_self c) ∙ subst (λ x. same_cpu x c ≡ false) one differs in
       absurd cc
 
-  kept_call : (past : List (QueueEvent (QEdit F R))) (d : CpuId) (q : QueueCall (QEdit F R)) → CallAllowed (lock_kernel rules opening) past d q
+  preserved_call : (past : List (QueueEvent (QEdit F R))) (d : CpuId) (q : QueueCall (QEdit F R)) → CallAllowed (lock_kernel rules opening) past d q
       → same_cpu d c ≡ false
       → P (lock_after rules (inner opening) lock (buffer_sections past)) → P (lock_after rules (inner opening) lock (with_section d q (buffer_sections past)))
-  kept_call past d (Push to u) allowed differs holds = holds
-  kept_call past d (TakeAll from) allowed differs holds = holds
-  kept_call past d (OnBuffer b e) allowed differs holds =
-      kept_by past d b e allowed.upper.owners (other_caller d (lock_caller rules e) differs allowed.caller.home) holds
+  preserved_call past d (Push to u) allowed differs holds = holds
+  preserved_call past d (TakeAll from) allowed differs holds = holds
+  preserved_call past d (OnBuffer b e) allowed differs holds =
+      preserved_by past d b e allowed.upper.owners (other_caller d (lock_caller rules e) differs allowed.caller.home) holds
 
   -- and by calls of other CPUs than the thread's home
-  pub kept_others : (more past : List (QueueEvent (QEdit F R))) → AreOthers event_actor c more
+  pub preserved_by_others : (more past : List (QueueEvent (QEdit F R))) → AreOthers cpu_of_queue_event c more
       → IsLawful (QueueAllowed (lock_kernel rules opening)) (more ++ past)
       → P (lock_after rules (inner opening) lock (buffer_sections past)) → P (lock_after rules (inner opening) lock (buffer_sections (more ++ past)))
-  kept_others [] past others lawful holds = holds
-  kept_others (e ∷ more) past others lawful holds =
-      kept_call (more ++ past) e.cpu e.call lawful.0 others.0 (kept_others more past others.1 lawful.1 holds)
+  preserved_by_others [] past others lawful holds = holds
+  preserved_by_others (e ∷ more) past others lawful holds =
+      preserved_call (more ++ past) e.cpu e.call lawful.0 others.0 (preserved_by_others more past others.1 lawful.1 holds)
 
 module _ {F R B O : Type 0} (rules : LockRules F R B O) (t : Tid) where
   -- the thread has no part in a lock: it neither owns it nor sleeps for it

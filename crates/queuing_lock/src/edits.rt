@@ -1,12 +1,12 @@
 //! What the calls on a queuing lock do to its block.
 
 ghost use Rattle.std.specs.Prelude.{◌≡◌};
-ghost use Rattle.layer_traits.specs.Locking.{line_for};
-ghost use Rattle.layer_traits.specs.Trays.{lock_brought, lock_carried};
+ghost use Rattle.layer_traits.specs.Locking.{wait_list_for};
+ghost use Rattle.layer_traits.specs.Payloads.{lock_brought, lock_carried};
 ghost use Rattle.queuing_lock.specs.Nested.{busy_rules, leaving};
 
 use event_log::Tid;
-use layer_traits::{Leave, Line, Locked, QEdit, QOut, Side, Signal, Sleeps, Tray};
+use layer_traits::{Locked, Payload, QEdit, QOut, Side, Sleeps, WaitList, Wake, WakeWaiter};
 
 /// A call on a queuing lock, as a section of the layer that lets threads sleep.
 #[derive(Drop)]
@@ -50,7 +50,7 @@ impl<F: Locked> Sleeps for QLockEdit<F, F::Release> {
         &self,
         first: Option<Tid>,
         block: &mut QBlock<F::Block>,
-        tray: &mut Tray,
+        payload: &mut Payload,
     ) -> QOut<F::Out> {
         match &self.edit {
             QEdit::Acquire(t) => {
@@ -60,7 +60,7 @@ impl<F: Locked> Sleeps for QLockEdit<F, F::Release> {
                 block.busy = Some(*t);
                 QOut::Acquired
             }
-            QEdit::Inside(inside) => QOut::Did(inside.apply(&mut block.above, tray)),
+            QEdit::Inside(inside) => QOut::Did(inside.apply(&mut block.above, payload)),
             QEdit::Release(last) => {
                 block.busy = first;
                 QOut::Released(F::apply_last(*last, &mut block.above))
@@ -69,44 +69,44 @@ impl<F: Locked> Sleeps for QLockEdit<F, F::Release> {
     }
 
     #[inline(always)]
-    fn joins(out: &QOut<F::Out>) -> Option<Line> {
+    fn joins(out: &QOut<F::Out>) -> Option<WaitList> {
         match out {
-            QOut::Queued => Some(Line::Sleepers),
-            QOut::Released(last) => line(F::waits(last)),
+            QOut::Queued => Some(WaitList::Sleepers),
+            QOut::Released(last) => wait_list(F::waits(last)),
             QOut::Acquired | QOut::Did(_) => None,
         }
     }
 
     #[inline(always)]
-    fn leaves(out: &QOut<F::Out>) -> Leave {
+    fn leaves(out: &QOut<F::Out>) -> Wake {
         match out {
             QOut::Did(inside) => leave(F::signals(inside)),
-            QOut::Released(_) => Leave::First,
-            QOut::Acquired | QOut::Queued => Leave::Nobody,
+            QOut::Released(_) => Wake::FirstSleeper,
+            QOut::Acquired | QOut::Queued => Wake::Nobody,
         }
     }
 }
 
 /// The list of those that wait on a side.
 #[inline(always)]
-fn line(side: Option<Side>) -> Option<Line>
-    ensures { result ≡ line_for side }
+fn wait_list(side: Option<Side>) -> Option<WaitList>
+    ensures { result ≡ wait_list_for side }
 {
     match side {
-        Some(Side::Receivers) => Some(Line::Receivers),
-        Some(Side::Senders) => Some(Line::Senders),
+        Some(Side::Receivers) => Some(WaitList::Receivers),
+        Some(Side::Senders) => Some(WaitList::Senders),
         None => None,
     }
 }
 
 /// Who leaves a waiting list at a signal.
 #[inline(always)]
-fn leave(signal: Signal) -> Leave
+fn leave(signal: WakeWaiter) -> Wake
     ensures { result ≡ leaving signal }
 {
     match signal {
-        Signal::Nobody => Leave::Nobody,
-        Signal::Receiver(t) => Leave::Receiver(t),
-        Signal::Sender(t) => Leave::Sender(t),
+        WakeWaiter::Nobody => Wake::Nobody,
+        WakeWaiter::Receiver(t) => Wake::Receiver(t),
+        WakeWaiter::Sender(t) => Wake::Sender(t),
     }
 }

@@ -4,8 +4,8 @@ use crate::edits::QLockEdit;
 use crate::slept::Slept;
 use event_log::{BufId, CpuId, Tid};
 use layer_traits::{
-    Line, Locked, Outcome, OwnedQLocks, OwnedSleeps, Pass, QEdit, QLockLayer, QOut, SleepLayer,
-    Sleeps, Tray,
+    Locked, Outcome, OwnedQLocks, OwnedSleeps, Pass, Payload, QEdit, QLockLayer, QOut, SleepLayer,
+    Sleeps, WaitList,
 };
 
 /// One CPU's part of queuing locks over a part `S` of a layer that lets threads sleep: it keeps of
@@ -28,16 +28,16 @@ impl<F: Locked, S: SleepLayer<QLockEdit<F, F::Release>>> QLockLayer<F> for QLock
     ghost use Rattle.layer_traits.specs.QueueBlocks.{homes_in};
     ghost use Rattle.layer_traits.specs.QueueRules.{queue_rules};
     ghost use Rattle.layer_traits.specs.Renaming.{renamed_edit, renamed_events, renamed_sched, viewed};
-    ghost use Rattle.layer_traits.specs.Trays.{lock_brought, lock_carried};
+    ghost use Rattle.layer_traits.specs.Payloads.{lock_brought, lock_carried};
     ghost use Rattle.layer_traits.proofs.KernelRenaming.{known_renamed, proper_renamed, seen_renamed, starts_viewed};
     ghost use Rattle.queuing_lock.specs.declared.qlock.QLock.{QLock};
-    ghost use Rattle.queuing_lock.specs.Nested.{edit_in, lock_of};
-    ghost use Rattle.queuing_lock.specs.NestedLaws.{locks_busy, locks_lawful, locks_lists, locks_moving, locks_stand, none_beneath};
-    ghost use Rattle.queuing_lock.specs.Parts.{KeptFits, SleptFits};
+    ghost use Rattle.queuing_lock.specs.Nested.{edit_in, nested_lock_of};
+    ghost use Rattle.queuing_lock.specs.NestedLaws.{locks_busy, locks_lawful, locks_lists, locks_moves_legal, locks_stand, none_beneath};
+    ghost use Rattle.queuing_lock.specs.Parts.{DeferredFits, SleptFits};
 
     type Machine = S::Machine;
 
-    ghost opening = { λ m. viewed lock_of (S.opening m) };
+    ghost opening = { λ m. viewed nested_lock_of (S.opening m) };
 
     ghost seen = { λ m. renamed_events edit_in (S.seen m) };
 
@@ -58,8 +58,8 @@ impl<F: Locked, S: SleepLayer<QLockEdit<F, F::Release>>> QLockLayer<F> for QLock
     ghost is_inside = { λ p. S.is_inside p.lower };
 
     ghost Fits = { λ p m. S.Fits p.lower m
-        × SleptFits F.rules (viewed lock_of (S.opening m)) (S.cpu_of p.lower) (renamed_events edit_in (S.seen m)) p.slept.buffers
-        × KeptFits (option_map (renamed_sched edit_in) (S.under_way p.lower)) (S.own p.lower).kept (S.own p.lower).threads.hand };
+        × SleptFits F.rules (viewed nested_lock_of (S.opening m)) (S.cpu_of p.lower) (renamed_events edit_in (S.seen m)) p.slept.buffers
+        × DeferredFits (option_map (renamed_sched edit_in) (S.under_way p.lower)) (S.own p.lower).deferred (S.own p.lower).threads.hand };
 
     ghost IsStepwise = { S.IsStepwise };
 
@@ -123,45 +123,45 @@ impl<F: Locked, S: SleepLayer<QLockEdit<F, F::Release>>> QLockLayer<F> for QLock
         m: &mut S::Machine,
         buffer: BufId,
         edit: QEdit<F, F::Release>,
-        tray: &mut Tray,
+        payload: &mut Payload,
     ) -> Option<Outcome<QOut<F::Out>>>
         requires fits { S.Fits self.old.lower m.old
-            × SleptFits F.rules (viewed lock_of (S.opening m.old)) (S.cpu_of self.old.lower) (renamed_events edit_in (S.seen m.old)) self.old.slept.buffers
-            × KeptFits (option_map (renamed_sched edit_in) (S.under_way self.old.lower)) (S.own self.old.lower).kept (S.own self.old.lower).threads.hand }
-        requires buffer { IsSome (viewed lock_of (S.opening m.old) (Buffer buffer)) }
+            × SleptFits F.rules (viewed nested_lock_of (S.opening m.old)) (S.cpu_of self.old.lower) (renamed_events edit_in (S.seen m.old)) self.old.slept.buffers
+            × DeferredFits (option_map (renamed_sched edit_in) (S.under_way self.old.lower)) (S.own self.old.lower).deferred (S.own self.old.lower).threads.hand }
+        requires buffer { IsSome (viewed nested_lock_of (S.opening m.old) (Buffer buffer)) }
         requires room { 0 < S.room m.old }
         requires caller { (S.own self.old.lower).threads.current ≡ Some (lock_caller F.rules edit) }
         requires call { MayGo (slept_for self.old.slept.buffers (lock_caller F.rules edit))
             (option_map (renamed_sched edit_in) (S.under_way self.old.lower)) buffer edit (lock_caller F.rules edit)
-            (MayLock F.rules (lock_kernel F.rules (viewed lock_of (S.opening m.old))) (S.cpu_of self.old.lower) (renamed_events edit_in (S.seen m.old))
+            (MayLock F.rules (lock_kernel F.rules (viewed nested_lock_of (S.opening m.old))) (S.cpu_of self.old.lower) (renamed_events edit_in (S.seen m.old))
             (S.own self.old.lower).threads.hand buffer edit) }
-        requires carried { lock_carried F.carried edit tray.old.message }
+        requires carried { lock_carried F.carried edit payload.old.message }
         ensures fits { S.Fits self.new.lower m.new
-            × SleptFits F.rules (viewed lock_of (S.opening m.new)) (S.cpu_of self.new.lower) (renamed_events edit_in (S.seen m.new)) self.new.slept.buffers
-            × KeptFits (option_map (renamed_sched edit_in) (S.under_way self.new.lower)) (S.own self.new.lower).kept (S.own self.new.lower).threads.hand }
+            × SleptFits F.rules (viewed nested_lock_of (S.opening m.new)) (S.cpu_of self.new.lower) (renamed_events edit_in (S.seen m.new)) self.new.slept.buffers
+            × DeferredFits (option_map (renamed_sched edit_in) (S.under_way self.new.lower)) (S.own self.new.lower).deferred (S.own self.new.lower).threads.hand }
         ensures cpu { S.cpu_of self.new.lower ≡ S.cpu_of self.old.lower }
-        ensures seen { LockPolled F.rules (lock_kernel F.rules (viewed lock_of (S.opening m.old))) (λ c. S.ActsFor m.old c) (S.cpu_of self.old.lower) buffer edit
+        ensures seen { LockPolled F.rules (lock_kernel F.rules (viewed nested_lock_of (S.opening m.old))) (λ c. S.ActsFor m.old c) (S.cpu_of self.old.lower) buffer edit
             (slept_for self.old.slept.buffers (lock_caller F.rules edit)) (renamed_events edit_in (S.seen m.old)) (renamed_events edit_in (S.seen m.new))
             (record { sleep = S.own self.old.lower; slept = self.old.slept.buffers }) (option_map (renamed_sched edit_in) (S.under_way self.new.lower))
             (locking (S.own self.new.lower) self.new.slept.buffers result) }
         ensures still { IsSome (slept_for self.old.slept.buffers (lock_caller F.rules edit)) → m.new ≡ m.old }
-        ensures opening { viewed lock_of (S.opening m.new) ≡ viewed lock_of (S.opening m.old) }
+        ensures opening { viewed nested_lock_of (S.opening m.new) ≡ viewed nested_lock_of (S.opening m.old) }
         ensures site { S.site m.new ≡ S.site m.old }
         ensures room { S.room m.old ≤ S.room m.new + 1 }
         ensures acts { (c : CpuId) → S.ActsFor m.old c → S.ActsFor m.new c }
         ensures others { (p : QLock S) → S.cpu_of p.lower ≢ S.cpu_of self.old.lower → S.Fits p.lower m.old
-            × SleptFits F.rules (viewed lock_of (S.opening m.old)) (S.cpu_of p.lower) (renamed_events edit_in (S.seen m.old)) p.slept.buffers
-            × KeptFits (option_map (renamed_sched edit_in) (S.under_way p.lower)) (S.own p.lower).kept (S.own p.lower).threads.hand
+            × SleptFits F.rules (viewed nested_lock_of (S.opening m.old)) (S.cpu_of p.lower) (renamed_events edit_in (S.seen m.old)) p.slept.buffers
+            × DeferredFits (option_map (renamed_sched edit_in) (S.under_way p.lower)) (S.own p.lower).deferred (S.own p.lower).threads.hand
             → S.Fits p.lower m.new
-            × SleptFits F.rules (viewed lock_of (S.opening m.new)) (S.cpu_of p.lower) (renamed_events edit_in (S.seen m.new)) p.slept.buffers
-            × KeptFits (option_map (renamed_sched edit_in) (S.under_way p.lower)) (S.own p.lower).kept (S.own p.lower).threads.hand }
-        ensures brought { IfSome result (λ outcome. lock_brought F.brought outcome.out tray.new.message) }
+            × SleptFits F.rules (viewed nested_lock_of (S.opening m.new)) (S.cpu_of p.lower) (renamed_events edit_in (S.seen m.new)) p.slept.buffers
+            × DeferredFits (option_map (renamed_sched edit_in) (S.under_way p.lower)) (S.own p.lower).deferred (S.own p.lower).threads.hand }
+        ensures brought { IfSome result (λ outcome. lock_brought F.brought outcome.out payload.new.message) }
         ensures prompt { IsWhole S.IsStepwise → result ≡ None → MustWait (lock_caller F.rules edit) buffer
             (record { sleep = S.own self.old.lower; slept = self.old.slept.buffers })
             (record { sleep = S.own self.new.lower; slept = self.new.slept.buffers }) }
         ensures follows { S.IsStepwise → Follows (λ c. S.ActsFor m.old c) (table_of (queue_rules (lock_rules F.rules) (lock_moves F.rules)))
-            (viewed lock_of (S.opening m.old)) (S.cpu_of self.old.lower)
-            (lock_plan (lock_moves F.rules) (homes_in (viewed lock_of (S.opening m.old))) (S.cpu_of self.old.lower) buffer edit
+            (viewed nested_lock_of (S.opening m.old)) (S.cpu_of self.old.lower)
+            (lock_plan (lock_moves F.rules) (homes_in (viewed nested_lock_of (S.opening m.old))) (S.cpu_of self.old.lower) buffer edit
             (record { sleep = S.own self.old.lower; slept = self.old.slept.buffers }))
             (map (renamed (renamed_edit edit_in)) (S.acts m.old)) (map (renamed (renamed_edit edit_in)) (S.acts m.new))
             (locking (S.own self.new.lower) self.new.slept.buffers result) }
@@ -176,15 +176,15 @@ impl<F: Locked, S: SleepLayer<QLockEdit<F, F::Release>>> QLockLayer<F> for QLock
                 woke: None,
             });
         }
-        match self.lower.poll(m, buffer, section, tray) {
+        match self.lower.poll(m, buffer, section, payload) {
             None => None,
-            Some(outcome) => self.slept.told(t, buffer, outcome),
+            Some(outcome) => self.slept.complete(t, buffer, outcome),
         }
     }
 
     #[inline(always)]
-    fn pass(&mut self, m: &mut S::Machine, call: Pass, tray: &mut Tray) -> Option<()> {
-        self.lower.pass(m, call, tray)
+    fn pass(&mut self, m: &mut S::Machine, call: Pass, payload: &mut Payload) -> Option<()> {
+        self.lower.pass(m, call, payload)
     }
 
     ghost own_cpu = { λ p m fits. S.own_cpu p.lower m fits.0 };
@@ -195,11 +195,11 @@ impl<F: Locked, S: SleepLayer<QLockEdit<F, F::Release>>> QLockLayer<F> for QLock
 
     ghost awaits = { λ p m fits t b slept. (fits.1 t b slept).awaits };
 
-    ghost opens = { λ m c acts. starts_viewed lock_of (S.opening m) (S.opens m c acts) };
+    ghost opens = { λ m c acts. starts_viewed nested_lock_of (S.opening m) (S.opens m c acts) };
 
     ghost lawful = { λ m c acts. locks_lawful F.rules (S.opening m) (S.seen m) (S.lawful m c acts) };
 
-    ghost moving = { λ m c acts. locks_moving F.rules (S.opening m) (S.seen m) (S.moving m c acts) };
+    ghost moves_legal = { λ m c acts. locks_moves_legal F.rules (S.opening m) (S.seen m) (S.moves_legal m c acts) };
 
     ghost known = { λ m c acts. known_renamed edit_in (S.seen m) (S.known m c acts) };
 
@@ -219,12 +219,12 @@ impl<F: Locked, S: OwnedSleeps<QLockEdit<F, F::Release>>> OwnedQLocks<F> for QLo
     ghost use Rattle.event_log.specs.declared.ids.LockId.TheVariants.{Buffer, Pending};
     ghost use Rattle.layer_traits.proofs.KernelRenaming.{there_viewed};
     ghost use Rattle.layer_traits.proofs.OwnedLemmas.{parts_on};
-    ghost use Rattle.queuing_lock.specs.Nested.{lock_of};
+    ghost use Rattle.queuing_lock.specs.Nested.{nested_lock_of};
     ghost use Rattle.queuing_lock.specs.OwnedLaws.{locks_queues, locks_shown};
 
-    ghost lock_at = { λ m b. option_map lock_of (S.state_at m b) };
+    ghost lock_at = { λ m b. option_map nested_lock_of (S.state_at m b) };
 
-    ghost lock_with = { λ p b. option_map lock_of (S.state_with p.lower b) };
+    ghost lock_with = { λ p b. option_map nested_lock_of (S.state_with p.lower b) };
 
     ghost queue_at = { λ m d. S.queue_at m d };
 
@@ -259,13 +259,13 @@ impl<F: Locked, S: OwnedSleeps<QLockEdit<F, F::Release>>> OwnedQLocks<F> for QLo
     }
 
     #[inline(always)]
-    fn line_in(m: &S::Machine, b: BufId, t: Tid) -> Option<Line> {
-        S::line_in(m, b, t)
+    fn wait_list_in(m: &S::Machine, b: BufId, t: Tid) -> Option<WaitList> {
+        S::wait_list_in(m, b, t)
     }
 
     #[inline(always)]
-    fn line_here(&self, b: BufId, t: Tid) -> Option<Line> {
-        self.lower.line_here(b, t)
+    fn wait_list_here(&self, b: BufId, t: Tid) -> Option<WaitList> {
+        self.lower.wait_list_here(b, t)
     }
 
     #[inline(always)]
@@ -281,10 +281,10 @@ impl<F: Locked, S: OwnedSleeps<QLockEdit<F, F::Release>>> OwnedQLocks<F> for QLo
     ghost shown = { λ m c b acts there. locks_shown F.rules (S.opening m) (S.seen m)
         (parts_on (λ (p : Self). p.lower) (λ p. S.Fits p m) (λ (p : Self). Self.Fits p m) (λ p. S.cpu_of p) S.IsStepwise (S.acts m) (λ p fits. fits.0))
         b (λ p. S.state_with p b) (S.state_at m b)
-        (S.shown m c b acts (there_viewed lock_of (S.opening m) (Buffer b) there)) };
+        (S.shown m c b acts (there_viewed nested_lock_of (S.opening m) (Buffer b) there)) };
 
     ghost queues = { λ m c d acts there. locks_queues F.rules (S.opening m) (S.seen m)
         (parts_on (λ (p : Self). p.lower) (λ p. S.Fits p m) (λ (p : Self). Self.Fits p m) (λ p. S.cpu_of p) S.IsStepwise (S.acts m) (λ p fits. fits.0))
         d (λ p. S.queue_with p d) (S.queue_at m d)
-        (S.queues m c d acts (there_viewed lock_of (S.opening m) (Pending d) there)) };
+        (S.queues m c d acts (there_viewed nested_lock_of (S.opening m) (Pending d) there)) };
 }

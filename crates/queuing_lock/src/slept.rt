@@ -3,7 +3,7 @@
 ghost use Rattle.std.specs.Prelude.{◌≡◌, ◌<◌, Some, None, is_some, replicate, slice_set, if◌then◌else◌};
 ghost use Rattle.event_log.specs.declared.ids.TheConstants.{THREADS};
 ghost use Rattle.layer_traits.specs.LockLaw.{slept_for};
-ghost use Rattle.queuing_lock.specs.Parts.{kept_by, told_by};
+ghost use Rattle.queuing_lock.specs.Parts.{slept_left_by, reported_by};
 
 use event_log::{BufId, THREADS, Tid};
 use layer_traits::{Outcome, QOut};
@@ -60,15 +60,15 @@ impl Slept {
     /// Takes what the lock of `buffer` told `t`: who is queued sleeps there, and its call goes on;
     /// each other outcome is handed on.
     #[inline(always)]
-    pub fn told<O: Drop>(
+    pub fn complete<O: Drop>(
         &mut self,
         t: Tid,
         buffer: BufId,
         outcome: Outcome<QOut<O>>,
     ) -> Option<Outcome<QOut<O>>>
         requires { t.0 < THREADS }
-        ensures slept { self.new.buffers ≡ kept_by t buffer self.old.buffers outcome }
-        ensures told { result ≡ told_by outcome }
+        ensures slept { self.new.buffers ≡ slept_left_by t buffer self.old.buffers outcome }
+        ensures complete { result ≡ reported_by outcome }
     {
         match outcome.out {
             QOut::Queued => {

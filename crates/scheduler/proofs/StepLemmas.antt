@@ -29,7 +29,8 @@ use Rattle.layer_traits.specs.Places.{step, where_is}
 use Rattle.layer_traits.specs.Plans.{Follows, Table, answered}
 use Rattle.layer_traits.specs.Protocol.{Rules, section}
 use Rattle.layer_traits.specs.QueueBlocks.{StartsWell, homes_in}
-use Rattle.layer_traits.specs.Queues.{CallAllowed, Kernel, buffer_sections, MayQueue, QueueAllowed, QueuePolled, answer_of, call_move, event, event_actor}
+use Rattle.layer_traits.specs.Queues.{CallAllowed, Kernel, buffer_sections, MayQueue, QueueAllowed}
+use Rattle.layer_traits.specs.Queues.{QueuePolled, answer_of, call_move, event, cpu_of_queue_event}
 use Rattle.layer_traits.specs.Queues.{kernel, lock_of, moves_in, out_at, queue_plan}
 use Rattle.layer_traits.specs.Scheds.{BufferIsThere, EditStays, IsLocal, MaySched, SchedPolled, StateFor, answer_by, answer_to, events_of, left, left_by}
 use Rattle.layer_traits.specs.Scheds.{left_local, own_after, own_answered, own_by, plan_by, queue_call, sched_plan}
@@ -116,7 +117,8 @@ module _ {E B O : Type 0} (rules : Rules E B O) (mv : MoveRules E O) (opening : 
   UpperNow c past (call.Pass p) = Unit {0}
   UpperNow c past (call.OnBuffer b e) = rules.allowed K.opening (buffer_sections past) (section c (Buffer b) e)
 
-  upper_stays : (c : CpuId) (past more : List (QueueEvent E)) (s : SchedCall E) → EditStays K c past s → AreOthers event_actor c more → Lawful (more ++ past)
+  upper_stays : (c : CpuId) (past more : List (QueueEvent E)) (s : SchedCall E) → EditStays K c past s → AreOthers cpu_of_queue_event c more
+      → Lawful (more ++ past)
       → UpperNow c (more ++ past) s
   upper_stays c past more (call.Pass p) stays others lawful = tt
   upper_stays c past more (call.OnBuffer b e) stays others lawful = stays more others lawful
@@ -159,7 +161,7 @@ module _ {E B O : Type 0} (rules : Rules E B O) (mv : MoveRules E O) (opening : 
     local_stands (call.OnBuffer b e) state is = absurd cc
 
   -- what others do keeps the agreement
-  stands_on : (c : CpuId) (more past : List (QueueEvent E)) (own : Threads) → AreOthers event_actor c more → Lawful (more ++ past)
+  stands_on : (c : CpuId) (more past : List (QueueEvent E)) (own : Threads) → AreOthers cpu_of_queue_event c more → Lawful (more ++ past)
       → Stands H c (moves_in K past) own → Stands H c (moves_in K (more ++ past)) own
   stands_on c more past own others lawful stands =
       let joined = moves_append K more past in
@@ -316,7 +318,7 @@ module _ {E B O : Type 0} (rules : Rules E B O) (mv : MoveRules E O) (opening : 
           (follows_raised ActsFor table opens cpu (λ l. left_by mv H c own l.answer) (queue_plan q) old new (answered result) follows)
 
       -- A poll that answers, after these calls of others.
-      module _ (answer : QueueAnswer O) (before : List (QueueEvent E)) (legal : Lawful (event c q ∷ before)) (standing : Stands H c (moves_in K before) own)
+      module _ (answer : QueueAnswer O) (before : List (QueueEvent E)) (legal : Lawful (event c q ∷ before)) (stands_so : Stands H c (moves_in K before) own)
           (answers : answer_of K before q ≡ Some answer) where
         just : {A : Type 0} (a b : A) → Some a ≡ Some b → a ≡ b
         just a b same = cc
@@ -339,7 +341,7 @@ module _ {E B O : Type 0} (rules : Rules E B O) (mv : MoveRules E O) (opening : 
             let asleep = woken_sleeps K wakes before legal.1 c b e (subst (CallAllowed K before c) edits legal.0) o is u woke in
             let away = asleep_away (where_is H (moves_in K before) u) asleep in
             let home = home_there c (home_of H u) (away_known H (moves_in K before) u legal_moves away) in
-            (known u (or_else c (home_of H u)) home, not_counted u own.ready (away_from H c (moves_in K before) own legal_moves standing u away))
+            (known u (or_else c (home_of H u)) home, not_counted u own.ready (away_from H c (moves_in K before) own legal_moves stands_so u away))
 
         may_take_by : (x : QueueCall E) → q ≡ x → MayTake mv answer own
         may_take_by (Push d t) pushes = subst (λ a. MayTake mv a own) (just told.Done answer (subst (λ x. answer_of K before x ≡ Some answer) pushes answers))
@@ -349,10 +351,10 @@ module _ {E B O : Type 0} (rules : Rules E B O) (mv : MoveRules E O) (opening : 
             let all : told.Taken (pending_by (moves_in K before) d) ≡ answer =
             just (told.Taken (pending_by (moves_in K before) d)) answer (subst (λ x. answer_of K before x ≡ Some answer) takes answers) in
             let joins : MayJoin (pending_by (moves_in K before) c) own = (
-              λ t there. (pending_at H c (moves_in K before) own legal_moves standing t there).1,
+              λ t there. (pending_at H c (moves_in K before) own legal_moves stands_so t there).1,
               λ t runs. (
-                known t c (current_at H c (moves_in K before) own legal_moves standing t runs).0,
-                current_new H c (moves_in K before) own legal_moves standing t runs,
+                known t c (current_at H c (moves_in K before) own legal_moves stands_so t runs).0,
+                current_new H c (moves_in K before) own legal_moves stands_so t runs,
               ),
             ) in
             subst (λ a. MayTake mv a own) all (subst (λ x. MayJoin (pending_by (moves_in K before) x) own) (sym mine) joins)
@@ -370,12 +372,12 @@ module _ {E B O : Type 0} (rules : Rules E B O) (mv : MoveRules E O) (opening : 
         -- what the answer leaves agrees with the places after the call
         taken_stands : q ≡ TakeAll c → Stands H c (moves_in K (event c q ∷ before)) (own_by mv H c answer own)
         taken_stands takes = subst₂ (λ x a. Stands H c (step c (call_move K before x) ∷ moves_in K before) (own_by mv H c a own)) (sym takes) (all_taken takes)
-            (stands_taken H c (moves_in K before) own legal_moves standing)
+            (stands_taken H c (moves_in K before) own legal_moves stands_so)
 
         pushed_stands : (d : CpuId) (t : Tid) → own.hand ≡ Some t → q ≡ Push d t → Stands H c (moves_in K (event c q ∷ before)) (own_by mv H c answer own)
         pushed_stands d t held pushes = subst₂ (λ x a. Stands H c (step c (call_move K before x) ∷ moves_in K before) (own_by mv H c a own)) (sym pushes)
             (pushed_done d t pushes)
-            (stands_pushed H c (moves_in K before) own legal_moves standing d t held)
+            (stands_pushed H c (moves_in K before) own legal_moves stands_so d t held)
 
         edited_stands : (b : BufId) (e : E) → own.current ≡ Some (mv.caller e) → own.hand ≡ None → q ≡ OnBuffer b e
             → Stands H c (moves_in K (event c q ∷ before)) (own_by mv H c answer own)
@@ -384,7 +386,7 @@ module _ {E B O : Type 0} (rules : Rules E B O) (mv : MoveRules E O) (opening : 
             let all = moves_lawful K wakes (event c q ∷ before) legal in
             let may : MayMove H (moves_in K before) c (edit_move mv (Buffer b) e (out_at K before b e)) =
             subst (λ x. MayMove H (moves_in K before) c (call_move K before x)) edits all.0 in
-            let moved = stands_moved H c (moves_in K before) own legal_moves standing (Buffer b) (mv.caller e) (mv.slept out.0) (mv.woke out.0)
+            let moved = stands_moved H c (moves_in K before) own legal_moves stands_so (Buffer b) (mv.caller e) (mv.slept out.0) (mv.woke out.0)
             (subst (λ o. MayMove H (moves_in K before) c (edit_move mv (Buffer b) e o)) out.1 may) runs empty in
             let here : Stands H c (step c (edit_move mv (Buffer b) e (out_at K before b e)) ∷ moves_in K before) (own_by mv H c (told.Answer out.0) own) =
             subst (λ o. Stands H c (step c (edit_move mv (Buffer b) e o) ∷ moves_in K before) (own_by mv H c (told.Answer out.0) own)) (sym out.1) moved in
@@ -466,7 +468,7 @@ module _ {E B O : Type 0} (rules : Rules E B O) (mv : MoveRules E O) (opening : 
   -- what others do keeps a part in agreement with the machine
   pub grown_fits : (d below : CpuId) (table : List CpuId) (under : Option (QueueEvent E)) (past : List (QueueEvent E)) (own : Threads)
       (more new : List (QueueEvent E))
-      → AreOthers event_actor d more → new ≡ more ++ past → Lawful new → PartFits rules mv opening d below table under past own
+      → AreOthers cpu_of_queue_event d more → new ≡ more ++ past → Lawful new → PartFits rules mv opening d below table under past own
       → PartFits rules mv opening d below table under new own
   grown_fits d below table under past own more new others is legal fits = record {
     cpu = fits.cpu;
@@ -489,7 +491,7 @@ module _ {E B O : Type 0} (rules : Rules E B O) (mv : MoveRules E O) (opening : 
   -- and one more look at a section that waits
   pub looked_fits : (ActsFor : CpuId → Type 0) (d below below' : CpuId) (table : List CpuId) (under under' : Option (QueueEvent E))
       (past new : List (QueueEvent E)) (own : Threads)
-      → ActsFor d → Grows ActsFor event_actor past new → Lawful new → below' ≡ below → under' ≡ under
+      → ActsFor d → Grows ActsFor cpu_of_queue_event past new → Lawful new → below' ≡ below → under' ≡ under
       → PartFits rules mv opening d below table under past own → PartFits rules mv opening d below' table under' new own
   looked_fits ActsFor d below below' table under under' past new own acts grows legal same goes fits =
       subst₂ (λ x u. PartFits rules mv opening d x table u new own) (sym same) (sym goes)

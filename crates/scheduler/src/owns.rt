@@ -7,11 +7,11 @@ ghost use Rattle.thread_blocks.specs.Queues.{is_in, AreApart};
 ghost use Rattle.layer_traits.specs.Places.{at_boot, home_of, is_cpu};
 ghost use Rattle.layer_traits.specs.Passes.{switched, took, passed_on, finished, own_slept, own_woken};
 ghost use Rattle.layer_traits.specs.Scheds.{own_by, answer_by};
-ghost use Rattle.layer_traits.specs.Trays.{queue_brought, sched_brought};
+ghost use Rattle.layer_traits.specs.Payloads.{queue_brought, sched_brought};
 ghost use Rattle.scheduler.specs.Owns.{MayFinish, MayJoin, MaySettle, MayTake, passed_by};
 
 use event_log::{CpuId, Tid};
-use layer_traits::{Line, Moves, Pass, QueueAnswer, SchedAnswer, Tray};
+use layer_traits::{Moves, Pass, Payload, QueueAnswer, SchedAnswer, WaitList};
 use std::marker::Model;
 use thread_blocks::{ThreadList, ThreadQueue};
 
@@ -139,7 +139,7 @@ impl OwnThreads {
     /// The thread that runs went to sleep, if `slept` tells a line, and `woke` was woken: that one is
     /// ready if `cpu` is its home, and else in hand.
     #[inline(always)]
-    fn settle(&mut self, homes: &[CpuId], cpu: CpuId, slept: Option<Line>, woke: Option<Tid>)
+    fn settle(&mut self, homes: &[CpuId], cpu: CpuId, slept: Option<WaitList>, woke: Option<Tid>)
         requires { MaySettle woke self.old }
         ensures { self.new ≡ own_woken homes.now cpu woke (own_slept slept self.old) }
     {
@@ -169,20 +169,20 @@ impl OwnThreads {
     }
 
     /// Takes up the answer of the shared queues, and gives the scheduler's. The threads that were
-    /// taken go straight from the tray to those that are ready.
+    /// taken go straight from the payload to those that are ready.
     #[inline(always)]
     pub fn answered<E: Moves>(
         &mut self,
         homes: &[CpuId],
         cpu: CpuId,
         answer: QueueAnswer<E::Out>,
-        tray: &mut Tray,
+        payload: &mut Payload,
     ) -> SchedAnswer<E::Out>
         requires may { MayTake E.moves answer self.old }
-        requires brought { queue_brought E.brought answer tray.old }
+        requires brought { queue_brought E.brought answer payload.old }
         ensures own { self.new ≡ own_by E.moves homes.now cpu answer self.old }
         ensures answer { result ≡ answer_by answer }
-        ensures brought { sched_brought E.brought result tray.new }
+        ensures brought { sched_brought E.brought result payload.new }
     {
         match answer {
             QueueAnswer::Done => {
@@ -190,7 +190,7 @@ impl OwnThreads {
                 SchedAnswer::Done
             }
             QueueAnswer::Taken(_) => {
-                self.take(&mut tray.taken);
+                self.take(&mut payload.taken);
                 SchedAnswer::Done
             }
             QueueAnswer::Answer(out) => {

@@ -7,7 +7,7 @@ use crate::owns::OwnThreads;
 use arrayvec::ArrayVec;
 use event_log::{BufId, CpuId, THREADS, Tid};
 use layer_traits::{
-    Moves, OwnedQueues, OwnedScheds, QueueLayer, SchedAnswer, SchedCall, SchedLayer, Tray,
+    Moves, OwnedQueues, OwnedScheds, Payload, QueueLayer, SchedAnswer, SchedCall, SchedLayer,
     kept_homes,
 };
 
@@ -31,7 +31,7 @@ impl<E: Moves, Q: QueueLayer<E>> SchedLayer<E> for Sched<Q> {
     ghost use Rattle.layer_traits.specs.QueueRules.{queue_rules};
     ghost use Rattle.layer_traits.specs.Queues.{kernel};
     ghost use Rattle.layer_traits.specs.Scheds.{BufferIsThere, IsLocal, IsShared, MaySched, SchedPolled, left, sched_plan};
-    ghost use Rattle.layer_traits.specs.Trays.{sched_brought, sched_carried};
+    ghost use Rattle.layer_traits.specs.Payloads.{sched_brought, sched_carried};
     ghost use Rattle.scheduler.specs.Parts.{PartFits, sched_under, busy_under};
     ghost use Rattle.scheduler.specs.declared.sched.Sched.{Sched};
 
@@ -113,7 +113,7 @@ impl<E: Moves, Q: QueueLayer<E>> SchedLayer<E> for Sched<Q> {
         &mut self,
         m: &mut Q::Machine,
         call: SchedCall<E>,
-        tray: &mut Tray,
+        payload: &mut Payload,
     ) -> Option<SchedAnswer<E::Out>>
         requires fits { Q.Fits self.old.lower m.old × PartFits E.rules E.moves (Q.opening m.old) self.old.cpu (Q.cpu_of self.old.lower) self.old.homes.items
             (Q.under_way self.old.lower) (Q.seen m.old) self.old.own }
@@ -121,13 +121,13 @@ impl<E: Moves, Q: QueueLayer<E>> SchedLayer<E> for Sched<Q> {
         requires room { 0 < Q.room m.old }
         requires call { MaySched (kernel E.rules E.moves (Q.opening m.old)) self.old.cpu (Q.seen m.old) self.old.own
             (sched_under (Q.under_way self.old.lower) self.old.own.current) call }
-        requires carried { sched_carried E.carried call tray.old }
+        requires carried { sched_carried E.carried call payload.old }
         ensures fits { Q.Fits self.new.lower m.new × PartFits E.rules E.moves (Q.opening m.new) self.new.cpu (Q.cpu_of self.new.lower) self.new.homes.items
             (Q.under_way self.new.lower) (Q.seen m.new) self.new.own }
         ensures cpu { self.new.cpu ≡ self.old.cpu }
         ensures call { sched_under (Q.under_way self.new.lower) self.new.own.current ≡ (if is_some result then None else Some call) }
         ensures prompt { IsWhole Q.IsStepwise → IsSome result }
-        ensures brought { IfSome result (λ answer. sched_brought E.brought answer tray.new) }
+        ensures brought { IfSome result (λ answer. sched_brought E.brought answer payload.new) }
         ensures seen { SchedPolled (kernel E.rules E.moves (Q.opening m.old)) (λ c. Q.ActsFor m.old c) self.old.cpu call result
             (Q.seen m.old) (Q.seen m.new) self.old.own self.new.own }
         ensures still { IsLocal call → m.new ≡ m.old }
@@ -151,9 +151,9 @@ impl<E: Moves, Q: QueueLayer<E>> SchedLayer<E> for Sched<Q> {
                 self.own.local(pass);
                 Some(SchedAnswer::Done)
             }
-            Ok(step) => match self.lower.poll(m, step, tray) {
+            Ok(step) => match self.lower.poll(m, step, payload) {
                 None => None,
-                Some(answer) => Some(self.own.answered::<E>(homes, self.cpu, answer, tray)),
+                Some(answer) => Some(self.own.answered::<E>(homes, self.cpu, answer, payload)),
             },
         }
     }

@@ -150,16 +150,16 @@ module _ {B : Type 0} (homes : List CpuId) where
     pub queues_there : (c : CpuId) → c.0 < length locks → IsSome (opened (locks ++ buffers_from 0 blocks) (Pending c))
     queues_there c less = is_there (opened (locks ++ buffers_from 0 blocks) (Pending c)) (queue_there c less)
 
-    pub homes_told : homes_in (opened (locks ++ buffers_from 0 blocks)) ≡ homes
-    homes_told =
+    pub homes_read : homes_in (opened (locks ++ buffers_from 0 blocks)) ≡ homes
+    homes_read =
         let some = queues.some in
         tells (opened (locks ++ buffers_from 0 blocks) (Pending (record { 0 = 0 }))) (queue_there (record { 0 = 0 }) (omega (arith, some)))
 
     pub starts_well : StartsWell (opened (locks ++ buffers_from 0 blocks))
     starts_well = record {
       kinds = queue_kinds 0 locks (buffers_from 0 blocks) are (buffer_kinds 0 blocks);
-      queues = λ t home at. queues_there home (each_within (length locks) homes t.0 home queues.within (subst (λ hs. home_of hs t ≡ Some home) homes_told at));
-      room = subst (λ hs. length hs ≤ THREADS) (sym homes_told) queues.threads;
+      queues = λ t home at. queues_there home (each_within (length locks) homes t.0 home queues.within (subst (λ hs. home_of hs t ≡ Some home) homes_read at));
+      room = subst (λ hs. length hs ≤ THREADS) (sym homes_read) queues.threads;
     }
 
     pub blocks_there : (b : BufId) → inner (opened (locks ++ buffers_from 0 blocks)) (Buffer b) ≡ slice_get blocks b.0

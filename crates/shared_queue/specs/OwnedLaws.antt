@@ -13,7 +13,7 @@ use Rattle.layer_traits.specs.declared.queue_edits.QueueBlock.{QueueBlock}
 use Rattle.layer_traits.specs.declared.queue_edits.QueueBlock.TheVariants.{Queue, Above}
 use Rattle.layer_traits.specs.declared.queue_edits.QueueEdit.{QueueEdit}
 use Rattle.layer_traits.specs.MoveRules.{MoveRules, WakesSleepers}
-use Rattle.layer_traits.specs.Owned.{IsHeld, IsShown}
+use Rattle.layer_traits.specs.Owned.{IsHeld, IsObserved}
 use Rattle.layer_traits.specs.Places.{pending_by}
 use Rattle.layer_traits.specs.Protocol.{Rules}
 use Rattle.layer_traits.specs.QueueBlocks.{StartsAs, StartsWell, inner, with_queue}
@@ -49,8 +49,8 @@ module _ {A B : Type 0} (read : A → Option B) (truth : Option A) (seen : Optio
 
   -- what is told of a block is told of what is read off it
   shown_read : {P : Type 0} (Fits : P → Type 0) (cpu_of : P → CpuId) (IsInside : CpuId → Type 0) (here : P → Option A) (home : Option A)
-      → IsShown Fits cpu_of IsInside here home truth
-      → IsShown Fits cpu_of IsInside (λ p. option_and_then read (here p)) (option_and_then read home) seen
+      → IsObserved Fits cpu_of IsInside here home truth
+      → IsObserved Fits cpu_of IsInside (λ p. option_and_then read (here p)) (option_and_then read home) seen
   shown_read Fits cpu_of IsInside here home shown = record {
     by_machine = λ y tells. read_some home shown.by_machine y tells;
     by_part = λ p y fits tells. read_some (here p) (λ x told. shown.by_part p x fits told) y tells;
@@ -77,7 +77,7 @@ can_read_queue d (Some (Queue old homes)) there kind truth queue is x tells = (q
 can_read_queue d (Some (Above block)) there kind truth queue is x tells = absurd kind
 
 -- lawful sections over the blocks of a boot, and who tells of blocks: the parts that fit, the CPU of each, and when a CPU is in a section
-pub record Tellers (P : Type 0) {E B O : Type 0} (rules : Rules E B O) (mv : MoveRules E O) (opening : LockId → Option (QueueBlock B)) : Type 1 where
+pub record Observers (P : Type 0) {E B O : Type 0} (rules : Rules E B O) (mv : MoveRules E O) (opening : LockId → Option (QueueBlock B)) : Type 1 where
   pub past : List (Section (QueueEdit E))
   pub starts : StartsWell opening
   pub lawful : IsLawful (SectionAllowed rules mv opening) past
@@ -85,19 +85,19 @@ pub record Tellers (P : Type 0) {E B O : Type 0} (rules : Rules E B O) (mv : Mov
   pub cpu_of : P → CpuId
   pub IsInside : CpuId → Type 0
 
-abbrev pub tellers : {P E B O : Type 0} (rules : Rules E B O) (mv : MoveRules E O) (opening : LockId → Option (QueueBlock B))
+abbrev pub observers : {P E B O : Type 0} (rules : Rules E B O) (mv : MoveRules E O) (opening : LockId → Option (QueueBlock B))
     (past : List (Section (QueueEdit E))) → StartsWell opening → IsLawful (SectionAllowed rules mv opening) past → (P → Type 0) → (P → CpuId)
-    → (CpuId → Type 0) → Tellers P rules mv opening
-tellers rules mv opening past starts lawful Fits cpu_of IsInside =
+    → (CpuId → Type 0) → Observers P rules mv opening
+observers rules mv opening past starts lawful Fits cpu_of IsInside =
     record { past = past; starts = starts; lawful = lawful; Fits = Fits; cpu_of = cpu_of; IsInside = IsInside }
 
-module _ {P E B O : Type 0} (rules : Rules E B O) (mv : MoveRules E O) (opening : LockId → Option (QueueBlock B)) (those : Tellers P rules mv opening) where
+module _ {P E B O : Type 0} (rules : Rules E B O) (mv : MoveRules E O) (opening : LockId → Option (QueueBlock B)) (those : Observers P rules mv opening) where
   open those use {past, starts, lawful, Fits, cpu_of, IsInside}
 
   -- what is told of a buffer's lock is told of the buffer
   pub buffer_shown : (b : BufId) (here : P → Option (QueueBlock B)) (home : Option (QueueBlock B))
-      → IsShown Fits cpu_of IsInside here home (block_after (queue_edited rules.edited) opening (Buffer b) past)
-      → IsShown Fits cpu_of IsInside (λ p. option_and_then above_in (here p)) (option_and_then above_in home)
+      → IsObserved Fits cpu_of IsInside here home (block_after (queue_edited rules.edited) opening (Buffer b) past)
+      → IsObserved Fits cpu_of IsInside (λ p. option_and_then above_in (here p)) (option_and_then above_in home)
       (block_after rules.edited (inner opening) (Buffer b) (buffer_sections (map event_of past)))
   buffer_shown b here home shown =
       let truth = block_after (queue_edited rules.edited) opening (Buffer b) past in
@@ -106,8 +106,8 @@ module _ {P E B O : Type 0} (rules : Rules E B O) (mv : MoveRules E O) (opening 
 
   -- what is told of a pending queue's lock is told of the queue
   pub queue_shown : WakesSleepers rules mv → (d : CpuId) → IsSome (opening (Pending d)) → (here : P → Option (QueueBlock B)) (home : Option (QueueBlock B))
-      → IsShown Fits cpu_of IsInside here home (block_after (queue_edited rules.edited) opening (Pending d) past)
-      → IsShown Fits cpu_of IsInside (λ p. option_and_then queue_in (here p)) (option_and_then queue_in home)
+      → IsObserved Fits cpu_of IsInside here home (block_after (queue_edited rules.edited) opening (Pending d) past)
+      → IsObserved Fits cpu_of IsInside (λ p. option_and_then queue_in (here p)) (option_and_then queue_in home)
       (Some (pending_by (moves_in (kernel rules mv opening) (map event_of past)) d))
   queue_shown wakes d there here home shown =
       let truth = block_after (queue_edited rules.edited) opening (Pending d) past in

@@ -8,7 +8,7 @@ ghost use Rattle.layer_traits.specs.QueueBlocks.{StartsWell, homes_in, inner};
 ghost use Rattle.shared_queue.specs.Opening.{AreEmptyQueues, AreQueues, buffers_from};
 
 use event_log::{BufId, CpuId, LockId, NoMemory};
-use layer_traits::{QueueBlock, Room, kept_homes};
+use layer_traits::{BlockBox, QueueBlock, kept_homes};
 use std::alloc::Global;
 use std::snapshot::Snapshot;
 use thread_blocks::ThreadQueue;
@@ -31,7 +31,7 @@ fn empty_queues<B: Drop>(
         return Err(NoMemory);
     };
     for cpu in 0..cpus {
-        let queue = Room::new(alloc, ThreadQueue::new())?;
+        let queue = BlockBox::new(alloc, ThreadQueue::new())?;
         let block = QueueBlock::Queue(queue, Snapshot::of(&kept));
         locks.push((LockId::Pending(CpuId(cpu)), block)).unwrap();
     }
@@ -59,7 +59,7 @@ pub fn queue_blocks<B: Drop>(
     let count = blocks.len();
     let mut locks = empty_queues(alloc, cpus, homes, count)?;
     for i in 0..count {
-        let block = Room::new(alloc, blocks.remove(0))?;
+        let block = BlockBox::new(alloc, blocks.remove(0))?;
         locks
             .push((LockId::Buffer(BufId(i as u8)), QueueBlock::Above(block)))
             .unwrap();

@@ -5,8 +5,8 @@ ghost use Rattle.layer_traits.specs.Queues.{lock_of, edit_of};
 
 use event_log::{BufId, CpuId, LockId, Tid};
 use layer_traits::{
-    LockLayer, Moves, OwnedLocks, OwnedQueues, QueueAnswer, QueueBlock, QueueCall, QueueEdit,
-    QueueLayer, Tray,
+    LockLayer, Moves, OwnedLocks, OwnedQueues, Payload, QueueAnswer, QueueBlock, QueueCall,
+    QueueEdit, QueueLayer,
 };
 
 /// The lock of a call, and its edit of the block that the lock guards.
@@ -36,7 +36,7 @@ impl<E: Moves, L: LockLayer<QueueEdit<E>>> QueueLayer<E> for SharedQueues<L> {
     ghost use Rattle.layer_traits.specs.QueueRules.{AreProper, IsProperCall, queue_rules};
     ghost use Rattle.layer_traits.specs.Plans.{Follows, IsWhole, answered, table_of};
     ghost use Rattle.layer_traits.specs.Queues.{MayQueue, QueueAllowed, QueuePolled, event, event_of, kernel, queue_plan};
-    ghost use Rattle.layer_traits.specs.Trays.{call_carried, queue_brought};
+    ghost use Rattle.layer_traits.specs.Payloads.{call_carried, queue_brought};
     ghost use Rattle.layer_traits.proofs.NestedLemmas.{known_events, lawful_events, lawful_proper};
     ghost use Rattle.shared_queue.specs.SharedLaws.{same_busy};
     ghost use Rattle.shared_queue.specs.declared.shared.SharedQueues.{SharedQueues};
@@ -88,20 +88,20 @@ impl<E: Moves, L: LockLayer<QueueEdit<E>>> QueueLayer<E> for SharedQueues<L> {
         &mut self,
         m: &mut L::Machine,
         call: QueueCall<E>,
-        tray: &mut Tray,
+        payload: &mut Payload,
     ) -> Option<QueueAnswer<E::Out>>
         requires fits { L.Fits self.old.lower m.old × StartsWell (L.opening m.old) × IsProperCall (L.under_way self.old.lower) }
         requires lock { IsSome (L.opening m.old (lock_of call)) }
         requires room { 0 < L.room m.old }
         requires call { MayQueue (QueueAllowed (kernel E.rules E.moves (L.opening m.old))) (map event_of (L.seen m.old))
             (option_map event_of (L.under_way self.old.lower)) (event (L.cpu_of self.old.lower) call) }
-        requires carried { call_carried E.carried call tray.old }
+        requires carried { call_carried E.carried call payload.old }
         ensures fits { L.Fits self.new.lower m.new × StartsWell (L.opening m.new) × IsProperCall (L.under_way self.new.lower) }
         ensures cpu { L.cpu_of self.new.lower ≡ L.cpu_of self.old.lower }
         ensures call { option_map event_of (L.under_way self.new.lower)
             ≡ (if is_some result then None else Some (event (L.cpu_of self.old.lower) call)) }
         ensures prompt { IsWhole L.IsStepwise → IsSome result }
-        ensures brought { IfSome result (λ answer. queue_brought E.brought answer tray.new) }
+        ensures brought { IfSome result (λ answer. queue_brought E.brought answer payload.new) }
         ensures seen { QueuePolled (kernel E.rules E.moves (L.opening m.old)) (λ c. L.ActsFor m.old c × StartsWell (L.opening m.old))
             (event (L.cpu_of self.old.lower) call) result (map event_of (L.seen m.old)) (map event_of (L.seen m.new)) }
         ensures opening { L.opening m.new ≡ L.opening m.old }
@@ -116,7 +116,7 @@ impl<E: Moves, L: LockLayer<QueueEdit<E>>> QueueLayer<E> for SharedQueues<L> {
             (L.opening m.old) (L.cpu_of self.old.lower) (queue_plan call) (L.acts m.old) (L.acts m.new) (answered result) }
     {
         let (lock, edit) = section_of(call);
-        self.lower.poll(m, lock, edit, tray)
+        self.lower.poll(m, lock, edit, payload)
     }
 
     ghost own_cpu = { λ p m fits. (L.own_cpu p.lower m fits.0, fits.1) };
@@ -145,7 +145,7 @@ impl<E: Moves, L: OwnedLocks<QueueEdit<E>>> OwnedQueues<E> for SharedQueues<L> {
     ghost use Rattle.layer_traits.specs.Plans.{is_in_section};
     ghost use Rattle.layer_traits.specs.QueueBlocks.{StartsWell};
     ghost use Rattle.layer_traits.specs.QueueRules.{IsProperCall, queue_edited};
-    ghost use Rattle.shared_queue.specs.OwnedLaws.{above_in, queue_in, buffer_shown, queue_shown, tellers};
+    ghost use Rattle.shared_queue.specs.OwnedLaws.{above_in, queue_in, buffer_shown, queue_shown, observers};
 
     ghost block_at = { λ m b. option_and_then above_in (L.block_at m (Buffer b)) };
 
@@ -184,7 +184,7 @@ impl<E: Moves, L: OwnedLocks<QueueEdit<E>>> OwnedQueues<E> for SharedQueues<L> {
     }
 
     ghost shown = { λ m c b acts there. buffer_shown E.rules E.moves (L.opening m)
-        (tellers E.rules E.moves (L.opening m) (L.seen m) acts.1 (L.lawful m c acts.0)
+        (observers E.rules E.moves (L.opening m) (L.seen m) acts.1 (L.lawful m c acts.0)
         (λ (p : Self). L.Fits p.lower m × StartsWell (L.opening m) × IsProperCall (L.under_way p.lower)) (λ p. L.cpu_of p.lower)
         (λ d. L.IsStepwise × (is_in_section (phase d (L.acts m)) ≡ true))) b (λ p. L.block_with p.lower (Buffer b)) (L.block_at m (Buffer b))
         (shown_under (λ (p : Self). p.lower) (λ p. L.Fits p m) (λ p. L.Fits p.lower m × StartsWell (L.opening m) × IsProperCall (L.under_way p.lower))
@@ -194,7 +194,7 @@ impl<E: Moves, L: OwnedLocks<QueueEdit<E>>> OwnedQueues<E> for SharedQueues<L> {
         (λ p fits. fits.0) (λ p fits. refl) (λ d inside. inside) (L.shown m c (Buffer b) acts.0 there)) };
 
     ghost queues = { λ m c d acts there. queue_shown E.rules E.moves (L.opening m)
-        (tellers E.rules E.moves (L.opening m) (L.seen m) acts.1 (L.lawful m c acts.0)
+        (observers E.rules E.moves (L.opening m) (L.seen m) acts.1 (L.lawful m c acts.0)
         (λ (p : Self). L.Fits p.lower m × StartsWell (L.opening m) × IsProperCall (L.under_way p.lower)) (λ p. L.cpu_of p.lower)
         (λ d. L.IsStepwise × (is_in_section (phase d (L.acts m)) ≡ true))) E.wakes_sleepers d there (λ p. L.block_with p.lower (Pending d))
         (L.block_at m (Pending d))

@@ -4,13 +4,13 @@ use Rattle.event_log.specs.declared.ids.CpuId.{CpuId}
 use Rattle.event_log.specs.declared.ids.BufId.{BufId}
 use Rattle.event_log.specs.declared.ids.LockId.{LockId}
 use Rattle.event_log.specs.declared.ids.LockId.TheVariants.{Pending, Buffer}
-use Rattle.layer_traits.specs.declared.moves.Line.{Line}
-use Rattle.layer_traits.specs.declared.moves.Line.TheVariants.{Sleepers, Receivers, Senders}
+use Rattle.layer_traits.specs.declared.moves.WaitList.{WaitList}
+use Rattle.layer_traits.specs.declared.moves.WaitList.TheVariants.{Sleepers, Receivers, Senders}
 use Rattle.layer_traits.specs.declared.queue_edits.QueueBlock.{QueueBlock}
 use Rattle.layer_traits.specs.declared.queue_edits.QueueBlock.TheVariants as block
 use Rattle.layer_traits.specs.QueueBlocks.{StartsAs, StartsWell, above_of, inner}
 use Rattle.layer_traits.specs.Renaming.{viewed}
-use Rattle.layer_traits.specs.Sleeping.{NobodySleeps, line_at}
+use Rattle.layer_traits.specs.Sleeping.{NobodySleeps, wait_list_at}
 use Rattle.layer_traits.proofs.KernelRenaming.{inner_viewed}
 use Rattle.std.proofs.lemmas.Option.{slice_get-map}
 use Rattle.sleep_wakeup.specs.declared.edits.SleepBlock.{SleepBlock}
@@ -26,23 +26,23 @@ pub there_inside : {B : Type 0} (o : Option (QueueBlock B)) → IsSome (above_of
 there_inside None some = some
 there_inside (Some b) some = refl
 
-no_line : {B : Type 0} (line : Line) (o : Option B) → line_at line (option_map state_of (option_map resting o)) ≡ []
-no_line line None = refl
-no_line Sleepers (Some above) = refl
-no_line Receivers (Some above) = refl
-no_line Senders (Some above) = refl
+no_wait_list : {B : Type 0} (line : WaitList) (o : Option B) → wait_list_at line (option_map state_of (option_map resting o)) ≡ []
+no_wait_list line None = refl
+no_wait_list Sleepers (Some above) = refl
+no_wait_list Receivers (Some above) = refl
+no_wait_list Senders (Some above) = refl
 
 -- nobody sleeps where each buffer has a block at rest
 pub nobody_at_boot : {B : Type 0} (opening : LockId → Option (QueueBlock (SleepBlock B))) (above : List B) → StartsWell opening
     → ((b : BufId) → inner opening (Buffer b) ≡ slice_get (map resting above) b.0) → NobodySleeps (inner (viewed state_of opening))
-nobody_at_boot {B} opening above starts blocks lock line = ap (line_at line) (inner_viewed state_of opening lock) ∙ by_lock lock (starts.kinds lock)
+nobody_at_boot {B} opening above starts blocks lock line = ap (wait_list_at line) (inner_viewed state_of opening lock) ∙ by_lock lock (starts.kinds lock)
   where
-    queue : (c : CpuId) (o : Option (QueueBlock (SleepBlock B))) → StartsAs (Pending c) o → line_at line (option_map state_of (above_of o)) ≡ []
+    queue : (c : CpuId) (o : Option (QueueBlock (SleepBlock B))) → StartsAs (Pending c) o → wait_list_at line (option_map state_of (above_of o)) ≡ []
     queue c None kind = refl
     queue c (Some (block.Queue threads homes)) kind = refl
     queue c (Some (block.Above b)) kind = absurd kind
 
-    by_lock : (l : LockId) → StartsAs l (opening l) → line_at line (option_map state_of (inner opening l)) ≡ []
+    by_lock : (l : LockId) → StartsAs l (opening l) → wait_list_at line (option_map state_of (inner opening l)) ≡ []
     by_lock (Pending c) kind = queue c (opening (Pending c)) kind
     by_lock (Buffer b) kind =
-        ap (λ o. line_at line (option_map state_of o)) (blocks b ∙ slice_get-map resting above b.0) ∙ no_line line (slice_get above b.0)
+        ap (λ o. wait_list_at line (option_map state_of o)) (blocks b ∙ slice_get-map resting above b.0) ∙ no_wait_list line (slice_get above b.0)

@@ -23,48 +23,49 @@ use Rattle.layer_traits.specs.QueueRules.{queue_rules}
 use Rattle.layer_traits.specs.Queues.{QueueAllowed, moves_in}
 use Rattle.layer_traits.specs.Renaming.{renamed_edit, renamed_events, renamed_sched, viewed}
 use Rattle.layer_traits.specs.Scheds.{MaySched, SchedPolled, left, sched_plan}
-use Rattle.layer_traits.specs.SleepLaw.{MayCall, MaySleep, SleepPolled, Sleeping, done_if, due, left_passed, left_told, pass_plan, sleep_plan}
-use Rattle.layer_traits.specs.Sleeping.{NobodySleeps, SleepRules, line_at, sleep_moves, sleep_rules}
+use Rattle.layer_traits.specs.SleepLaw.{MayCall, MaySleep, SleepPolled, Sleeping, done_if, due, left_passed, left_reported, pass_plan, sleep_plan}
+use Rattle.layer_traits.specs.Sleeping.{NobodySleeps, SleepRules, wait_list_at, sleep_moves, sleep_rules}
 use Rattle.layer_traits.proofs.CallLemmas.{follows_raised}
 use Rattle.layer_traits.proofs.KernelRenaming.{follows_named, homes_viewed, inner_viewed, plan_renamed, polled_renamed}
-use Rattle.layer_traits.proofs.SleepLemmas.{HandKept, sleep_polled}
+use Rattle.layer_traits.proofs.SleepLemmas.{HandDefers, sleep_polled}
 use Rattle.sleep_wakeup.specs.declared.edits.SleepBlock.{SleepBlock}
 use Rattle.sleep_wakeup.specs.declared.edits.SleepEdit.{SleepEdit}
-use Rattle.sleep_wakeup.specs.declared.kept.Kept.{Kept}
+use Rattle.sleep_wakeup.specs.declared.deferred.DeferredOutcome.{DeferredOutcome}
 use Rattle.sleep_wakeup.specs.Nested.{edit_in, nested_moves, nested_rules, state_of, states}
 use Rattle.sleep_wakeup.specs.NestedLaws.{beneath, here, nested_stays, nested_wraps}
-use Rattle.sleep_wakeup.specs.Parts.{KeptFits, answer_told, as_edit, done_of, kept_told, must_wait, outcome_in, own_of, under_of}
+use Rattle.sleep_wakeup.specs.Parts.{DeferredFits, answer_reported, as_edit, done_of, deferred_of_answer, must_wait, outcome_in, own_of, under_of}
 
 -- where nobody sleeps at the opening here, nobody does beneath
 pub nobody_beneath : {B : Type 0} (opening : LockId → Option (QueueBlock (SleepBlock B))) → NobodySleeps (inner (viewed state_of opening))
     → NobodySleeps (states (inner opening))
-nobody_beneath opening nobody lock line = ap (line_at line) (sym (inner_viewed state_of opening lock)) ∙ nobody lock line
+nobody_beneath opening nobody lock line = ap (wait_list_at line) (sym (inner_viewed state_of opening lock)) ∙ nobody lock line
 
 -- a part at boot keeps nothing
-pub fresh_kept : {E : Type 0} (O : Type 0) (under : Option (SchedCall (SleepEdit E))) (hand : Option Tid) → under ≡ None
-    → KeptFits {E = E} {O = O} None under hand
-fresh_kept O None hand none = tt
-fresh_kept O (Some s) hand none = absurd cc
+pub fresh_deferred : {E : Type 0} (O : Type 0) (under : Option (SchedCall (SleepEdit E))) (hand : Option Tid) → under ≡ None
+    → DeferredFits {E = E} {O = O} None under hand
+fresh_deferred O None hand none = tt
+fresh_deferred O (Some s) hand none = absurd cc
 
 -- an outcome is kept exactly while a thread stands in the hand, where a section may be polled
-pub hand_kept : {E O : Type 0} (kept : Option (Kept E O)) (under : Option (SchedCall (SleepEdit E))) (hand : Option Tid) (b : BufId) (e : E) (duty : Type 0)
-    → KeptFits kept under hand
-    → MayCall (under_of kept under) (call.OnBuffer b e) duty → (duty → hand ≡ None) → HandKept hand (outcome_in kept)
-hand_kept {O = O} None None hand b e duty fits may empty = go hand (empty may)
+pub hand_defers : {E O : Type 0} (deferred : Option (DeferredOutcome E O)) (under : Option (SchedCall (SleepEdit E))) (hand : Option Tid) (b : BufId)
+    (e : E) (duty : Type 0)
+    → DeferredFits deferred under hand
+    → MayCall (under_of deferred under) (call.OnBuffer b e) duty → (duty → hand ≡ None) → HandDefers hand (outcome_in deferred)
+hand_defers {O = O} None None hand b e duty fits may empty = go hand (empty may)
   where
-    go : (h : Option Tid) → h ≡ None → HandKept {O = O} h None
+    go : (h : Option Tid) → h ≡ None → HandDefers {O = O} h None
     go None none = tt
     go (Some t) none = absurd cc
-hand_kept None (Some (call.Pass p)) hand b e duty fits may empty = absurd cc
-hand_kept {O = O} None (Some (call.OnBuffer at d)) hand b e duty fits may empty = go hand fits
+hand_defers None (Some (call.Pass p)) hand b e duty fits may empty = absurd cc
+hand_defers {O = O} None (Some (call.OnBuffer at d)) hand b e duty fits may empty = go hand fits
   where
-    go : (h : Option Tid) → h ≡ None → HandKept {O = O} h None
+    go : (h : Option Tid) → h ≡ None → HandDefers {O = O} h None
     go None none = tt
     go (Some t) none = absurd cc
-hand_kept (Some k) None None b e duty fits may empty = absurd fits
-hand_kept (Some k) (Some under) None b e duty fits may empty = absurd fits
-hand_kept (Some k) None (Some t) b e duty fits may empty = tt
-hand_kept (Some k) (Some under) (Some t) b e duty fits may empty = tt
+hand_defers (Some k) None None b e duty fits may empty = absurd fits
+hand_defers (Some k) (Some under) None b e duty fits may empty = absurd fits
+hand_defers (Some k) None (Some t) b e duty fits may empty = tt
+hand_defers (Some k) (Some under) (Some t) b e duty fits may empty = tt
 
 -- the scheduler's answer to a call that is passed on tells no more than that it is done
 pub done_is : {O : Type 0} (answer : Option (SchedAnswer (Outcome O))) → ((a : SchedAnswer (Outcome O)) → answer ≡ Some a → a ≡ Done)
@@ -76,32 +77,33 @@ done_is (Some a) only = ap Some (sym (only a refl))
 abbrev left_if : {O : Type 0} → Bool → Outcome O → Threads → Left (Sleeping O) (Outcome O)
 left_if waits outcome threads =
     if waits
-    then record { own = record { threads = threads; kept = Some outcome }; answer = None }
-    else record { own = record { threads = threads; kept = None }; answer = Some outcome }
+    then record { own = record { threads = threads; deferred = Some outcome }; answer = None }
+    else record { own = record { threads = threads; deferred = None }; answer = Some outcome }
 
 -- what the part keeps and answers then
-abbrev kept_if : {E O : Type 0} → Bool → BufId → E → Outcome O → Msg → Threads → Left (Sleeping O) (Outcome O)
-kept_if waits b e outcome message threads = record {
+abbrev deferred_if : {E O : Type 0} → Bool → BufId → E → Outcome O → Msg → Threads → Left (Sleeping O) (Outcome O)
+deferred_if waits b e outcome message threads = record {
   own = own_of (if waits then Some (record { buffer = b; edit = e; outcome = outcome; message = message }) else None) threads;
   answer = if waits then None else Some outcome;
 }
 
 -- what is kept and answered is what the scheduler's answer tells
-pub told_is : {E O : Type 0} (kept : Option (Kept E O)) (threads : Threads) (b : BufId) (e meant : E) (answer : SchedAnswer (Outcome O)) (message : Msg)
-    (hand : Option Tid) (kept' : Option (Kept E O)) (result : Option (Outcome O))
-    → meant ≡ e → hand ≡ threads.hand → kept' ≡ kept_told hand b meant answer message → result ≡ answer_told kept hand answer
-    → left_told (outcome_in kept) threads (Some answer) ≡ record { own = own_of kept' threads; answer = result }
-told_is {O = O} kept threads b e meant Done message hand kept' result same in_hand keeps gives =
+pub reported_is : {E O : Type 0} (deferred : Option (DeferredOutcome E O)) (threads : Threads) (b : BufId) (e ghost_of : E) (answer : SchedAnswer
+    (Outcome O)) (message : Msg)
+    (hand : Option Tid) (deferred' : Option (DeferredOutcome E O)) (result : Option (Outcome O))
+    → ghost_of ≡ e → hand ≡ threads.hand → deferred' ≡ deferred_of_answer hand b ghost_of answer message → result ≡ answer_reported deferred hand answer
+    → left_reported (outcome_in deferred) threads (Some answer) ≡ record { own = own_of deferred' threads; answer = result }
+reported_is {O = O} deferred threads b e ghost_of Done message hand deferred' result same in_hand keeps gives =
     λ i. record { own = own_of (sym keeps i) threads; answer = sym gives i }
-told_is {O = O} kept threads b e meant (Answer outcome) message hand kept' result same in_hand keeps gives =
+reported_is {O = O} deferred threads b e ghost_of (Answer outcome) message hand deferred' result same in_hand keeps gives =
     by_test (must_wait outcome threads.hand)
     ∙ ((λ i. record {
-      own = own_of (kept_told (sym in_hand i) b (sym same i) (Answer outcome) message) threads;
-      answer = answer_told kept (sym in_hand i) (Answer outcome);
+      own = own_of (deferred_of_answer (sym in_hand i) b (sym same i) (Answer outcome) message) threads;
+      answer = answer_reported deferred (sym in_hand i) (Answer outcome);
     })
     ∙ λ i. record { own = own_of (sym keeps i) threads; answer = sym gives i })
   where
-    by_test : (waits : Bool) → left_if waits outcome threads ≡ kept_if waits b e outcome message threads
+    by_test : (waits : Bool) → left_if waits outcome threads ≡ deferred_if waits b e outcome message threads
     by_test true = refl
     by_test false = refl
 
@@ -110,8 +112,9 @@ module _ {E B O : Type 0} (rules : SleepRules E B O) (opening : LockId → Optio
   pub nested_may : (c : CpuId) (past : List (QueueEvent (SleepEdit E))) (threads : Threads) (b : BufId) (e : E) → StartsWell opening
       → IsLawful (QueueAllowed (beneath rules opening)) past
       → NobodySleeps (states (inner opening)) → Stands (homes_in opening) c (moves_in (beneath rules opening) past) threads
-      → (kept : Option (Kept E O)) (under : Option (SchedCall (SleepEdit E))) (hand : Option Tid) → hand ≡ threads.hand → KeptFits kept under hand
-      → MayCall (under_of kept under) (call.OnBuffer b e) (MaySleep (here rules opening) c (renamed_events edit_in past) threads b e)
+      → (deferred : Option (DeferredOutcome E O)) (under : Option (SchedCall (SleepEdit E))) (hand : Option Tid) → hand ≡ threads.hand
+      → DeferredFits deferred under hand
+      → MayCall (under_of deferred under) (call.OnBuffer b e) (MaySleep (here rules opening) c (renamed_events edit_in past) threads b e)
       → MaySched (beneath rules opening) c past threads under (due hand b (as_edit e))
   nested_may c past threads b e starts lawful nobody stands None None None is fits may =
       ((may.current, may.hand), nested_stays rules opening c past threads b e starts lawful nobody stands may)
@@ -145,13 +148,13 @@ module _ {E B O : Type 0} (rules : SleepRules E B O) (opening : LockId → Optio
   -- the poll of the call that is due is a poll of the section
   pub nested_sleeps : (ActsFor : CpuId → Type 0) (c : CpuId) (b : BufId) (e : E) (answer : Option (SchedAnswer (Outcome O)))
       (old new : List (QueueEvent (SleepEdit E))) (threads threads' : Threads)
-      (kept : Option (Kept E O)) (hand : Option Tid) → hand ≡ threads.hand → HandKept hand (outcome_in kept)
+      (deferred : Option (DeferredOutcome E O)) (hand : Option Tid) → hand ≡ threads.hand → HandDefers hand (outcome_in deferred)
       → SchedPolled (beneath rules opening) ActsFor c (due hand b (as_edit e)) answer old new threads threads'
-      → SleepPolled (here rules opening) ActsFor c b e (renamed_events edit_in old) (renamed_events edit_in new) (own_of kept threads)
-      (left_told (outcome_in kept) threads' answer)
-  nested_sleeps ActsFor c b e answer old new threads threads' kept hand is fits polled =
-      sleep_polled (here rules opening) b e ActsFor c (renamed_events edit_in old) (renamed_events edit_in new) (own_of kept threads) threads' hand
-      (outcome_in kept) answer (sym is) refl fits
+      → SleepPolled (here rules opening) ActsFor c b e (renamed_events edit_in old) (renamed_events edit_in new) (own_of deferred threads)
+      (left_reported (outcome_in deferred) threads' answer)
+  nested_sleeps ActsFor c b e answer old new threads threads' deferred hand is fits polled =
+      sleep_polled (here rules opening) b e ActsFor c (renamed_events edit_in old) (renamed_events edit_in new) (own_of deferred threads) threads' hand
+      (outcome_in deferred) answer (sym is) refl fits
       (subst (λ s. SchedPolled (here rules opening) ActsFor c s answer (renamed_events edit_in old) (renamed_events edit_in new) threads threads')
       (due_renamed hand b e)
       (nested_polled ActsFor c (due hand b (as_edit e)) answer old new threads threads' polled))
@@ -189,16 +192,16 @@ module _ {E B O : Type 0} (rules : SleepRules E B O) (opening : LockId → Optio
       (sched_plan (nested_moves rules) (homes_in opening) c s threads) acts acts' (left threads' answer) follows)
 
   pub nested_sleep_follows : (ActsFor : CpuId → Type 0) (c : CpuId) (b : BufId) (e : E) (acts acts' : List (Action (QueueEdit (SleepEdit E))))
-      (kept : Option (Kept E O)) (threads threads' : Threads)
+      (deferred : Option (DeferredOutcome E O)) (threads threads' : Threads)
       (hand : Option Tid) (answer : Option (SchedAnswer (Outcome O))) → hand ≡ threads.hand
       → Follows ActsFor (table_of (queue_rules (nested_rules rules) (nested_moves rules))) opening c
       (sched_plan (nested_moves rules) (homes_in opening) c (due hand b (as_edit e)) threads) acts acts' (left threads' answer)
       → Follows ActsFor (table_of (queue_rules (sleep_rules rules) (sleep_moves rules))) (viewed state_of opening) c
-      (sleep_plan (sleep_moves rules) (homes_in (viewed state_of opening)) c b e (own_of kept threads))
-      (map (renamed (renamed_edit edit_in)) acts) (map (renamed (renamed_edit edit_in)) acts') (left_told (outcome_in kept) threads' answer)
-  nested_sleep_follows ActsFor c b e acts acts' kept threads threads' hand answer is follows =
+      (sleep_plan (sleep_moves rules) (homes_in (viewed state_of opening)) c b e (own_of deferred threads))
+      (map (renamed (renamed_edit edit_in)) acts) (map (renamed (renamed_edit edit_in)) acts') (left_reported (outcome_in deferred) threads' answer)
+  nested_sleep_follows ActsFor c b e acts acts' deferred threads threads' hand answer is follows =
       follows_raised ActsFor (table_of (queue_rules (sleep_rules rules) (sleep_moves rules))) (viewed state_of opening) c
-      (λ l. left_told (outcome_in kept) l.own l.answer)
+      (λ l. left_reported (outcome_in deferred) l.own l.answer)
       (sched_plan (sleep_moves rules) (homes_in (viewed state_of opening)) c (due threads.hand b e) threads)
       (map (renamed (renamed_edit edit_in)) acts) (map (renamed (renamed_edit edit_in)) acts') (left threads' answer)
       (subst (λ s. Follows ActsFor (table_of (queue_rules (sleep_rules rules) (sleep_moves rules))) (viewed state_of opening) c
@@ -208,18 +211,18 @@ module _ {E B O : Type 0} (rules : SleepRules E B O) (opening : LockId → Optio
       (nested_follows ActsFor c (due hand b (as_edit e)) acts acts' threads threads' answer follows))
 
   pub nested_pass_follows : (ActsFor : CpuId → Type 0) (c : CpuId) (p : Pass) (acts acts' : List (Action (QueueEdit (SleepEdit E))))
-      (kept : Option (Kept E O)) (threads threads' : Threads)
+      (deferred : Option (DeferredOutcome E O)) (threads threads' : Threads)
       (answer : Option (SchedAnswer (Outcome O))) (result : Option (Unit {0})) → result ≡ done_of answer
       → Follows ActsFor (table_of (queue_rules (nested_rules rules) (nested_moves rules))) opening c
       (sched_plan (nested_moves rules) (homes_in opening) c (call.Pass p) threads) acts acts' (left threads' answer)
       → Follows ActsFor (table_of (queue_rules (sleep_rules rules) (sleep_moves rules))) (viewed state_of opening) c
-      (pass_plan (sleep_moves rules) (homes_in (viewed state_of opening)) c p (own_of kept threads))
-      (map (renamed (renamed_edit edit_in)) acts) (map (renamed (renamed_edit edit_in)) acts') (record { own = own_of kept threads'; answer = result })
-  nested_pass_follows ActsFor c p acts acts' kept threads threads' answer result is follows =
+      (pass_plan (sleep_moves rules) (homes_in (viewed state_of opening)) c p (own_of deferred threads))
+      (map (renamed (renamed_edit edit_in)) acts) (map (renamed (renamed_edit edit_in)) acts') (record { own = own_of deferred threads'; answer = result })
+  nested_pass_follows ActsFor c p acts acts' deferred threads threads' answer result is follows =
       subst (λ r. Follows ActsFor (table_of (queue_rules (sleep_rules rules) (sleep_moves rules))) (viewed state_of opening) c
-      (pass_plan (sleep_moves rules) (homes_in (viewed state_of opening)) c p (own_of kept threads))
-      (map (renamed (renamed_edit edit_in)) acts) (map (renamed (renamed_edit edit_in)) acts') (record { own = own_of kept threads'; answer = r })) (sym is)
-      (follows_raised ActsFor (table_of (queue_rules (sleep_rules rules) (sleep_moves rules))) (viewed state_of opening) c (left_passed (outcome_in kept))
+      (pass_plan (sleep_moves rules) (homes_in (viewed state_of opening)) c p (own_of deferred threads))
+      (map (renamed (renamed_edit edit_in)) acts) (map (renamed (renamed_edit edit_in)) acts') (record { own = own_of deferred threads'; answer = r })) (sym is)
+      (follows_raised ActsFor (table_of (queue_rules (sleep_rules rules) (sleep_moves rules))) (viewed state_of opening) c (left_passed (outcome_in deferred))
       (sched_plan (sleep_moves rules) (homes_in (viewed state_of opening)) c (call.Pass p) threads)
       (map (renamed (renamed_edit edit_in)) acts) (map (renamed (renamed_edit edit_in)) acts') (left threads' answer)
       (nested_follows ActsFor c (call.Pass p) acts acts' threads threads' answer follows))

@@ -2,11 +2,11 @@
 use Rattle.std.specs.Prelude.{List, [], Option, map, option_map}
 use Rattle.event_log.specs.declared.ids.LockId.{LockId}
 use Rattle.event_log.specs.Sections.{Section, renamed_section}
-use Rattle.layer_traits.specs.declared.moves.Line.TheVariants.{Sleepers, Receivers, Senders}
+use Rattle.layer_traits.specs.declared.moves.WaitList.TheVariants.{Sleepers, Receivers, Senders}
 use Rattle.layer_traits.specs.declared.sleeps.Outcome.{Outcome}
 use Rattle.layer_traits.specs.MoveRules.{MoveRules}
 use Rattle.layer_traits.specs.Protocol.{Rules}
-use Rattle.layer_traits.specs.Sleeping.{IsAwake, NobodySleeps, SleepRules, SleepState, line_after, sleep_answer}
+use Rattle.layer_traits.specs.Sleeping.{IsAwake, NobodySleeps, SleepRules, SleepState, wait_list_after, sleep_answer}
 use Rattle.sleep_wakeup.specs.declared.edits.SleepBlock.{SleepBlock}
 use Rattle.sleep_wakeup.specs.declared.edits.SleepEdit.{SleepEdit}
 use Rattle.thread_blocks.specs.Queues.{first}
@@ -30,9 +30,9 @@ states opening lock = option_map state_of (opening lock)
 -- the block that an edit leaves
 abbrev pub nested_edited : {E B O : Type 0} → SleepRules E B O → SleepEdit E → SleepBlock B → SleepBlock B
 nested_edited rules d block = record {
-  sleepers = line_after rules Sleepers d.edit (state_of block) block.sleepers;
-  receivers = line_after rules Receivers d.edit (state_of block) block.receivers;
-  senders = line_after rules Senders d.edit (state_of block) block.senders;
+  sleepers = wait_list_after rules Sleepers d.edit (state_of block) block.sleepers;
+  receivers = wait_list_after rules Receivers d.edit (state_of block) block.receivers;
+  senders = wait_list_after rules Senders d.edit (state_of block) block.senders;
   above = rules.edited d.edit (first block.sleepers) block.above;
 }
 

@@ -19,22 +19,22 @@ use Rattle.layer_traits.specs.declared.scheds.SchedCall.TheVariants as call
 use Rattle.layer_traits.specs.declared.sleeps.Outcome.{Outcome}
 use Rattle.layer_traits.specs.ListsAgree.{ListsAgree, is_at}
 use Rattle.layer_traits.specs.MoveRules.{WakesSleepers, asleep_by, edit_move, section_moves}
-use Rattle.layer_traits.specs.Places.{AreMoves, Home, Stands, count_in, Threads, home_of, is_berth, one_if, berth_of, step, where_is}
+use Rattle.layer_traits.specs.Places.{AreMoves, Home, Stands, count_in, Threads, home_of, is_wait_channel, one_if, wait_channel_of, step, where_is}
 use Rattle.layer_traits.specs.Plans.{is_in_section, table_of}
 use Rattle.layer_traits.specs.QueueBlocks.{StartsWell, homes_in, inner}
 use Rattle.layer_traits.specs.Queues.{Kernel, QueueAllowed, buffer_sections, kernel, moves_in}
 use Rattle.layer_traits.specs.Renaming.{renamed_edit, renamed_events, viewed}
 use Rattle.layer_traits.specs.Scheds.{EditStays}
 use Rattle.layer_traits.specs.SleepLaw.{MaySleep, sleep_kernel}
-use Rattle.layer_traits.specs.Sleeping.{IsAwake, NobodySleeps, SleepRules, SleepState, line_at, sleep_answer, sleep_edited, sleep_moves, sleep_rules}
-use Rattle.layer_traits.proofs.CallLemmas.{asleep_berth, moves_append, moves_lawful, moves_others, moves_over, sections_asleep, upper_lawful}
+use Rattle.layer_traits.specs.Sleeping.{IsAwake, NobodySleeps, SleepRules, SleepState, wait_list_at, sleep_answer, sleep_edited, sleep_moves, sleep_rules}
+use Rattle.layer_traits.proofs.CallLemmas.{asleep_wait_channel, moves_append, moves_lawful, moves_others, moves_over, sections_asleep, upper_lawful}
 use Rattle.layer_traits.proofs.KernelRenaming.{Wraps, homes_viewed, inner_viewed, lawful_renamed, moves_renamed, sections_renamed, stays_renamed}
 use Rattle.layer_traits.proofs.ListsLemmas.{lists_agree, section_wakes}
 use Rattle.layer_traits.proofs.PlaceLemmas.{current_at, stands_others}
 use Rattle.layer_traits.proofs.PlanRenaming.{block_viewed}
 use Rattle.sleep_wakeup.specs.declared.edits.SleepBlock.{SleepBlock}
 use Rattle.sleep_wakeup.specs.declared.edits.SleepEdit.{SleepEdit}
-use Rattle.sleep_wakeup.specs.declared.kept.Kept.{Kept}
+use Rattle.sleep_wakeup.specs.declared.deferred.DeferredOutcome.{DeferredOutcome}
 use Rattle.sleep_wakeup.specs.Nested.{NestedAllowed, edit_in, nested_answer, nested_edited, nested_moves, nested_rules, state_of, states}
 use Rattle.sleep_wakeup.specs.Parts.{as_edit, under_of}
 
@@ -88,7 +88,7 @@ module _ {E B O : Type 0} (rules : SleepRules E B O) (opening : LockId → Optio
 -- whom an allowed section wakes sleeps
 pub nested_wakes : {E B O : Type 0} (rules : SleepRules E B O) → WakesSleepers (nested_rules rules) (nested_moves rules)
 nested_wakes rules opening past s out u lawful allowed answers wakes =
-    subst (λ moves. is_berth (asleep_by moves u) ≡ true) (moves_above rules opening past)
+    subst (λ moves. is_wait_channel (asleep_by moves u) ≡ true) (moves_above rules opening past)
     (section_wakes rules (states opening) (map (renamed_section edit_in) past) (renamed_section edit_in s) out u
     (awake_above rules opening past lawful) allowed.start
     (out_after rules opening past s ∙ answers) wakes)
@@ -140,17 +140,17 @@ module _ {E B O : Type 0} (rules : SleepRules E B O) (opening : LockId → Optio
   nested_stands c past own stands = transport (λ i. Stands (sym (homes_viewed state_of opening) i) c (sym (same_moves past) i) own) stands
 
   -- they move from where they stand
-  pub nested_moving : (past : List (QueueEvent (SleepEdit E))) → IsLawful (QueueAllowed beneath) past
+  pub nested_moves_legal : (past : List (QueueEvent (SleepEdit E))) → IsLawful (QueueAllowed beneath) past
       → AreMoves (homes_in (viewed state_of opening)) (moves_in here (renamed_events edit_in past))
-  nested_moving past lawful =
+  nested_moves_legal past lawful =
       transport (λ i. AreMoves (sym (homes_viewed state_of opening) i) (sym (same_moves past) i)) (moves_lawful beneath (nested_wakes rules) past lawful)
 
   -- where a thread sleeps by the sections of the layer above is where its place says
   asleep_here : (past : List (QueueEvent (SleepEdit E))) (t : Tid) → IsLawful (QueueAllowed beneath) past
-      → berth_of (where_is (homes_in opening) (moves_in beneath past) t)
+      → wait_channel_of (where_is (homes_in opening) (moves_in beneath past) t)
       ≡ asleep_by (section_moves (sleep_rules rules) (sleep_moves rules) (states (inner opening)) (map (renamed_section edit_in) (buffer_sections past))) t
   asleep_here past t lawful =
-      asleep_berth (homes_in opening) (moves_in beneath past) t (moves_lawful beneath (nested_wakes rules) past lawful)
+      asleep_wait_channel (homes_in opening) (moves_in beneath past) t (moves_lawful beneath (nested_wakes rules) past lawful)
       ∙ (sym (sections_asleep beneath past t) ∙ ap (λ moves. asleep_by moves t) (sym (moves_above rules (inner opening) (buffer_sections past))))
 
   -- the waiting lists agree with the places
@@ -158,12 +158,13 @@ module _ {E B O : Type 0} (rules : SleepRules E B O) (opening : LockId → Optio
       → ListsAgree rules (viewed state_of opening) (renamed_events edit_in past)
   nested_lists past lawful nobody lock line t =
       ap (λ (o : LockId → Option (SleepState B)). count_in t
-      (line_at line (block_after (sleep_edited rules) o lock (buffer_sections (renamed_events edit_in past))))) inner_states
-      ∙ (ap (λ sections. count_in t (line_at line (block_after (sleep_edited rules) (states (inner opening)) lock sections))) (sections_renamed edit_in past)
+      (wait_list_at line (block_after (sleep_edited rules) o lock (buffer_sections (renamed_events edit_in past))))) inner_states
+      ∙ (ap (λ sections. count_in t (wait_list_at line (block_after (sleep_edited rules) (states (inner opening)) lock sections)))
+      (sections_renamed edit_in past)
       ∙ (lists_agree rules (states (inner opening)) (map (renamed_section edit_in) (buffer_sections past))
       (awake_above rules (inner opening) (buffer_sections past) (upper_lawful beneath past lawful)) nobody lock line t
       ∙ (ap (λ p. one_if (is_at lock line p)) (sym (asleep_here past t lawful))
-      ∙ λ i. one_if (is_at lock line (berth_of (where_is (sym (homes_viewed state_of opening) i) (sym (same_moves past) i) t))))))
+      ∙ λ i. one_if (is_at lock line (wait_channel_of (where_is (sym (homes_viewed state_of opening) i) (sym (same_moves past) i) t))))))
 
   -- A section that may begin here may begin beneath, and stays allowed there.
 
@@ -174,7 +175,7 @@ module _ {E B O : Type 0} (rules : SleepRules E B O) (opening : LockId → Optio
   nested_stays c past own b e starts lawful nobody stands may more others legal = record {
     start = nobody;
     awake = record {
-      awake = sym (asleep_here (more ++ past) (rules.caller e) legal) ∙ ap berth_of at.1;
+      awake = sym (asleep_here (more ++ past) (rules.caller e) legal) ∙ ap wait_channel_of at.1;
       small = omega (arith, slice_get_within (homes_in opening) (rules.caller e).0 c at.0, starts.room);
     };
     upper = subst (λ (o : LockId → Option (SleepState B)). rules.allowed o (map (renamed_section edit_in) (buffer_sections (more ++ past)))
@@ -202,7 +203,8 @@ nothing_seen [] none = refl
 nothing_seen (e ∷ past) none = absurd cc
 
 -- while no call is under way here none is beneath
-pub nested_idle : {E O : Type 0} (kept : Option (Kept E O)) (under : Option (SchedCall (SleepEdit E))) → under_of kept under ≡ None → is_some under ≡ false
+pub nested_idle : {E O : Type 0} (deferred : Option (DeferredOutcome E O)) (under : Option (SchedCall (SleepEdit E))) → under_of deferred under ≡ None
+    → is_some under ≡ false
 nested_idle None None none = refl
 nested_idle None (Some s) none = absurd cc
 nested_idle (Some k) under none = absurd cc

@@ -10,7 +10,7 @@ use Rattle.event_log.specs.Sections.{block_after}
 use Rattle.layer_traits.specs.declared.queue_edits.QueueBlock.{QueueBlock}
 use Rattle.layer_traits.specs.declared.queue_edits.QueueEdit.{QueueEdit}
 use Rattle.layer_traits.specs.declared.queues.QueueEvent.{QueueEvent}
-use Rattle.layer_traits.specs.Owned.{IsShown}
+use Rattle.layer_traits.specs.Owned.{IsObserved}
 use Rattle.layer_traits.specs.Places.{pending_by}
 use Rattle.layer_traits.specs.QueueBlocks.{inner}
 use Rattle.layer_traits.specs.Queues.{buffer_sections, moves_in}
@@ -36,8 +36,8 @@ module _ {P Q E B O : Type 0} (rules : SleepRules E B O) (opening : LockId → O
 
   -- so what is told of that block is told of its waiting lists
   pub nested_shown : (b : BufId) (tells : P → Option (SleepBlock B)) (home : Option (SleepBlock B))
-      → IsShown FitsP cpu_below (InSection IsStepwise acts) tells home (block_after (nested_edited rules) (inner opening) (Buffer b) (buffer_sections past))
-      → IsShown FitsQ (λ q. cpu_below (below q)) (InSection IsStepwise (map (renamed (renamed_edit edit_in)) acts))
+      → IsObserved FitsP cpu_below (InSection IsStepwise acts) tells home (block_after (nested_edited rules) (inner opening) (Buffer b) (buffer_sections past))
+      → IsObserved FitsQ (λ q. cpu_below (below q)) (InSection IsStepwise (map (renamed (renamed_edit edit_in)) acts))
       (λ q. option_map state_of (tells (below q))) (option_map state_of home)
       (block_after (sleep_edited rules) (inner (viewed state_of opening)) (Buffer b) (buffer_sections (renamed_events edit_in past)))
   nested_shown b tells home shown =
@@ -49,8 +49,8 @@ module _ {P Q E B O : Type 0} (rules : SleepRules E B O) (opening : LockId → O
 
   -- and what is told of a pending queue is told of it here
   pub nested_queues : (d : CpuId) (tells : P → Option (List Tid)) (home : Option (List Tid))
-      → IsShown FitsP cpu_below (InSection IsStepwise acts) tells home (Some (pending_by (moves_in (beneath rules opening) past) d))
-      → IsShown FitsQ (λ q. cpu_below (below q)) (InSection IsStepwise (map (renamed (renamed_edit edit_in)) acts)) (λ q. tells (below q)) home
+      → IsObserved FitsP cpu_below (InSection IsStepwise acts) tells home (Some (pending_by (moves_in (beneath rules opening) past) d))
+      → IsObserved FitsQ (λ q. cpu_below (below q)) (InSection IsStepwise (map (renamed (renamed_edit edit_in)) acts)) (λ q. tells (below q)) home
       (Some (pending_by (moves_in (here rules opening) (renamed_events edit_in past)) d))
   nested_queues d tells home shown =
       same_shown FitsQ (λ q. cpu_below (below q)) (InSection IsStepwise (map (renamed (renamed_edit edit_in)) acts)) (λ q. tells (below q)) home

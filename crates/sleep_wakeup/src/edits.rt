@@ -1,13 +1,13 @@
 //! A section's edit with the waiting lists of its lock.
 
 ghost use Rattle.std.specs.Prelude.{◌≡◌};
-ghost use Rattle.layer_traits.specs.declared.moves.Line.TheVariants.{Sleepers, Receivers, Senders};
-ghost use Rattle.layer_traits.specs.Owned.{line_with};
+ghost use Rattle.layer_traits.specs.declared.moves.WaitList.TheVariants.{Sleepers, Receivers, Senders};
+ghost use Rattle.layer_traits.specs.Owned.{wait_list_with};
 ghost use Rattle.sleep_wakeup.specs.Nested.{state_of};
-ghost use Rattle.layer_traits.specs.Sleeping.{joined, left, line_joined, woken};
+ghost use Rattle.layer_traits.specs.Sleeping.{joined, left, wait_list_joined, woken};
 
 use event_log::{THREADS, Tid};
-use layer_traits::{Edit, Leave, Line, Moves, Outcome, Sleeps, Tray};
+use layer_traits::{Edit, Moves, Outcome, Payload, Sleeps, WaitList, Wake};
 use thread_blocks::ThreadQueue;
 
 /// An edit of the layer above, with what it makes of the waiting lists.
@@ -42,17 +42,17 @@ fn join(queue: &mut ThreadQueue, t: Tid)
 }
 
 /// The waiting list in which `t` stands, if any.
-pub fn line_in_block<B>(block: &SleepBlock<B>, t: Tid) -> Option<Line>
-    ensures { result ≡ line_with t (state_of block.now) }
+pub fn wait_list_in_block<B>(block: &SleepBlock<B>, t: Tid) -> Option<WaitList>
+    ensures { result ≡ wait_list_with t (state_of block.now) }
 {
     if block.sleepers.contains(t) {
-        return Some(Line::Sleepers);
+        return Some(WaitList::Sleepers);
     }
     if block.receivers.contains(t) {
-        return Some(Line::Receivers);
+        return Some(WaitList::Receivers);
     }
     if block.senders.contains(t) {
-        return Some(Line::Senders);
+        return Some(WaitList::Senders);
     }
     None
 }
@@ -60,7 +60,7 @@ pub fn line_in_block<B>(block: &SleepBlock<B>, t: Tid) -> Option<Line>
 /// Lets those go that leave, and gives whom that wakes.
 #[inline(always)]
 fn let_out(
-    leave: Leave,
+    leave: Wake,
     sleepers: &mut ThreadQueue,
     receivers: &mut ThreadQueue,
     senders: &mut ThreadQueue,
@@ -71,15 +71,15 @@ fn let_out(
     ensures senders { senders.new ≡ left Senders leave senders.old }
 {
     match leave {
-        Leave::Nobody => None,
-        Leave::First => sleepers.pop(),
-        Leave::Receiver(u) => {
+        Wake::Nobody => None,
+        Wake::FirstSleeper => sleepers.pop(),
+        Wake::Receiver(u) => {
             if receivers.remove(u) {
                 return Some(u);
             }
             None
         }
-        Leave::Sender(u) => {
+        Wake::Sender(u) => {
             if senders.remove(u) {
                 return Some(u);
             }
@@ -91,21 +91,21 @@ fn let_out(
 /// Puts `t` at the end of the list of this line, if there is one.
 #[inline(always)]
 fn fall_asleep(
-    line: Option<Line>,
+    line: Option<WaitList>,
     t: Tid,
     sleepers: &mut ThreadQueue,
     receivers: &mut ThreadQueue,
     senders: &mut ThreadQueue,
 )
-    ensures sleepers { sleepers.new ≡ line_joined Sleepers line t sleepers.old }
-    ensures receivers { receivers.new ≡ line_joined Receivers line t receivers.old }
-    ensures senders { senders.new ≡ line_joined Senders line t senders.old }
+    ensures sleepers { sleepers.new ≡ wait_list_joined Sleepers line t sleepers.old }
+    ensures receivers { receivers.new ≡ wait_list_joined Receivers line t receivers.old }
+    ensures senders { senders.new ≡ wait_list_joined Senders line t senders.old }
 {
     match line {
         None => {}
-        Some(Line::Sleepers) => join(sleepers, t),
-        Some(Line::Receivers) => join(receivers, t),
-        Some(Line::Senders) => join(senders, t),
+        Some(WaitList::Sleepers) => join(sleepers, t),
+        Some(WaitList::Receivers) => join(receivers, t),
+        Some(WaitList::Senders) => join(senders, t),
     }
 }
 
@@ -118,14 +118,14 @@ impl<E: Sleeps> Edit for SleepEdit<E> {
 
     ghost rules = { nested_rules E.rules };
 
-    ghost carried = { λ section tray. E.carried section.edit tray.message };
+    ghost carried = { λ section payload. E.carried section.edit payload.message };
 
-    ghost brought = { λ outcome tray. E.brought outcome.out tray.message };
+    ghost brought = { λ outcome payload. E.brought outcome.out payload.message };
 
     #[inline(always)]
-    fn apply(&self, block: &mut SleepBlock<E::Block>, tray: &mut Tray) -> Outcome<E::Out> {
+    fn apply(&self, block: &mut SleepBlock<E::Block>, payload: &mut Payload) -> Outcome<E::Out> {
         let first = block.sleepers.front();
-        let out = self.edit.apply(first, &mut block.above, tray);
+        let out = self.edit.apply(first, &mut block.above, payload);
         let line = E::joins(&out);
         let leave = E::leaves(&out);
         let woke = let_out(
@@ -156,7 +156,7 @@ impl<E: Sleeps> Moves for SleepEdit<E> {
     ghost moves = { nested_moves E.rules };
 
     #[inline(always)]
-    fn slept(out: &Outcome<E::Out>) -> Option<Line> {
+    fn slept(out: &Outcome<E::Out>) -> Option<WaitList> {
         E::joins(&out.out)
     }
 

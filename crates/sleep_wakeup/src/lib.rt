@@ -2,11 +2,11 @@
 #![tactic(auto)]
 
 mod blocks;
+mod deferred;
 mod edits;
-mod kept;
 mod sleeper;
 
 pub use blocks::sleep_blocks;
+pub use deferred::DeferredOutcome;
 pub use edits::{SleepBlock, SleepEdit};
-pub use kept::Kept;
 pub use sleeper::Sleeper;

@@ -1,11 +1,11 @@
 //! The layer of sections that put threads to sleep and wake them.
 
-use crate::edits::{SleepEdit, line_in_block};
-use crate::kept::{Kept, done, section, told};
+use crate::deferred::{DeferredOutcome, complete, done, section};
+use crate::edits::{SleepEdit, wait_list_in_block};
 use event_log::{BufId, CpuId, Tid};
 use layer_traits::{
-    Line, Meant, Outcome, OwnedScheds, OwnedSleeps, Pass, SchedCall, SchedLayer, SleepLayer,
-    Sleeps, Tray,
+    Ghost, Outcome, OwnedScheds, OwnedSleeps, Pass, Payload, SchedCall, SchedLayer, SleepLayer,
+    Sleeps, WaitList,
 };
 
 /// One CPU's part of sleep and wakeup over a part of a scheduler (Gu et al., PLDI 2018): the
@@ -14,7 +14,7 @@ use layer_traits::{
 #[derive(Drop)]
 pub struct Sleeper<E: Sleeps, S> {
     lower: S,
-    kept: Option<Kept<E, E::Out>>,
+    deferred: Option<DeferredOutcome<E, E::Out>>,
 }
 
 impl<E: Sleeps, S: SchedLayer<SleepEdit<E>>> SleepLayer<E> for Sleeper<E, S> {
@@ -26,8 +26,8 @@ impl<E: Sleeps, S: SchedLayer<SleepEdit<E>>> SleepLayer<E> for Sleeper<E, S> {
     ghost use Rattle.layer_traits.proofs.KernelRenaming.{known_renamed, proper_renamed, seen_renamed, starts_viewed};
     ghost use Rattle.layer_traits.specs.Sleeping.{NobodySleeps};
     ghost use Rattle.sleep_wakeup.specs.Nested.{edit_in, state_of, states};
-    ghost use Rattle.sleep_wakeup.specs.NestedLaws.{nested_busy, nested_idle, nested_lawful, nested_lists, nested_moving, nested_stands};
-    ghost use Rattle.sleep_wakeup.specs.Parts.{KeptBrings, KeptFits, own_of, under_of};
+    ghost use Rattle.sleep_wakeup.specs.NestedLaws.{nested_busy, nested_idle, nested_lawful, nested_lists, nested_moves_legal, nested_stands};
+    ghost use Rattle.sleep_wakeup.specs.Parts.{DeferredBrings, DeferredFits, own_of, under_of};
 
     type Machine = S::Machine;
 
@@ -45,14 +45,14 @@ impl<E: Sleeps, S: SchedLayer<SleepEdit<E>>> SleepLayer<E> for Sleeper<E, S> {
 
     ghost cpu_of = { λ p. S.cpu_of p.lower };
 
-    ghost own = { λ p. own_of p.kept (S.threads p.lower) };
+    ghost own = { λ p. own_of p.deferred (S.threads p.lower) };
 
-    ghost under_way = { λ p. under_of p.kept (S.under_way p.lower) };
+    ghost under_way = { λ p. under_of p.deferred (S.under_way p.lower) };
 
     ghost is_inside = { λ p. is_some (S.under_way p.lower) };
 
     ghost Fits = { λ p m. S.Fits p.lower m × NobodySleeps (states (inner (S.opening m)))
-        × KeptFits p.kept (S.under_way p.lower) (S.threads p.lower).hand × KeptBrings E.brought p.kept };
+        × DeferredFits p.deferred (S.under_way p.lower) (S.threads p.lower).hand × DeferredBrings E.brought p.deferred };
 
     ghost IsStepwise = { S.IsStepwise };
 
@@ -61,7 +61,7 @@ impl<E: Sleeps, S: SchedLayer<SleepEdit<E>>> SleepLayer<E> for Sleeper<E, S> {
     fn part(cpu: CpuId, homes: &[CpuId], buffers: u8) -> Self {
         Sleeper {
             lower: S::part(cpu, homes, buffers),
-            kept: None,
+            deferred: None,
         }
     }
 
@@ -106,30 +106,30 @@ impl<E: Sleeps, S: SchedLayer<SleepEdit<E>>> SleepLayer<E> for Sleeper<E, S> {
         m: &mut S::Machine,
         buffer: BufId,
         edit: E,
-        tray: &mut Tray,
+        payload: &mut Payload,
     ) -> Option<Outcome<E::Out>> {
         // Two arms in full, as one that polls either call would copy the edit with the other's bytes.
         match self.lower.hand() {
             None => {
-                let meant = Meant::of(&edit);
-                match self.lower.poll(m, section(buffer, edit), tray) {
+                let ghost_of = Ghost::of(&edit);
+                match self.lower.poll(m, section(buffer, edit), payload) {
                     None => None,
                     Some(answer) => {
                         let hand = self.lower.hand();
-                        told(&mut self.kept, hand, buffer, meant, answer, tray)
+                        complete(&mut self.deferred, hand, buffer, ghost_of, answer, payload)
                     }
                 }
             }
             Some(t) => {
-                let meant = Meant::of(&edit);
+                let ghost_of = Ghost::of(&edit);
                 match self
                     .lower
-                    .poll(m, SchedCall::Pass(Pass::MakeReady(t)), tray)
+                    .poll(m, SchedCall::Pass(Pass::MakeReady(t)), payload)
                 {
                     None => None,
                     Some(answer) => {
                         let hand = self.lower.hand();
-                        told(&mut self.kept, hand, buffer, meant, answer, tray)
+                        complete(&mut self.deferred, hand, buffer, ghost_of, answer, payload)
                     }
                 }
             }
@@ -137,8 +137,8 @@ impl<E: Sleeps, S: SchedLayer<SleepEdit<E>>> SleepLayer<E> for Sleeper<E, S> {
     }
 
     #[inline(always)]
-    fn pass(&mut self, m: &mut S::Machine, call: Pass, tray: &mut Tray) -> Option<()> {
-        let answer = self.lower.poll(m, SchedCall::Pass(call), tray);
+    fn pass(&mut self, m: &mut S::Machine, call: Pass, payload: &mut Payload) -> Option<()> {
+        let answer = self.lower.poll(m, SchedCall::Pass(call), payload);
         done(answer)
     }
 
@@ -152,7 +152,7 @@ impl<E: Sleeps, S: SchedLayer<SleepEdit<E>>> SleepLayer<E> for Sleeper<E, S> {
 
     ghost lawful = { λ m c acts. nested_lawful E.rules (S.opening m) (S.seen m) (S.lawful m c acts) };
 
-    ghost moving = { λ m c acts. nested_moving E.rules (S.opening m) (S.seen m) (S.lawful m c acts) };
+    ghost moves_legal = { λ m c acts. nested_moves_legal E.rules (S.opening m) (S.seen m) (S.lawful m c acts) };
 
     ghost known = { λ m c acts. known_renamed edit_in (S.seen m) (S.known m c acts) };
 
@@ -164,7 +164,7 @@ impl<E: Sleeps, S: SchedLayer<SleepEdit<E>>> SleepLayer<E> for Sleeper<E, S> {
 
     ghost busy = { λ p m fits step. nested_busy (S.cpu_of p.lower) (S.acts m) (is_some (S.under_way p.lower)) (S.busy p.lower m fits.0 step) };
 
-    ghost idle = { λ p m fits none. nested_idle p.kept (S.under_way p.lower) none };
+    ghost idle = { λ p m fits none. nested_idle p.deferred (S.under_way p.lower) none };
 }
 
 impl<E: Sleeps, S: OwnedScheds<SleepEdit<E>>> OwnedSleeps<E> for Sleeper<E, S> {
@@ -197,17 +197,17 @@ impl<E: Sleeps, S: OwnedScheds<SleepEdit<E>>> OwnedSleeps<E> for Sleeper<E, S> {
         }
     }
 
-    fn line_in(m: &S::Machine, b: BufId, t: Tid) -> Option<Line> {
+    fn wait_list_in(m: &S::Machine, b: BufId, t: Tid) -> Option<WaitList> {
         match S::block_in(m, b) {
             None => None,
-            Some(block) => line_in_block(block, t),
+            Some(block) => wait_list_in_block(block, t),
         }
     }
 
-    fn line_here(&self, b: BufId, t: Tid) -> Option<Line> {
+    fn wait_list_here(&self, b: BufId, t: Tid) -> Option<WaitList> {
         match self.lower.block_here(b) {
             None => None,
-            Some(block) => line_in_block(block, t),
+            Some(block) => wait_list_in_block(block, t),
         }
     }
 

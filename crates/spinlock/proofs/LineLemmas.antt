@@ -7,95 +7,96 @@ use Rattle.event_log.specs.declared.events.Event.{Event}
 use Rattle.event_log.specs.declared.events.Event.TheVariants.{Draw}
 use Rattle.event_log.specs.declared.grants.GrantEvent.{GrantEvent}
 use Rattle.event_log.specs.declared.grants.GrantEvent.TheVariants.{Take, Peek, Give}
-use Rattle.event_log.specs.Actions.{Waits, Holds, doer, phase, spot_of, act_of, acts_of}
-use Rattle.event_log.specs.Grants.{IsLegalGrants, grant_actor, grant_standing, act_of_grant, acts_of_grants}
+use Rattle.event_log.specs.Actions.{Waits, Holds, cpu_of_action, phase, spot_of, act_of, acts_of}
+use Rattle.event_log.specs.Grants.{IsLegalGrants, cpu_of_grant, grant_lock_phase, act_of_grant, acts_of_grants}
 use Rattle.event_log.specs.History.{Adds, AreOthers, same_cpu}
 use Rattle.event_log.specs.Sections.{block_after, sections_in}
-use Rattle.event_log.specs.WordsLog.{IsLegalWords, Waiting, Inside, actor, standing}
+use Rattle.event_log.specs.WordsLog.{IsLegalWords, Waiting, Holding, cpu_of_event, lock_phase}
 use Rattle.event_log.proofs.GrantWords.{grant_ticket_at, phase_grants}
 use Rattle.event_log.proofs.Same.{same_cpu_self}
-use Rattle.event_log.proofs.Tickets.{doer_is, phase_acts, ticket_at}
-use Rattle.event_log.proofs.Told.{TicketOf, phase_of}
-use Rattle.layer_traits.proofs.OneLockLemmas.{standing_own}
+use Rattle.event_log.proofs.Tickets.{cpu_of_action_is, phase_acts, ticket_at}
+use Rattle.event_log.proofs.Observed.{TicketOf, phase_of}
+use Rattle.layer_traits.proofs.OneLockLemmas.{lock_phase_own}
 use Rattle.layer_traits.proofs.PlanLemmas.{sections_acts}
 use Rattle.layer_traits.specs.declared.edits.Mark.{Mark}
 use Rattle.layer_traits.specs.WordsProtocol.{edit_of, sections}
-use Rattle.spinlock.specs.LineLaws.{waiting_with}
+use Rattle.spinlock.specs.LineLaws.{line_waiting_with}
 
-others_told : {X Y : Type 0} (f : X → Y) (by : X → CpuId) (told_by : Y → CpuId) → ((e : X) → told_by (f e) ≡ by e) → (c : CpuId) (others : List X)
-    → AreOthers by c others → AreOthers told_by c (map f others)
-others_told f by told_by same c [] foreign = tt
-others_told f by told_by same c (e ∷ others) foreign =
-    (subst (λ d. same_cpu d c ≡ false) (sym (same e)) foreign.0, others_told f by told_by same c others foreign.1)
+others_mapped : {X Y : Type 0} (f : X → Y) (by : X → CpuId) (reported_by : Y → CpuId) → ((e : X) → reported_by (f e) ≡ by e) → (c : CpuId) (others : List X)
+    → AreOthers by c others → AreOthers reported_by c (map f others)
+others_mapped f by reported_by same c [] foreign = tt
+others_mapped f by reported_by same c (e ∷ others) foreign =
+    (subst (λ d. same_cpu d c ≡ false) (sym (same e)) foreign.0, others_mapped f by reported_by same c others foreign.1)
 
 -- a history that grew by one event grew by one action, where each event is told as an action of its CPU
-adds_told : {X Y : Type 0} (f : X → Y) (by : X → CpuId) (told_by : Y → CpuId) → ((e : X) → told_by (f e) ≡ by e)
-    → (ActsFor : CpuId → Type 0) (e : X) (old new : List X) → Adds ActsFor by e old new → Adds ActsFor told_by (f e) (map f old) (map f new)
-adds_told f by told_by same ActsFor e old new adds = record {
+adds_mapped : {X Y : Type 0} (f : X → Y) (by : X → CpuId) (reported_by : Y → CpuId) → ((e : X) → reported_by (f e) ≡ by e)
+    → (ActsFor : CpuId → Type 0) (e : X) (old new : List X) → Adds ActsFor by e old new → Adds ActsFor reported_by (f e) (map f old) (map f new)
+adds_mapped f by reported_by same ActsFor e old new adds = record {
   others = map f adds.others;
-  foreign = λ c acts. others_told f by told_by same c adds.others (adds.foreign c acts);
+  foreign = λ c acts. others_mapped f by reported_by same c adds.others (adds.foreign c acts);
   is = ap (map f) adds.is ∙ ap (λ l. f e ∷ l) (map-append f adds.others old);
 }
 
 module _ {E : Type 0} (ActsFor : CpuId → Type 0) (old new : List (Event (Mark E))) where
-  pub event_adds : (e : Event (Mark E)) → Adds ActsFor actor e old new → Adds ActsFor doer (act_of edit_of e) (acts_of edit_of old) (acts_of edit_of new)
-  event_adds e adds = adds_told (act_of edit_of) actor doer (doer_is edit_of) ActsFor e old new adds
+  pub event_adds : (e : Event (Mark E)) → Adds ActsFor cpu_of_event e old new
+      → Adds ActsFor cpu_of_action (act_of edit_of e) (acts_of edit_of old) (acts_of edit_of new)
+  event_adds e adds = adds_mapped (act_of edit_of) cpu_of_event cpu_of_action (cpu_of_action_is edit_of) ActsFor e old new adds
 
   -- a draw gives the ticket of the spot
-  pub draws_spot : (cpu : CpuId) (lock : LockId) (ticket : ℕ) → Adds ActsFor actor (Draw cpu lock ticket) old new → IsLegalWords new
+  pub draws_spot : (cpu : CpuId) (lock : LockId) (ticket : ℕ) → Adds ActsFor cpu_of_event (Draw cpu lock ticket) old new → IsLegalWords new
       → ticket ≡ spot_of cpu (acts_of edit_of new) % 2 ^ 64
   draws_spot cpu lock ticket adds legal =
-      subst (λ s. TicketOf s (spot_of cpu (acts_of edit_of new))) (ap (standing cpu) adds.is ∙ standing_own (Draw cpu lock ticket) (adds.others ++ old))
+      subst (λ s. TicketOf s (spot_of cpu (acts_of edit_of new))) (ap (lock_phase cpu) adds.is ∙ lock_phase_own (Draw cpu lock ticket) (adds.others ++ old))
       (ticket_at edit_of new legal cpu)
 
 -- who waits in the line waits with the ticket of its spot
 pub waits_by_ticket : {E : Type 0} (log : List (Event (Mark E))) → IsLegalWords log → (cpu : CpuId) (lock : LockId) (ticket : ℕ)
-    → phase cpu (acts_of edit_of log) ≡ Waits lock → ticket ≡ spot_of cpu (acts_of edit_of log) % 2 ^ 64 → standing cpu log ≡ Waiting lock ticket
+    → phase cpu (acts_of edit_of log) ≡ Waits lock → ticket ≡ spot_of cpu (acts_of edit_of log) % 2 ^ 64 → lock_phase cpu log ≡ Waiting lock ticket
 waits_by_ticket log legal cpu lock ticket waits is =
-    waiting_with (standing cpu log) lock (spot_of cpu (acts_of edit_of log)) ticket (sym (phase_acts edit_of cpu log)
+    line_waiting_with (lock_phase cpu log) lock (spot_of cpu (acts_of edit_of log)) ticket (sym (phase_acts edit_of cpu log)
     ∙ waits) (ticket_at edit_of log legal cpu) is
 
 -- what a look found, in terms of the line
 pub look_enters : {E B : Type 0} (edited : E → B → B) (opening : LockId → Option B) (log : List (Event (Mark E))) (cpu : CpuId) (lock : LockId) (ticket : ℕ)
     (found : Option B)
-    → MatchOption found (standing cpu log ≡ Waiting lock ticket)
-    (λ block. (standing cpu log ≡ Inside lock ticket) × (block_after edited opening lock (sections log) ≡ Some block))
+    → MatchOption found (lock_phase cpu log ≡ Waiting lock ticket)
+    (λ block. (lock_phase cpu log ≡ Holding lock ticket) × (block_after edited opening lock (sections log) ≡ Some block))
     → MatchOption found (phase cpu (acts_of edit_of log) ≡ Waits lock)
     (λ block. (phase cpu (acts_of edit_of log) ≡ Holds lock) × (block_after edited opening lock (sections_in (acts_of edit_of log)) ≡ Some block))
 look_enters edited opening log cpu lock ticket None waits = phase_acts edit_of cpu log ∙ ap phase_of waits
 look_enters edited opening log cpu lock ticket (Some block) hit =
     (phase_acts edit_of cpu log ∙ ap phase_of hit.0, ap (block_after edited opening lock) (sym (sections_acts log)) ∙ hit.1)
 
-doer_of_grant : {E : Type 0} (e : GrantEvent (Mark E)) → doer (act_of_grant edit_of e) ≡ grant_actor e
-doer_of_grant (Take cpu lock ticket) = refl
-doer_of_grant (Peek cpu lock ticket read) = refl
-doer_of_grant (Give cpu lock mark) = refl
+cpu_of_act_of_grant : {E : Type 0} (e : GrantEvent (Mark E)) → cpu_of_action (act_of_grant edit_of e) ≡ cpu_of_grant e
+cpu_of_act_of_grant (Take cpu lock ticket) = refl
+cpu_of_act_of_grant (Peek cpu lock ticket read) = refl
+cpu_of_act_of_grant (Give cpu lock mark) = refl
 
 module _ {E : Type 0} (ActsFor : CpuId → Type 0) (old new : List (GrantEvent (Mark E))) where
-  pub grant_adds : (e : GrantEvent (Mark E)) → Adds ActsFor grant_actor e old new
-      → Adds ActsFor doer (act_of_grant edit_of e) (acts_of_grants edit_of old) (acts_of_grants edit_of new)
-  grant_adds e adds = adds_told (act_of_grant edit_of) grant_actor doer doer_of_grant ActsFor e old new adds
+  pub grant_adds : (e : GrantEvent (Mark E)) → Adds ActsFor cpu_of_grant e old new
+      → Adds ActsFor cpu_of_action (act_of_grant edit_of e) (acts_of_grants edit_of old) (acts_of_grants edit_of new)
+  grant_adds e adds = adds_mapped (act_of_grant edit_of) cpu_of_grant cpu_of_action cpu_of_act_of_grant ActsFor e old new adds
 
   -- a Take gives the ticket of the spot
-  pub takes_spot : (cpu : CpuId) (lock : LockId) (ticket : ℕ) → Adds ActsFor grant_actor (Take cpu lock ticket) old new → IsLegalGrants new
+  pub takes_spot : (cpu : CpuId) (lock : LockId) (ticket : ℕ) → Adds ActsFor cpu_of_grant (Take cpu lock ticket) old new → IsLegalGrants new
       → ticket ≡ spot_of cpu (acts_of_grants edit_of new) % 2 ^ 64
   takes_spot cpu lock ticket adds legal =
       subst (λ s. TicketOf s (spot_of cpu (acts_of_grants edit_of new)))
-      (ap (grant_standing cpu) adds.is ∙ ap (λ b. if b then Waiting lock ticket else grant_standing cpu (adds.others ++ old)) (same_cpu_self cpu))
+      (ap (grant_lock_phase cpu) adds.is ∙ ap (λ b. if b then Waiting lock ticket else grant_lock_phase cpu (adds.others ++ old)) (same_cpu_self cpu))
       (grant_ticket_at edit_of new legal cpu)
 
 pub waits_by_grant : {E : Type 0} (log : List (GrantEvent (Mark E))) → IsLegalGrants log → (cpu : CpuId) (lock : LockId) (ticket : ℕ)
     → phase cpu (acts_of_grants edit_of log) ≡ Waits lock → ticket ≡ spot_of cpu (acts_of_grants edit_of log) % 2 ^ 64
-    → grant_standing cpu log ≡ Waiting lock ticket
+    → grant_lock_phase cpu log ≡ Waiting lock ticket
 waits_by_grant log legal cpu lock ticket waits is =
-    waiting_with (grant_standing cpu log) lock (spot_of cpu (acts_of_grants edit_of log)) ticket (sym (phase_grants edit_of cpu log) ∙ waits)
+    line_waiting_with (grant_lock_phase cpu log) lock (spot_of cpu (acts_of_grants edit_of log)) ticket (sym (phase_grants edit_of cpu log) ∙ waits)
     (grant_ticket_at edit_of log legal cpu) is
 
 -- what a peek found, in terms of the line
 pub peek_enters : {E B : Type 0} (edited : E → B → B) (opening : LockId → Option B) (log : List (GrantEvent (Mark E))) (cpu : CpuId) (lock : LockId)
     (ticket : ℕ) (found : Option B)
-    → MatchOption found (grant_standing cpu log ≡ Waiting lock ticket)
-    (λ block. (grant_standing cpu log ≡ Inside lock ticket) × (block_after edited opening lock (sections_in (acts_of_grants edit_of log)) ≡ Some block))
+    → MatchOption found (grant_lock_phase cpu log ≡ Waiting lock ticket)
+    (λ block. (grant_lock_phase cpu log ≡ Holding lock ticket) × (block_after edited opening lock (sections_in (acts_of_grants edit_of log)) ≡ Some block))
     → MatchOption found (phase cpu (acts_of_grants edit_of log) ≡ Waits lock)
     (λ block. (phase cpu (acts_of_grants edit_of log) ≡ Holds lock)
     × (block_after edited opening lock (sections_in (acts_of_grants edit_of log)) ≡ Some block))

@@ -3,9 +3,9 @@ use Rattle.std.proofs.Common.{◌≡◌, ◌≢◌, ℕ, ◌%◌, ◌^◌, Bool,
 use Rattle.std.proofs.Common.{refl, ap, sym, ◌∙◌, subst, if◌then◌else◌}
 use Rattle.event_log.specs.declared.ids.CpuId.{CpuId}
 use Rattle.event_log.specs.declared.ids.LockId.{LockId}
-use Rattle.event_log.specs.Actions.{Action, Take, Try, Give, Rests, Waits, Holds, AreLegal, action_in, doer, phase, spot_of}
+use Rattle.event_log.specs.Actions.{Action, Take, Try, Give, Rests, Waits, Holds, AreLegal, action_in, cpu_of_action, phase, spot_of}
 use Rattle.event_log.specs.History.{Adds, Grows, AreOthers, same_cpu, same_lock}
-use Rattle.event_log.specs.Sections.{section_actor, block_after, sections_in}
+use Rattle.event_log.specs.Sections.{cpu_of_section, block_after, sections_in}
 use Rattle.event_log.proofs.Exclusion.{one_holds, phase_own}
 use Rattle.event_log.proofs.Foreign.{phase_others, spot_others, sections_in-append, others_sections_in}
 use Rattle.event_log.proofs.Same.{same_cpu_self, same_cpu_true, same_lock_true}
@@ -14,8 +14,8 @@ use Rattle.layer_traits.specs.Looks.{Tries}
 use Rattle.layer_traits.specs.Plans.{Follows, table_of, at_give, section_plan, answered}
 use Rattle.layer_traits.specs.Protocol.{Rules, StaysAllowed, section}
 use Rattle.layer_traits.specs.Polls.{Polled}
-use Rattle.spinlock.specs.declared.stages.TicketStage.{TicketStage}
-use Rattle.spinlock.specs.declared.stages.TicketStage.TheVariants.{Out, Drawn, Held}
+use Rattle.spinlock.specs.declared.stages.TicketPhase.{TicketPhase}
+use Rattle.spinlock.specs.declared.stages.TicketPhase.TheVariants.{Out, Waiting, Holding}
 use Rattle.spinlock.specs.Stages.{StageFits, hit_by}
 
 cpu_differs : (a b : CpuId) → b ≢ a → same_cpu a b ≡ false
@@ -39,7 +39,7 @@ module _ {E B : Type 0} (edited : E → B → B) (opening : LockId → Option B)
       absurd (cc (other, itself))
 
   -- so no action of others changes the block that the sections leave there
-  block_stays : (more acts : List (Action E)) → AreLegal (more ++ acts) → AreOthers doer cpu more → phase cpu acts ≡ Holds lock
+  block_stays : (more acts : List (Action E)) → AreLegal (more ++ acts) → AreOthers cpu_of_action cpu more → phase cpu acts ≡ Holds lock
       → block_after edited opening lock (sections_in (more ++ acts)) ≡ block_after edited opening lock (sections_in acts)
   block_stays [] acts legal others holds = refl
   block_stays (Take by at ∷ more) acts legal others holds = block_stays more acts legal.1 others.1 holds
@@ -50,7 +50,7 @@ module _ {E B : Type 0} (edited : E → B → B) (opening : LockId → Option B)
 
 module _ {E B O : Type 0} (rules : Rules E B O) (opening : LockId → Option B) where
   -- a section stays allowed after actions of others
-  allowed_stays : (cpu : CpuId) (lock : LockId) (edit : E) (more acts : List (Action E)) → AreOthers doer cpu more
+  allowed_stays : (cpu : CpuId) (lock : LockId) (edit : E) (more acts : List (Action E)) → AreOthers cpu_of_action cpu more
       → StaysAllowed (rules.allowed opening) (sections_in acts) (section cpu lock edit)
       → StaysAllowed (rules.allowed opening) (sections_in (more ++ acts)) (section cpu lock edit)
   allowed_stays cpu lock edit more acts others stays =
@@ -58,24 +58,24 @@ module _ {E B O : Type 0} (rules : Rules E B O) (opening : LockId → Option B) 
       (stays_on (rules.allowed opening) (sections_in more) (sections_in acts) (section cpu lock edit) (others_sections_in cpu more others) stays)
 
   -- a stage fits after actions of others
-  stage_stays : (cpu : CpuId) (stage : TicketStage E B) (more acts : List (Action E)) → AreOthers doer cpu more → AreLegal (more ++ acts)
+  stage_stays : (cpu : CpuId) (stage : TicketPhase E B) (more acts : List (Action E)) → AreOthers cpu_of_action cpu more → AreLegal (more ++ acts)
       → StageFits rules opening acts cpu stage → StageFits rules opening (more ++ acts) cpu stage
   stage_stays cpu Out more acts others legal fits = phase_others cpu more acts others ∙ fits
-  stage_stays cpu (Drawn lock edit ticket) more acts others legal fits = (
+  stage_stays cpu (Waiting lock edit ticket) more acts others legal fits = (
     (phase_others cpu more acts others ∙ fits.0.0, fits.0.1 ∙ ap (λ n. n % 2 ^ 64) (sym (spot_others cpu more acts others))),
     allowed_stays cpu lock edit more acts others fits.1,
     fits.2,
   )
-  stage_stays cpu (Held lock edit block) more acts others legal fits = (
+  stage_stays cpu (Holding lock edit block) more acts others legal fits = (
     phase_others cpu more acts others ∙ fits.0,
     allowed_stays cpu lock edit more acts others fits.1,
     block_stays rules.edited opening cpu lock more acts legal others fits.0 ∙ fits.2,
   )
 
 -- what a CPU that waits makes of another look is what it makes of the look of its poll
-pub hit_found : {E B : Type 0} (lock : LockId) (edit : E) (ticket : ℕ) (found : Option B) (stage : TicketStage E B)
-    → stage ≡ hit_by found (Drawn lock edit ticket)
-    → MatchOption found (stage ≡ Drawn lock edit ticket) (λ block. stage ≡ Held lock edit block)
+pub hit_found : {E B : Type 0} (lock : LockId) (edit : E) (ticket : ℕ) (found : Option B) (stage : TicketPhase E B)
+    → stage ≡ hit_by found (Waiting lock edit ticket)
+    → MatchOption found (stage ≡ Waiting lock edit ticket) (λ block. stage ≡ Holding lock edit block)
 hit_found lock edit ticket None stage is = is
 hit_found lock edit ticket (Some block) stage is = is
 
@@ -103,23 +103,28 @@ stepped opening opening' same ActsFor cpu old new legal =
 module _ {E B O : Type 0} (rules : Rules E B O) (step : Stepped E B) where
   open step use {opening, opening', same, ActsFor, cpu, old, new, legal}
 
-  grown : (a : Action E) (adds : Adds ActsFor doer a old new) → AreLegal (a ∷ (adds.others ++ old))
+  grown : (a : Action E) (adds : Adds ActsFor cpu_of_action a old new) → AreLegal (a ∷ (adds.others ++ old))
   grown a adds = subst (λ l. AreLegal l) adds.is legal
 
   -- the parts of other CPUs still fit
-  pub others_fit : (a : Action E) → doer a ≡ cpu → Adds ActsFor doer a old new → (q : CpuId) (stage : TicketStage E B) → q ≢ cpu → ActsFor q
+  pub others_fit : (a : Action E) → cpu_of_action a ≡ cpu → Adds ActsFor cpu_of_action a old new → (q : CpuId) (stage : TicketPhase E B) → q ≢ cpu → ActsFor q
       → StageFits rules opening old q stage → StageFits rules opening' new q stage
   others_fit a acts adds q stage other acts_q fits =
-      let others : AreOthers doer q (a ∷ adds.others) = (subst (λ c. same_cpu c q ≡ false) (sym acts) (cpu_differs cpu q other), adds.foreign q acts_q) in
+      let others : AreOthers cpu_of_action q (a ∷ adds.others) = (
+        subst (λ c. same_cpu c q ≡ false) (sym acts)
+            (cpu_differs cpu q other),
+        adds.foreign q acts_q,
+      ) in
       subst (λ o. StageFits rules o new q stage) (sym same)
       (subst (λ l. StageFits rules opening l q stage) (sym adds.is) (stage_stays rules opening q stage (a ∷ adds.others) old others (grown a adds) fits))
 
   -- a CPU that joined the line waits with the ticket of its spot
-  pub joined_fits : (lock : LockId) (edit : E) (ticket : ℕ) → Adds ActsFor doer (Take cpu lock) old new → ticket ≡ spot_of cpu new % 2 ^ 64 → ActsFor cpu
+  pub joined_fits : (lock : LockId) (edit : E) (ticket : ℕ) → Adds ActsFor cpu_of_action (Take cpu lock) old new → ticket ≡ spot_of cpu new % 2 ^ 64
+      → ActsFor cpu
       → StaysAllowed (rules.allowed opening) (sections_in old) (section cpu lock edit) → IsSome (opening lock)
-      → StageFits rules opening' new cpu (Drawn lock edit ticket)
+      → StageFits rules opening' new cpu (Waiting lock edit ticket)
   joined_fits lock edit ticket adds has acts stays there =
-      subst (λ o. StageFits rules o new cpu (Drawn lock edit ticket)) (sym same) (
+      subst (λ o. StageFits rules o new cpu (Waiting lock edit ticket)) (sym same) (
         (ap (phase cpu) adds.is ∙ phase_own (Take cpu lock) (adds.others ++ old), has),
         subst (λ l. StaysAllowed (rules.allowed opening) (sections_in l) (section cpu lock edit)) (sym adds.is)
             (allowed_stays rules opening cpu lock edit adds.others old (adds.foreign cpu acts) stays),
@@ -127,11 +132,12 @@ module _ {E B O : Type 0} (rules : Rules E B O) (step : Stepped E B) where
       )
 
   -- a CPU that tried waits on, or holds the lock with the block
-  pub tried_fits : (lock : LockId) (edit : E) (ticket : ℕ) (hit : Bool) → Adds ActsFor doer (Try cpu lock hit) old new → ticket ≡ spot_of cpu old % 2 ^ 64
+  pub tried_fits : (lock : LockId) (edit : E) (ticket : ℕ) (hit : Bool) → Adds ActsFor cpu_of_action (Try cpu lock hit) old new
+      → ticket ≡ spot_of cpu old % 2 ^ 64
       → ActsFor cpu → StaysAllowed (rules.allowed opening) (sections_in old) (section cpu lock edit) → IsSome (opening lock) → (found : Option B)
       → MatchOption found (phase cpu new ≡ Waits lock)
       (λ block. (phase cpu new ≡ Holds lock) × (block_after rules.edited opening' lock (sections_in new) ≡ Some block))
-      → (stage : TicketStage E B) → MatchOption found (stage ≡ Drawn lock edit ticket) (λ block. stage ≡ Held lock edit block)
+      → (stage : TicketPhase E B) → MatchOption found (stage ≡ Waiting lock edit ticket) (λ block. stage ≡ Holding lock edit block)
       → StageFits rules opening' new cpu stage
   tried_fits lock edit ticket hit adds has acts stays there found hits stage is =
       let still : StaysAllowed (rules.allowed opening) (sections_in new) (section cpu lock edit)
@@ -145,22 +151,22 @@ module _ {E B O : Type 0} (rules : Rules E B O) (step : Stepped E B) where
       by_find : (f : Option B)
           → MatchOption f (phase cpu new ≡ Waits lock)
           (λ block. (phase cpu new ≡ Holds lock) × (block_after rules.edited opening' lock (sections_in new) ≡ Some block))
-          → MatchOption f (stage ≡ Drawn lock edit ticket) (λ block. stage ≡ Held lock edit block) → ticket ≡ spot_of cpu new % 2 ^ 64
+          → MatchOption f (stage ≡ Waiting lock edit ticket) (λ block. stage ≡ Holding lock edit block) → ticket ≡ spot_of cpu new % 2 ^ 64
           → StaysAllowed (rules.allowed opening') (sections_in new) (section cpu lock edit) → IsSome (opening' lock) → StageFits rules opening' new cpu stage
       by_find None waits at has' still there' = subst (λ s. StageFits rules opening' new cpu s) (sym at) ((waits, has'), still, there')
       by_find (Some block) hit at has' still there' = subst (λ s. StageFits rules opening' new cpu s) (sym at) (hit.0, still, hit.1)
 
   -- an action that ends no section brings foreign ones alone
   unended : (a : Action E) → ((past : List (Action E)) → sections_in (a ∷ past) ≡ sections_in past)
-      → (adds : Adds ActsFor doer a old new) → sections_in new ≡ sections_in adds.others ++ sections_in old
+      → (adds : Adds ActsFor cpu_of_action a old new) → sections_in new ≡ sections_in adds.others ++ sections_in old
   unended a ends adds = ap sections_in adds.is ∙ (ends (adds.others ++ old) ∙ sections_in-append adds.others old)
 
-  foreign_sections : (more : List (Action E)) → ((c : CpuId) → ActsFor c → AreOthers doer c more)
-      → (c : CpuId) → ActsFor c → AreOthers section_actor c (sections_in more)
+  foreign_sections : (more : List (Action E)) → ((c : CpuId) → ActsFor c → AreOthers cpu_of_action c more)
+      → (c : CpuId) → ActsFor c → AreOthers cpu_of_section c (sections_in more)
   foreign_sections more foreign c acts = others_sections_in c more (foreign c acts)
 
   -- a Take ends no section
-  pub joined_polled : (lock : LockId) (edit : E) → Adds ActsFor doer (Take cpu lock) old new
+  pub joined_polled : (lock : LockId) (edit : E) → Adds ActsFor cpu_of_action (Take cpu lock) old new
       → Polled rules opening ActsFor (section cpu lock edit) None (sections_in old) (sections_in new)
   joined_polled lock edit adds = record {
     others = sections_in adds.others;
@@ -170,7 +176,7 @@ module _ {E B O : Type 0} (rules : Rules E B O) (step : Stepped E B) where
   }
 
   -- nor does a Try
-  pub tried_polled : (lock : LockId) (edit : E) (hit : Bool) → Adds ActsFor doer (Try cpu lock hit) old new
+  pub tried_polled : (lock : LockId) (edit : E) (hit : Bool) → Adds ActsFor cpu_of_action (Try cpu lock hit) old new
       → Polled rules opening ActsFor (section cpu lock edit) None (sections_in old) (sections_in new)
   tried_polled lock edit hit adds = record {
     others = sections_in adds.others;
@@ -180,8 +186,8 @@ module _ {E B O : Type 0} (rules : Rules E B O) (step : Stepped E B) where
   }
 
   -- a Try of a section that waits brings foreign sections alone
-  pub tried_grows : (lock : LockId) (hit : Bool) → Adds ActsFor doer (Try cpu lock hit) old new
-      → Grows ActsFor section_actor (sections_in old) (sections_in new)
+  pub tried_grows : (lock : LockId) (hit : Bool) → Adds ActsFor cpu_of_action (Try cpu lock hit) old new
+      → Grows ActsFor cpu_of_section (sections_in old) (sections_in new)
   tried_grows lock hit adds = record {
     others = sections_in adds.others;
     foreign = foreign_sections adds.others adds.foreign;
@@ -189,13 +195,13 @@ module _ {E B O : Type 0} (rules : Rules E B O) (step : Stepped E B) where
   }
 
   -- while a CPU holds a lock, foreign actions leave its block as it was
-  found_still : (lock : LockId) (edit : E) (adds : Adds ActsFor doer (Give cpu lock edit) old new) → ActsFor cpu → phase cpu old ≡ Holds lock
+  found_still : (lock : LockId) (edit : E) (adds : Adds ActsFor cpu_of_action (Give cpu lock edit) old new) → ActsFor cpu → phase cpu old ≡ Holds lock
       → block_after rules.edited opening lock (sections_in (adds.others ++ old)) ≡ block_after rules.edited opening lock (sections_in old)
   found_still lock edit adds acts holds =
       block_stays rules.edited opening cpu lock adds.others old (grown (Give cpu lock edit) adds).1 (adds.foreign cpu acts) holds
 
   -- a Give ends its section, with the answer of its edit on the block with which the CPU entered
-  pub left_polled : (lock : LockId) (edit : E) (adds : Adds ActsFor doer (Give cpu lock edit) old new) → ActsFor cpu → phase cpu old ≡ Holds lock
+  pub left_polled : (lock : LockId) (edit : E) (adds : Adds ActsFor cpu_of_action (Give cpu lock edit) old new) → ActsFor cpu → phase cpu old ≡ Holds lock
       → (block : B) → block_after rules.edited opening lock (sections_in old) ≡ Some block → (out : O) → out ≡ rules.answer edit block
       → Polled rules opening ActsFor (section cpu lock edit) (Some out) (sections_in old) (sections_in new)
   left_polled lock edit adds acts holds block found out answers =
@@ -209,7 +215,7 @@ module _ {E B O : Type 0} (rules : Rules E B O) (step : Stepped E B) where
       }
 
   -- the action was the one that was due
-  follows : (lock : LockId) (edit : E) (a : Action E) (adds : Adds ActsFor doer a old new) (result : Option O)
+  follows : (lock : LockId) (edit : E) (a : Action E) (adds : Adds ActsFor cpu_of_action a old new) (result : Option O)
       → a ≡ action_in cpu lock edit (adds.others ++ old) (phase cpu (adds.others ++ old))
       → result ≡ at_give (phase cpu (adds.others ++ old))
       (option_map (rules.answer edit) (block_after rules.edited opening lock (sections_in (adds.others ++ old))))
@@ -220,7 +226,7 @@ module _ {E B O : Type 0} (rules : Rules E B O) (step : Stepped E B) where
     moves = ap answered answers;
   }
 
-  pub joined_follows : (lock : LockId) (edit : E) → Adds ActsFor doer (Take cpu lock) old new
+  pub joined_follows : (lock : LockId) (edit : E) → Adds ActsFor cpu_of_action (Take cpu lock) old new
       → Follows ActsFor (table_of rules) opening cpu (section_plan lock edit) old new (answered None)
   joined_follows lock edit adds =
       let past = adds.others ++ old in
@@ -228,7 +234,7 @@ module _ {E B O : Type 0} (rules : Rules E B O) (step : Stepped E B) where
       follows lock edit (Take cpu lock) adds None (ap (action_in cpu lock edit past) (sym rests))
       (ap (λ p. at_give p (option_map (rules.answer edit) (block_after rules.edited opening lock (sections_in past)))) (sym rests))
 
-  pub tried_follows : (lock : LockId) (edit : E) (hit : Bool) → Adds ActsFor doer (Try cpu lock hit) old new
+  pub tried_follows : (lock : LockId) (edit : E) (hit : Bool) → Adds ActsFor cpu_of_action (Try cpu lock hit) old new
       → Follows ActsFor (table_of rules) opening cpu (section_plan lock edit) old new (answered None)
   tried_follows lock edit hit adds =
       let past = adds.others ++ old in
@@ -236,7 +242,7 @@ module _ {E B O : Type 0} (rules : Rules E B O) (step : Stepped E B) where
       follows lock edit (Try cpu lock hit) adds None (ap (Try cpu lock) may.1 ∙ ap (action_in cpu lock edit past) (sym may.0))
       (ap (λ p. at_give p (option_map (rules.answer edit) (block_after rules.edited opening lock (sections_in past)))) (sym may.0))
 
-  pub left_follows : (lock : LockId) (edit : E) (adds : Adds ActsFor doer (Give cpu lock edit) old new) → ActsFor cpu → phase cpu old ≡ Holds lock
+  pub left_follows : (lock : LockId) (edit : E) (adds : Adds ActsFor cpu_of_action (Give cpu lock edit) old new) → ActsFor cpu → phase cpu old ≡ Holds lock
       → (block : B) → block_after rules.edited opening lock (sections_in old) ≡ Some block → (out : O) → out ≡ rules.answer edit block
       → Follows ActsFor (table_of rules) opening cpu (section_plan lock edit) old new (answered (Some out))
   left_follows lock edit adds acts holds block found out answers =
@@ -247,7 +253,7 @@ module _ {E B O : Type 0} (rules : Rules E B O) (step : Stepped E B) where
       ∙ ap (λ p. at_give p (option_map (rules.answer edit) (block_after rules.edited opening lock (sections_in past)))) (sym still))
 
   -- a look is one more Try of a CPU that waits at its lock
-  pub tried_again : (lock : LockId) (hit : Bool) → Adds ActsFor doer (Try cpu lock hit) old new → Tries ActsFor cpu old new
+  pub tried_again : (lock : LockId) (hit : Bool) → Adds ActsFor cpu_of_action (Try cpu lock hit) old new → Tries ActsFor cpu old new
   tried_again lock hit adds =
       let may = (grown (Try cpu lock hit) adds).0 in
       record {

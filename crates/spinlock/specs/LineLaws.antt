@@ -6,13 +6,13 @@ use Rattle.event_log.specs.declared.events.Event.{Event}
 use Rattle.event_log.specs.declared.grants.GrantEvent.{GrantEvent}
 use Rattle.event_log.specs.declared.grants.GrantEvent.TheVariants.{Take, Peek, Give}
 use Rattle.event_log.specs.Actions.{Rests, Waits, Holds, phase, acts_of}
-use Rattle.event_log.specs.Grants.{IsLegalGrants, acts_of_grants, grant_standing}
+use Rattle.event_log.specs.Grants.{IsLegalGrants, acts_of_grants, grant_lock_phase}
 use Rattle.event_log.specs.History.{IsLawful}
 use Rattle.event_log.specs.Sections.{Section, block_after, sections_in}
-use Rattle.event_log.specs.WordsLog.{Standing, Outside, Waiting, Inside, standing}
+use Rattle.event_log.specs.WordsLog.{LockPhase, Idle, Waiting, Holding, lock_phase}
 use Rattle.event_log.proofs.GrantWords.{phase_grants}
 use Rattle.event_log.proofs.Tickets.{phase_acts}
-use Rattle.event_log.proofs.Told.{TicketOf, phase_of}
+use Rattle.event_log.proofs.Observed.{TicketOf, phase_of}
 use Rattle.layer_traits.specs.declared.edits.Mark.{Mark}
 use Rattle.layer_traits.specs.GrantProtocol.{GrantMayCome, SomeoneHasIt, grant_sections}
 use Rattle.layer_traits.specs.OneLock.{SomeoneInside}
@@ -22,36 +22,36 @@ use Rattle.layer_traits.proofs.Seen.{sections_allowed}
 use Rattle.spinlock.specs.OwnedLaws.{SomeoneHolds}
 
 -- who rests is outside
-pub outside_of : (s : Standing) → phase_of s ≡ Rests → s ≡ Outside
-outside_of Outside rests = refl
+pub outside_of : (s : LockPhase) → phase_of s ≡ Rests → s ≡ Idle
+outside_of Idle rests = refl
 outside_of (Waiting lock ticket) rests = absurd (cc rests)
-outside_of (Inside lock ticket) rests = absurd (cc rests)
+outside_of (Holding lock ticket) rests = absurd (cc rests)
 
 -- who waits has the ticket of its spot
-pub waiting_with : (s : Standing) (lock : LockId) (spot ticket : ℕ) → phase_of s ≡ Waits lock → TicketOf s spot → ticket ≡ spot % 2 ^ 64
+pub line_waiting_with : (s : LockPhase) (lock : LockId) (spot ticket : ℕ) → phase_of s ≡ Waits lock → TicketOf s spot → ticket ≡ spot % 2 ^ 64
     → s ≡ Waiting lock ticket
-waiting_with Outside lock spot ticket waits has is = absurd (cc waits)
-waiting_with (Waiting at held) lock spot ticket waits has is =
+line_waiting_with Idle lock spot ticket waits has is = absurd (cc waits)
+line_waiting_with (Waiting at held) lock spot ticket waits has is =
     let one : at ≡ lock = cc waits in
     let same : held ≡ ticket = has ∙ sym is in
     ap (λ l. Waiting l held) one ∙ ap (Waiting lock) same
-waiting_with (Inside at held) lock spot ticket waits has is = absurd (cc waits)
+line_waiting_with (Holding at held) lock spot ticket waits has is = absurd (cc waits)
 
 -- who holds a lock is inside it
-pub inside_of : (s : Standing) (lock : LockId) → phase_of s ≡ Holds lock → (ticket : ℕ) × (s ≡ Inside lock ticket)
-inside_of Outside lock holds = absurd (cc holds)
+pub inside_of : (s : LockPhase) (lock : LockId) → phase_of s ≡ Holds lock → (ticket : ℕ) × (s ≡ Holding lock ticket)
+inside_of Idle lock holds = absurd (cc holds)
 inside_of (Waiting at ticket) lock holds = absurd (cc holds)
-inside_of (Inside at ticket) lock holds = let one : at ≡ lock = cc holds in (ticket, ap (λ l. Inside l ticket) one)
+inside_of (Holding at ticket) lock holds = let one : at ≡ lock = cc holds in (ticket, ap (λ l. Holding l ticket) one)
 
 -- the sections of a words log, as actions, are each allowed
 pub acts_lawful : {E : Type 0} (Allowed : List (Section E) → Section E → Type 0) (log : List (Event (Mark E))) → IsLawful (MayCome Allowed) log
     → IsLawful Allowed (sections_in (acts_of edit_of log))
 acts_lawful Allowed log lawful = subst (IsLawful Allowed) (sections_acts log) (sections_allowed Allowed log lawful)
 
-pub rests_outside : {E : Type 0} (log : List (Event (Mark E))) (c : CpuId) → (standing c log ≡ Outside) ↔ (phase c (acts_of edit_of log) ≡ Rests)
+pub rests_outside : {E : Type 0} (log : List (Event (Mark E))) (c : CpuId) → (lock_phase c log ≡ Idle) ↔ (phase c (acts_of edit_of log) ≡ Rests)
 rests_outside log c = (
   λ outside. phase_acts edit_of c log ∙ ap phase_of outside,
-  λ rests. outside_of (standing c log) (sym (phase_acts edit_of c log) ∙ rests),
+  λ rests. outside_of (lock_phase c log) (sym (phase_acts edit_of c log) ∙ rests),
 )
 
 -- a log of grant words that keeps the protocol is a legal one
@@ -69,10 +69,10 @@ grants_lawful Allowed (Peek cpu lock ticket read ∷ past) lawful = grants_lawfu
 grants_lawful Allowed (Give cpu lock mark ∷ past) lawful = (lawful.0.1, grants_lawful Allowed past lawful.1)
 
 pub rests_outside_grants : {E : Type 0} (log : List (GrantEvent (Mark E))) (c : CpuId)
-    → (grant_standing c log ≡ Outside) ↔ (phase c (acts_of_grants edit_of log) ≡ Rests)
+    → (grant_lock_phase c log ≡ Idle) ↔ (phase c (acts_of_grants edit_of log) ≡ Rests)
 rests_outside_grants log c = (
   λ outside. phase_grants edit_of c log ∙ ap phase_of outside,
-  λ rests. outside_of (grant_standing c log) (sym (phase_grants edit_of c log) ∙ rests),
+  λ rests. outside_of (grant_lock_phase c log) (sym (phase_grants edit_of c log) ∙ rests),
 )
 
 -- what a machine of ticket locks tells of a block, in terms of the line

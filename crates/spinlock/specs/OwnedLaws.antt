@@ -8,11 +8,11 @@ use Rattle.event_log.specs.History.{same_lock}
 use Rattle.event_log.specs.Sections.{block_after, sections_in}
 use Rattle.event_log.proofs.Exclusion.{is_at, knows}
 use Rattle.event_log.proofs.Same.{same_lock_self, same_lock_true}
-use Rattle.layer_traits.specs.Owned.{IsHeld, IsShown}
+use Rattle.layer_traits.specs.Owned.{IsHeld, IsObserved}
 use Rattle.layer_traits.specs.Plans.{is_in_section}
 use Rattle.layer_traits.specs.Protocol.{Rules}
-use Rattle.spinlock.specs.declared.stages.TicketStage.{TicketStage}
-use Rattle.spinlock.specs.declared.stages.TicketStage.TheVariants.{Out, Drawn, Held}
+use Rattle.spinlock.specs.declared.stages.TicketPhase.{TicketPhase}
+use Rattle.spinlock.specs.declared.stages.TicketPhase.TheVariants.{Out, Waiting, Holding}
 use Rattle.spinlock.specs.Stages.{StageFits, held_block}
 
 -- some CPU holds this lock
@@ -30,34 +30,34 @@ module _ {E B O : Type 0} (rules : Rules E B O) (opening : LockId → Option B) 
   truth = block_after rules.edited opening lock (sections_in acts)
 
   -- a block in a stage's hands is the lock's
-  held_is : (cpu : CpuId) (stage : TicketStage E B) (x : B) → StageFits rules opening acts cpu stage → held_block lock stage ≡ Some x → truth ≡ Some x
+  held_is : (cpu : CpuId) (stage : TicketPhase E B) (x : B) → StageFits rules opening acts cpu stage → held_block lock stage ≡ Some x → truth ≡ Some x
   held_is cpu Out x fits is = absurd cc
-  held_is cpu (Drawn at edit ticket) x fits is = absurd cc
-  held_is cpu (Held at edit block) x fits is = go (same_lock lock at) refl is
+  held_is cpu (Waiting at edit ticket) x fits is = absurd cc
+  held_is cpu (Holding at edit block) x fits is = go (same_lock lock at) refl is
     where
       go : (b : Bool) → same_lock lock at ≡ b → (if b then Some block else None) ≡ Some x → truth ≡ Some x
       go true same is = subst (λ l. block_after rules.edited opening l (sections_in acts) ≡ Some block) (sym (same_lock_true lock at same)) fits.2 ∙ is
       go false other is = absurd cc
 
   -- a CPU that holds a lock has its block in its hands
-  holder_has : (cpu : CpuId) → phase cpu acts ≡ Holds lock → (stage : TicketStage E B) → StageFits rules opening acts cpu stage
+  holder_has : (cpu : CpuId) → phase cpu acts ≡ Holds lock → (stage : TicketPhase E B) → StageFits rules opening acts cpu stage
       → held_block lock stage ≡ None → ⊥
   holder_has cpu holds Out fits none = absurd (cc (holds, fits))
-  holder_has cpu holds (Drawn at edit drawn) fits none = let waits = fits.0.0 in absurd (cc (holds, waits))
-  holder_has cpu holds (Held at edit block) fits none =
+  holder_has cpu holds (Waiting at edit drawn) fits none = let waits = fits.0.0 in absurd (cc (holds, waits))
+  holder_has cpu holds (Holding at edit block) fits none =
       let one : lock ≡ at = ap (lock_held lock) (sym holds ∙ fits.0) in
       let same : same_lock lock at ≡ true = subst (λ l. same_lock lock l ≡ true) one (same_lock_self lock) in
       let held : Some block ≡ None = sym (ap (λ b. if b then Some block else None) same) ∙ none in
       absurd (cc held)
 
   -- what the machine and the stages tell is the truth
-  pub spinner_shows : {P : Type 0} (ActsFor : CpuId → Type 0) (cpu_of : P → CpuId) (stage_of : P → TicketStage E B) (home : Option B)
+  pub spin_lock_shows : {P : Type 0} (ActsFor : CpuId → Type 0) (cpu_of : P → CpuId) (stage_of : P → TicketPhase E B) (home : Option B)
       → AreLegal acts
       → MatchOption home (SomeoneHolds lock acts) (λ block. block_after rules.edited opening lock (sections_in acts) ≡ Some block)
-      → IsShown (λ (p : P). ActsFor (cpu_of p) × StageFits rules opening acts (cpu_of p) (stage_of p)) cpu_of
+      → IsObserved (λ (p : P). ActsFor (cpu_of p) × StageFits rules opening acts (cpu_of p) (stage_of p)) cpu_of
       (λ d. Unit {0} × (is_in_section (phase d acts) ≡ true)) (λ p. held_block lock (stage_of p)) home
       (block_after rules.edited opening lock (sections_in acts))
-  spinner_shows {P} ActsFor cpu_of stage_of home legal tells = record {
+  spin_lock_shows {P} ActsFor cpu_of stage_of home legal tells = record {
     by_machine = by_machine home tells;
     by_part = λ p x fits is. held_is (cpu_of p) (stage_of p) x fits.1 is;
     somewhere = somewhere home tells;

@@ -5,20 +5,20 @@ use Rattle.event_log.specs.declared.ids.LockId.{LockId}
 use Rattle.event_log.specs.Actions.{Action, AreLegal, phase}
 use Rattle.event_log.specs.History.{IsLawful}
 use Rattle.event_log.specs.Sections.{sections_in}
-use Rattle.event_log.proofs.Foreign.{doers_known, sections_in_known}
+use Rattle.event_log.proofs.Foreign.{cpus_of_actions_known, sections_in_known}
 use Rattle.layer_traits.specs.Plans.{is_in_section}
 use Rattle.layer_traits.specs.Protocol.{Rules, IsKnown}
 use Rattle.spinlock.specs.Stages.{StageFits, stage_section}
-use Rattle.spinlock.specs.declared.stages.TicketStage.{TicketStage}
-use Rattle.spinlock.specs.declared.stages.TicketStage.TheVariants.{Out, Drawn, Held}
+use Rattle.spinlock.specs.declared.stages.TicketPhase.{TicketPhase}
+use Rattle.spinlock.specs.declared.stages.TicketPhase.TheVariants.{Out, Waiting, Holding}
 
 -- a section is under way exactly while the CPU waits at a lock or holds one
-pub stage_busy : {E B O : Type 0} (rules : Rules E B O) (opening : LockId → Option B) (acts : List (Action E)) (cpu : CpuId) (stage : TicketStage E B)
+pub stage_busy : {E B O : Type 0} (rules : Rules E B O) (opening : LockId → Option B) (acts : List (Action E)) (cpu : CpuId) (stage : TicketPhase E B)
     → StageFits rules opening acts cpu stage → is_some (stage_section cpu stage) ≡ is_in_section (phase cpu acts)
 stage_busy rules opening acts cpu Out fits = sym (ap is_in_section fits)
-stage_busy rules opening acts cpu (Drawn lock edit ticket) fits = sym (ap is_in_section fits.0.0)
-stage_busy rules opening acts cpu (Held lock edit block) fits = sym (ap is_in_section fits.0)
+stage_busy rules opening acts cpu (Waiting lock edit ticket) fits = sym (ap is_in_section fits.0.0)
+stage_busy rules opening acts cpu (Holding lock edit block) fits = sym (ap is_in_section fits.0)
 
 -- the sections of legal actions are of CPUs that a machine may have
 pub sections_known : {E : Type 0} (acts : List (Action E)) → AreLegal acts → IsLawful IsKnown (sections_in acts)
-sections_known acts legal = sections_in_known acts (doers_known acts legal)
+sections_known acts legal = sections_in_known acts (cpus_of_actions_known acts legal)

@@ -6,36 +6,36 @@ use Rattle.event_log.specs.Actions.{Action, Rests, Waits, Holds, phase, spot_of}
 use Rattle.event_log.specs.History.{same_lock}
 use Rattle.event_log.specs.Sections.{Section, block_after, sections_in}
 use Rattle.layer_traits.specs.Protocol.{Rules, StaysAllowed, section}
-use Rattle.spinlock.specs.declared.stages.TicketStage.{TicketStage}
-use Rattle.spinlock.specs.declared.stages.TicketStage.TheVariants.{Out, Drawn, Held}
+use Rattle.spinlock.specs.declared.stages.TicketPhase.{TicketPhase}
+use Rattle.spinlock.specs.declared.stages.TicketPhase.TheVariants.{Out, Waiting, Holding}
 
 -- the section that is under way at a stage
-abbrev pub stage_section : {E B : Type 0} → CpuId → TicketStage E B → Option (Section E)
+abbrev pub stage_section : {E B : Type 0} → CpuId → TicketPhase E B → Option (Section E)
 stage_section cpu Out = None
-stage_section cpu (Drawn lock edit ticket) = Some (section cpu lock edit)
-stage_section cpu (Held lock edit block) = Some (section cpu lock edit)
+stage_section cpu (Waiting lock edit ticket) = Some (section cpu lock edit)
+stage_section cpu (Holding lock edit block) = Some (section cpu lock edit)
 
 -- the stage after another look of a CPU that waits with a ticket: a look that found this block hits
-abbrev pub hit_by : {E B : Type 0} → Option B → TicketStage E B → TicketStage E B
+abbrev pub hit_by : {E B : Type 0} → Option B → TicketPhase E B → TicketPhase E B
 hit_by None stage = stage
 hit_by (Some block) Out = Out
-hit_by (Some block) (Drawn lock edit ticket) = Held lock edit block
-hit_by (Some block) (Held lock edit old) = Held lock edit old
+hit_by (Some block) (Waiting lock edit ticket) = Holding lock edit block
+hit_by (Some block) (Holding lock edit old) = Holding lock edit old
 
 -- the block of a lock that a stage has in its hands
-abbrev pub held_block : {E B : Type 0} → LockId → TicketStage E B → Option B
+abbrev pub held_block : {E B : Type 0} → LockId → TicketPhase E B → Option B
 held_block lock Out = None
-held_block lock (Drawn at edit ticket) = None
-held_block lock (Held at edit block) = if same_lock lock at then Some block else None
+held_block lock (Waiting at edit ticket) = None
+held_block lock (Holding at edit block) = if same_lock lock at then Some block else None
 
 -- the stage is where the actions leave the CPU: at rest, waiting with the ticket of its spot, or with the lock that it holds and the
 -- lock's block in its hands; the lock that waits is there, and the section under way stays allowed
-abbrev pub StageFits : {E B O : Type 0} → Rules E B O → (LockId → Option B) → List (Action E) → CpuId → TicketStage E B → Type 0
+abbrev pub StageFits : {E B O : Type 0} → Rules E B O → (LockId → Option B) → List (Action E) → CpuId → TicketPhase E B → Type 0
 StageFits rules opening acts cpu Out = phase cpu acts ≡ Rests
-StageFits rules opening acts cpu (Drawn lock edit ticket) =
+StageFits rules opening acts cpu (Waiting lock edit ticket) =
     ((phase cpu acts ≡ Waits lock) × (ticket ≡ spot_of cpu acts % 2 ^ 64))
     × StaysAllowed (rules.allowed opening) (sections_in acts) (section cpu lock edit) × IsSome (opening lock)
-StageFits rules opening acts cpu (Held lock edit block) =
+StageFits rules opening acts cpu (Holding lock edit block) =
     (phase cpu acts ≡ Holds lock)
     × StaysAllowed (rules.allowed opening) (sections_in acts) (section cpu lock edit)
     × (block_after rules.edited opening lock (sections_in acts) ≡ Some block)

@@ -2,13 +2,13 @@
 //! serves both kinds of words.
 #![tactic(auto)]
 
-mod lock_line;
-mod owned_lock_line;
+mod fair_lock;
+mod owned_fair_lock;
 mod sections;
-mod spinner;
+mod spin_lock;
 mod stages;
 
-pub use lock_line::{ByGrant, ByTicket, LockLine};
-pub use owned_lock_line::OwnedLockLine;
+pub use fair_lock::{FairLock, UsesGrants, UsesTickets};
+pub use owned_fair_lock::OwnedFairLock;
 pub use sections::whole;
-pub use spinner::{Grant, Spinner, Ticket};
+pub use spin_lock::{Grant, SpinLock, Ticket};

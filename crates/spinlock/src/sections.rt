@@ -6,10 +6,10 @@ ghost use Rattle.event_log.specs.Actions.{Take, Try, Give, Rests, phase, next_ac
 ghost use Rattle.layer_traits.specs.Plans.{table_of, reply};
 ghost use Rattle.layer_traits.specs.Protocol.{section, StaysAllowed};
 ghost use Rattle.layer_traits.specs.Polls.{MayPoll, Answers};
-ghost use Rattle.layer_traits.specs.declared.trays.Tray.{Tray};
+ghost use Rattle.layer_traits.specs.declared.payloads.Payload.{Payload};
 
 use event_log::{CPUS, LockId};
-use layer_traits::{Edit, LockLayer, Tray};
+use layer_traits::{Edit, LockLayer, Payload};
 
 /// One poll on a machine whose holder acts for every CPU: exactly the action that is due.
 fn alone<E: Edit, L: LockLayer<E>>(
@@ -17,7 +17,7 @@ fn alone<E: Edit, L: LockLayer<E>>(
     m: &mut L::Machine,
     lock: LockId,
     edit: E,
-    tray: &mut Tray,
+    payload: &mut Payload,
 ) -> Option<E::Out>
     requires stepwise { L.IsStepwise }
     requires all { (c : CpuId) → c.0 < CPUS → L.ActsFor m.old c }
@@ -25,7 +25,7 @@ fn alone<E: Edit, L: LockLayer<E>>(
     requires lock { IsSome (L.opening m.old lock) }
     requires room { 0 < L.room m.old }
     requires call { MayPoll (E.rules.allowed (L.opening m.old)) (L.seen m.old) (L.under_way part.old) (section (L.cpu_of part.old) lock edit) }
-    requires carried { E.carried edit tray.old }
+    requires carried { E.carried edit payload.old }
     ensures acts { L.acts m.new ≡ next_action (L.cpu_of part.old) lock edit (L.acts m.old) ∷ L.acts m.old }
     ensures answer { result ≡ reply (table_of E.rules) (L.opening m.old) (L.cpu_of part.old) lock edit (L.acts m.old) }
     ensures all { (c : CpuId) → c.0 < CPUS → L.ActsFor m.new c }
@@ -37,18 +37,18 @@ fn alone<E: Edit, L: LockLayer<E>>(
     ensures outside { OnSome result (L.IsOutside m.new (L.cpu_of part.old)) }
     ensures others { (p : L) → L.cpu_of p ≢ L.cpu_of part.old → L.Fits p m.old → L.Fits p m.new }
 {
-    part.poll(m, lock, edit, tray)
+    part.poll(m, lock, edit, payload)
 }
 
 /// Does the whole section of `edit` at `lock`, where no CPU has a ticket and the holder of the
 /// machine acts for every CPU: three polls, of which the first draws, the second hits and the third
-/// frees with the answer. The edit is one that puts nothing: whatever lies in the tray, it holds that.
+/// frees with the answer. The edit is one that puts nothing: whatever lies in the payload, it holds that.
 pub fn whole<E: Edit + Copy, L: LockLayer<E>>(
     part: &mut L,
     m: &mut L::Machine,
     lock: LockId,
     edit: E,
-    tray: &mut Tray,
+    payload: &mut Payload,
 ) -> E::Out
     requires stepwise { L.IsStepwise }
     requires all { (c : CpuId) → c.0 < CPUS → L.ActsFor m.old c }
@@ -58,7 +58,7 @@ pub fn whole<E: Edit + Copy, L: LockLayer<E>>(
     requires room { 2 < L.room m.old }
     requires call { L.under_way part.old ≡ None }
     requires allowed { StaysAllowed (E.rules.allowed (L.opening m.old)) (L.seen m.old) (section (L.cpu_of part.old) lock edit) }
-    requires carried { (t : Tray) → E.carried edit t }
+    requires carried { (t : Payload) → E.carried edit t }
     ensures seen { L.seen m.new ≡ section (L.cpu_of part.old) lock edit ∷ L.seen m.old }
     ensures answer { Answers E.rules (L.opening m.old) (L.seen m.old) (section (L.cpu_of part.old) lock edit) result }
     ensures acts { L.acts m.new
@@ -73,7 +73,7 @@ pub fn whole<E: Edit + Copy, L: LockLayer<E>>(
     ensures outside { L.IsOutside m.new (L.cpu_of part.old) }
     ensures others { (p : L) → L.cpu_of p ≢ L.cpu_of part.old → L.Fits p m.old → L.Fits p m.new }
 {
-    let _drawn = alone(part, m, lock, edit, tray);
-    let _looked = alone(part, m, lock, edit, tray);
-    alone(part, m, lock, edit, tray).unwrap()
+    let _drawn = alone(part, m, lock, edit, payload);
+    let _looked = alone(part, m, lock, edit, payload);
+    alone(part, m, lock, edit, payload).unwrap()
 }

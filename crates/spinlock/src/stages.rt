@@ -7,11 +7,11 @@ use std::mem;
 
 /// How far a CPU's section has come, with what the CPU keeps of it.
 #[derive(Drop)]
-pub enum TicketStage<E, B> {
+pub enum TicketPhase<E, B> {
     /// No section is under way.
     Out,
     /// A ticket is drawn, and no look has hit.
-    Drawn {
+    Waiting {
         /// The lock.
         lock: LockId,
         /// The section's edit.
@@ -20,7 +20,7 @@ pub enum TicketStage<E, B> {
         ticket: u64,
     },
     /// A look has hit, and the block is in the CPU's hands.
-    Held {
+    Holding {
         /// The lock.
         lock: LockId,
         /// The section's edit, still to be done.
@@ -30,7 +30,7 @@ pub enum TicketStage<E, B> {
     },
 }
 
-impl<E: Drop, B: Drop> TicketStage<E, B> {
+impl<E: Drop, B: Drop> TicketPhase<E, B> {
     ghost use Rattle.spinlock.specs.Stages.{hit_by};
 
     /// Goes on after a look of a CPU that waits: a look that found this block hits, and the edit
@@ -40,9 +40,9 @@ impl<E: Drop, B: Drop> TicketStage<E, B> {
         ensures { self.new ≡ hit_by found self.old }
     {
         if let Some(block) = found {
-            match mem::replace(self, TicketStage::Out) {
-                TicketStage::Drawn { lock, edit, .. } => {
-                    *self = TicketStage::Held { lock, edit, block };
+            match mem::replace(self, TicketPhase::Out) {
+                TicketPhase::Waiting { lock, edit, .. } => {
+                    *self = TicketPhase::Holding { lock, edit, block };
                 }
                 other => *self = other,
             }
@@ -50,7 +50,7 @@ impl<E: Drop, B: Drop> TicketStage<E, B> {
     }
 }
 
-impl<E, B> TicketStage<E, B> {
+impl<E, B> TicketPhase<E, B> {
     ghost use Rattle.spinlock.specs.Stages.{held_block};
 
     /// The block of `lock`, where it is in the CPU's hands.
@@ -58,7 +58,7 @@ impl<E, B> TicketStage<E, B> {
         ensures { option_map (λ block. block.now) result ≡ held_block lock self.now }
     {
         match self {
-            TicketStage::Held {
+            TicketPhase::Holding {
                 lock: at,
                 block,
                 ..

@@ -16,7 +16,7 @@ use Rattle.table_machine.specs.declared.views.View.{View}
 use Rattle.table_machine.specs.Kinds.{WordKind, IsWordKind}
 use Rattle.table_machine.specs.Layout.{AreFirst}
 use Rattle.table_machine.specs.Views.{viewed, mine, owner, cpus_from, Has, Owns, Fits, Sees}
-use Rattle.table_machine.specs.Rule.{Kept, fresh_home}
+use Rattle.table_machine.specs.Rule.{TableInv, fresh_home}
 use Rattle.table_machine.proofs.Logs.{ends_nil}
 use Rattle.table_machine.proofs.Seeing.{sees_less, sees_dealt, owns_viewed, fits_viewed}
 use Rattle.table_machine.proofs.Showing.{shows_opening}
@@ -42,7 +42,7 @@ module _ (K : WordKind) {E B O : Type 0} (R : Rules E B O) (n : ℕ) (start : Li
   }
 
   -- the first CPU of the dealer's seat goes to a seat of its own
-  pub deals_split : (id k m : ℕ) → Splits (Kept K R n start) id (viewed start (cpus_from k (suc m)) []) (viewed start (cpus_from (k + 1) m) [])
+  pub deals_split : (id k m : ℕ) → Splits (TableInv K R n start) id (viewed start (cpus_from k (suc m)) []) (viewed start (cpus_from (k + 1) m) [])
       (mine start (record { 0 = k }) [])
   deals_split id k m s kept at =
       let v : View E B = viewed start (cpus_from k (suc m)) [] in
@@ -72,10 +72,10 @@ module _ (K : WordKind) {E B O : Type 0} (R : Rules E B O) (n : ℕ) (start : Li
       }
 
   -- the table that `open` makes
-  pub kept_opening : IsWordKind K → (words : List ℕ) (homes : List (Home E B)) → n ≤ CPUS → AreFirst K.opens (length start) (length start) words
+  pub opening_inv : IsWordKind K → (words : List ℕ) (homes : List (Home E B)) → n ≤ CPUS → AreFirst K.opens (length start) (length start) words
       → homes ≡ map (λ (o : LockId × B). fresh_home o.1) start
-      → Kept K R n start (opening words homes (viewed start (cpus_from 0 n) []))
-  kept_opening law words homes few first are =
+      → TableInv K R n start (opening words homes (viewed start (cpus_from 0 n) []))
+  opening_inv law words homes few first are =
       let v : View E B = viewed start (cpus_from 0 n) [] in
       record {
         few = few;

@@ -6,10 +6,10 @@ use Rattle.event_log.specs.declared.ids.LockId.{LockId}
 use Rattle.event_log.specs.declared.events.Event.{Event}
 use Rattle.event_log.specs.declared.events.Event.TheVariants.{Draw, Look, Free}
 use Rattle.event_log.specs.History.{same_cpu, same_lock, AreOthers, own_events}
-use Rattle.event_log.specs.WordsLog.{actor, standing, IsLegalWords, Inside}
+use Rattle.event_log.specs.WordsLog.{cpu_of_event, lock_phase, IsLegalWords, Holding}
 use Rattle.event_log.specs.Sections.{block_after}
 use Rattle.event_log.proofs.Same.{same_lock_true}
-use Rattle.event_log.proofs.Foreign.{others_both, standing_others, own_others}
+use Rattle.event_log.proofs.Foreign.{others_both, lock_phase_others, own_others}
 use Rattle.layer_traits.specs.declared.edits.Mark.{Mark}
 use Rattle.layer_traits.specs.WordsProtocol.{sections}
 use Rattle.table_machine.specs.Views.{EndsWith, IsSince}
@@ -17,21 +17,21 @@ use Rattle.event_log.proofs.Tickets.{one_inside}
 
 module _ {M : Type 0} where
   -- events of others put on top of what stood since
-  pub since_more : (c : CpuId) (es log seen : List (Event M)) → AreOthers actor c es → IsSince log seen c → IsSince (es ++ log) seen c
+  pub since_more : (c : CpuId) (es log seen : List (Event M)) → AreOthers cpu_of_event c es → IsSince log seen c → IsSince (es ++ log) seen c
   since_more c es log seen h s = record {
     more = es ++ s.more;
     is = ap (λ l. es ++ l) s.is ∙ sym (append_assoc es s.more seen);
-    others = others_both actor c es s.more h s.others;
+    others = others_both cpu_of_event c es s.more h s.others;
   }
 
   pub since_all : (c : CpuId) (log : List (Event M)) → IsSince log log c
   since_all c log = record { more = []; is = refl; others = tt }
 
-  pub standing_since : (c : CpuId) (log seen : List (Event M)) → IsSince log seen c → standing c log ≡ standing c seen
-  standing_since c log seen s = ap (standing c) s.is ∙ standing_others c s.more seen s.others
+  pub lock_phase_since : (c : CpuId) (log seen : List (Event M)) → IsSince log seen c → lock_phase c log ≡ lock_phase c seen
+  lock_phase_since c log seen s = ap (lock_phase c) s.is ∙ lock_phase_others c s.more seen s.others
 
-  pub own_since : (c : CpuId) (log seen : List (Event M)) → IsSince log seen c → own_events actor c log ≡ own_events actor c seen
-  own_since c log seen s = ap (own_events actor c) s.is ∙ own_others actor c s.more seen s.others
+  pub own_since : (c : CpuId) (log seen : List (Event M)) → IsSince log seen c → own_events cpu_of_event c log ≡ own_events cpu_of_event c seen
+  own_since c log seen s = ap (own_events cpu_of_event c) s.is ∙ own_others cpu_of_event c s.more seen s.others
 
   -- a log goes on from nothing
   pub ends_nil : (log : List (Event M)) → EndsWith log []
@@ -49,25 +49,25 @@ module _ {M : Type 0} where
 module _ {E B : Type 0} (edited : E → B → B) (opening : LockId → Option B) where
   -- what a Free by another CPU does to a lock that this CPU is inside: nothing, since it is not of that lock
   inside_step : (c d : CpuId) (lock at : LockId) (mark : Mark E) (s t : ℕ) (log : List (Event (Mark E))) → IsLegalWords log
-      → standing d log ≡ Inside at s → standing c log ≡ Inside lock t → same_cpu d c ≡ false
+      → lock_phase d log ≡ Holding at s → lock_phase c log ≡ Holding lock t → same_cpu d c ≡ false
       → block_after edited opening lock (sections (Free d at mark ∷ log)) ≡ block_after edited opening lock (sections log)
   inside_step c d lock at mark s t log legal di ci other = go (same_lock lock at) refl
     where
       go : (b : Bool) → same_lock lock at ≡ b → block_after edited opening lock (sections (Free d at mark ∷ log))
           ≡ block_after edited opening lock (sections log)
       go true same = absurd (
-          let here : standing d log ≡ Inside lock s = subst (λ l. standing d log ≡ Inside l s) (sym (same_lock_true lock at same)) di in
+          let here : lock_phase d log ≡ Holding lock s = subst (λ l. lock_phase d log ≡ Holding l s) (sym (same_lock_true lock at same)) di in
           let one : same_cpu d c ≡ true = eq-eqb d.0 c.0 (ap (λ x. x.0) (one_inside log legal d c lock s t here ci)) in cc)
       go false same = ap (λ b. if b then option_map (edited mark.edit) (block_after edited opening lock (sections log))
           else block_after edited opening lock (sections log)) same
 
   -- while a CPU is inside, nobody else edits the block
-  pub inside_keeps : (c : CpuId) (lock : LockId) (t : ℕ) (more log : List (Event (Mark E))) → IsLegalWords (more ++ log) → AreOthers actor c more
-      → standing c log ≡ Inside lock t
+  pub inside_keeps : (c : CpuId) (lock : LockId) (t : ℕ) (more log : List (Event (Mark E))) → IsLegalWords (more ++ log) → AreOthers cpu_of_event c more
+      → lock_phase c log ≡ Holding lock t
       → block_after edited opening lock (sections (more ++ log)) ≡ block_after edited opening lock (sections log)
   inside_keeps c lock t [] log legal h ci = refl
   inside_keeps c lock t (Draw d l k ∷ more) log legal h ci = inside_keeps c lock t more log legal.1 h.1 ci
   inside_keeps c lock t (Look d l k r ∷ more) log legal h ci = inside_keeps c lock t more log legal.1 h.1 ci
   inside_keeps c lock t (Free d l m ∷ more) log legal h ci =
-      inside_step c d lock l m legal.0.0 t (more ++ log) legal.1 legal.0.1 (standing_others c more log h.1 ∙ ci) h.0
+      inside_step c d lock l m legal.0.0 t (more ++ log) legal.1 legal.0.1 (lock_phase_others c more log h.1 ∙ ci) h.0
       ∙ inside_keeps c lock t more log legal.1 h.1 ci

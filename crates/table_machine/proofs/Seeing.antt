@@ -8,7 +8,7 @@ use Rattle.event_log.specs.declared.ids.CpuId.{CpuId}
 use Rattle.event_log.specs.declared.ids.LockId.{LockId}
 use Rattle.event_log.specs.declared.events.Event.{Event}
 use Rattle.event_log.specs.History.{AreOthers}
-use Rattle.event_log.specs.WordsLog.{actor}
+use Rattle.event_log.specs.WordsLog.{cpu_of_event}
 use Rattle.layer_traits.specs.declared.edits.Mark.{Mark}
 use Rattle.table_machine.specs.declared.views.View.{View}
 use Rattle.table_machine.specs.Views.{viewed, Has, Owns, Fits, Sees}
@@ -35,7 +35,7 @@ module _ {E B : Type 0} where
   pub fits_viewed : (start : List (LockId × B)) (cpus : List CpuId) (log : List (Event (Mark E))) → Fits log (viewed start cpus log)
   fits_viewed start cpus log = record { front = ends_all log; told = ends_nil log; cpus = λ c has. since_all c log; lent = λ c has. absurd has }
 
-  pub fits_more : (es log : List (Event (Mark E))) (v : View E B) → ((c : CpuId) → Owns c v → AreOthers actor c es) → Fits log v → Fits (es ++ log) v
+  pub fits_more : (es log : List (Event (Mark E))) (v : View E B) → ((c : CpuId) → Owns c v → AreOthers cpu_of_event c es) → Fits log v → Fits (es ++ log) v
   fits_more es log v h f = record {
     front = ends_more es log v.seen f.front;
     told = ends_more es log v.told f.told;
@@ -51,11 +51,11 @@ module _ {E B : Type 0} where
 module _ {E B : Type 0} (n : ℕ) (views : List (View E B)) (log : List (Event (Mark E))) (s : Sees n views log) (id : ℕ) (v : View E B)
     (here : get_elem? views id ≡ some v) where
   -- an event of a CPU of this seat is no other seat's
-  pub one_event : (e : Event (Mark E)) → Owns (actor e) v → (c : CpuId) → s.seat_of c.0 ≢ id → AreOthers actor c (e ∷ [])
-  one_event e owns c away = (ne_eqb (actor e).0 c.0 (λ same. away (ap s.seat_of (sym same) ∙ sym (s.apart id v (actor e) here owns))), tt)
+  pub one_event : (e : Event (Mark E)) → Owns (cpu_of_event e) v → (c : CpuId) → s.seat_of c.0 ≢ id → AreOthers cpu_of_event c (e ∷ [])
+  one_event e owns c away = (ne_eqb (cpu_of_event e).0 c.0 (λ same. away (ap s.seat_of (sym same) ∙ sym (s.apart id v (cpu_of_event e) here owns))), tt)
 
   -- the seat sees the log with these events of its own CPUs, and owns no more than it did
-  pub sees_moved : (es : List (Event (Mark E))) → ((c : CpuId) → s.seat_of c.0 ≢ id → AreOthers actor c es)
+  pub sees_moved : (es : List (Event (Mark E))) → ((c : CpuId) → s.seat_of c.0 ≢ id → AreOthers cpu_of_event c es)
       → (start : List (LockId × B)) (cpus : List CpuId) → ((c : CpuId) → Has c cpus → Owns c v)
       → Sees n (set views id (viewed start cpus (es ++ log))) (es ++ log)
   sees_moved es others start cpus less =

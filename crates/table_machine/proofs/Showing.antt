@@ -28,8 +28,8 @@ pub words_apart : (k a b : ℕ) → a ≢ b → word_at k a ≢ word_at k b
 words_apart k a b other same = other (omega arith)
 
 -- two locks whose `next` lies at one place have one rank
-pub next_tells : (j k : ℕ) → word_at j 0 ≡ word_at k 0 → j ≡ k
-next_tells j k same = omega arith
+pub next_reads : (j k : ℕ) → word_at j 0 ≡ word_at k 0 → j ≡ k
+next_reads j k same = omega arith
 
 pub zeros_at : (n i : ℕ) → ◌≡◌ {A = ℕ} (get_or (replicate n 0) i 0) 0
 zeros_at zero i = refl

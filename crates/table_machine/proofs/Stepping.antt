@@ -13,12 +13,12 @@ use Rattle.event_log.specs.declared.ids.LockId.{LockId}
 use Rattle.event_log.specs.declared.events.Event.{Event}
 use Rattle.event_log.specs.declared.events.Event.TheVariants.{Draw, Look, Free}
 use Rattle.event_log.specs.History.{AreOthers, IsLawful}
-use Rattle.event_log.specs.WordsLog.{IsLegalWords, actor, draws, frees, standing, Outside, Waiting, Inside}
+use Rattle.event_log.specs.WordsLog.{IsLegalWords, cpu_of_event, draws, frees, lock_phase, Idle, Waiting, Holding}
 use Rattle.event_log.specs.Actions.{Holds, acts_of, gives as given_times, phase, spot_of}
 use Rattle.event_log.proofs.Exclusion.{is_holding, line_at}
 use Rattle.event_log.proofs.Same.{same_lock_self}
 use Rattle.event_log.proofs.Tickets.{gives_acts, legal_acts, phase_acts, ticket_at}
-use Rattle.event_log.proofs.Told.{TicketOf, phase_of}
+use Rattle.event_log.proofs.Observed.{TicketOf, phase_of}
 use Rattle.event_log.specs.Sections.{block_after}
 use Rattle.layer_traits.specs.declared.edits.Mark.{Mark}
 use Rattle.layer_traits.specs.Protocol.{Rules, StaysAllowed, section}
@@ -29,23 +29,23 @@ use Rattle.table_machine.specs.declared.views.View.{View}
 use Rattle.table_machine.specs.Kinds.{WordKind, IsWordKind, given_on}
 use Rattle.table_machine.specs.Layout.{rank_of, word_at, words_of}
 use Rattle.table_machine.specs.Views.{viewed, mine, Has, IsSince}
-use Rattle.table_machine.specs.Rule.{home_block, ShowsLock, Shows, Kept}
+use Rattle.table_machine.specs.Rule.{home_block, ShowsLock, Shows, TableInv}
 use Rattle.table_machine.specs.Plays.{Moves, Drew, Looked, Freed, Met, Entered}
-use Rattle.layer_traits.proofs.OneLockLemmas.{standing_own, drew, missed, hit, freed, hit_finds, serves_exactly}
+use Rattle.layer_traits.proofs.OneLockLemmas.{lock_phase_own, drew, missed, hit, freed, hit_finds, serves_exactly}
 use Rattle.layer_traits.proofs.Seen.{words_legal, sections_allowed, sections-append, others_sections}
-use Rattle.table_machine.proofs.Logs.{standing_since, inside_keeps, ends_nil}
+use Rattle.table_machine.proofs.Logs.{lock_phase_since, inside_keeps, ends_nil}
 use Rattle.table_machine.proofs.Finding.{rank_below}
 use Rattle.table_machine.proofs.Seeing.{sees_moved, sees_less, sees_new, sees_join, one_event, owns_viewed}
 use Rattle.table_machine.proofs.Showing.{home_of, shows_step, within_table, written}
 
 module _ (K : WordKind) {E B O : Type 0} (R : Rules E B O) (n : ℕ) (start : List (LockId × B)) where
   -- what the step of one CPU knows of the log when it comes
-  pub record KnownSeat (s : State (Home E B) (View E B)) (kept : Kept K R n start s) (id : ℕ) (cpu : CpuId) (seen : List (Event (Mark E))) : Type 0 where
+  pub record KnownSeat (s : State (Home E B) (View E B)) (kept : TableInv K R n start s) (id : ℕ) (cpu : CpuId) (seen : List (Event (Mark E))) : Type 0 where
     pub at : get_elem? s.views id ≡ some (mine start cpu seen)
     pub since : IsSince kept.log seen cpu
     pub below : cpu.0 < n
 
-  known_seat : (s : State (Home E B) (View E B)) (kept : Kept K R n start s) (id : ℕ) (cpu : CpuId) (seen : List (Event (Mark E)))
+  known_seat : (s : State (Home E B) (View E B)) (kept : TableInv K R n start s) (id : ℕ) (cpu : CpuId) (seen : List (Event (Mark E)))
       → get_elem? s.views id ≡ some (mine start cpu seen) → KnownSeat s kept id cpu seen
   known_seat s kept id cpu seen at = record {
     at = at;
@@ -54,37 +54,38 @@ module _ (K : WordKind) {E B O : Type 0} (R : Rules E B O) (n : ℕ) (start : Li
   }
 
   -- an event of this CPU that may come, with words and slots that show it, keeps the rule
-  after_event : (s : State (Home E B) (View E B)) (kept : Kept K R n start s) (id : ℕ) (e : Event (Mark E)) (seen : List (Event (Mark E)))
-      → KnownSeat s kept id (actor e) seen → MayCome (R.allowed (opened start)) kept.log e
+  after_event : (s : State (Home E B) (View E B)) (kept : TableInv K R n start s) (id : ℕ) (e : Event (Mark E)) (seen : List (Event (Mark E)))
+      → KnownSeat s kept id (cpu_of_event e) seen → MayCome (R.allowed (opened start)) kept.log e
       → (words : List ℕ) (homes : List (Maybe (Home E B))) → Shows K R.edited start words homes (e ∷ kept.log)
-      → Kept K R n start (record { words = words; homes = homes; views = set s.views id (mine start (actor e) (e ∷ kept.log)) })
+      → TableInv K R n start (record { words = words; homes = homes; views = set s.views id (mine start (cpu_of_event e) (e ∷ kept.log)) })
   after_event s kept id e seen knows may words homes shows = record {
     few = kept.few;
     log = e ∷ kept.log;
     legal = (may, kept.legal);
     shows = shows;
-    sees = sees_moved n s.views kept.log kept.sees id (mine start (actor e) seen) knows.at (e ∷ [])
-        (one_event n s.views kept.log kept.sees id (mine start (actor e) seen) knows.at e (inl (inl refl))) start (actor e ∷ []) (λ c has. inl has);
-    rest = λ c large. (ne_eqb (actor e).0 c.0 (λ same. let below : (actor e).0 < n = knows.below in omega arith), kept.rest c large);
+    sees = sees_moved n s.views kept.log kept.sees id (mine start (cpu_of_event e) seen) knows.at (e ∷ [])
+        (one_event n s.views kept.log kept.sees id (mine start (cpu_of_event e) seen) knows.at e (inl (inl refl))) start (cpu_of_event e ∷ [])
+        (λ c has. inl has);
+    rest = λ c large. (ne_eqb (cpu_of_event e).0 c.0 (λ same. let below : (cpu_of_event e).0 < n = knows.below in omega arith), kept.rest c large);
   }
 
   -- and the CPU's view moves to it
-  after_move : (s : State (Home E B) (View E B)) (kept : Kept K R n start s) (id : ℕ) (e : Event (Mark E)) (seen : List (Event (Mark E)))
-      → KnownSeat s kept id (actor e) seen → MayCome (R.allowed (opened start)) kept.log e
-      → Moves R (mine start (actor e) seen) (mine start (actor e) (e ∷ kept.log)) e
+  after_move : (s : State (Home E B) (View E B)) (kept : TableInv K R n start s) (id : ℕ) (e : Event (Mark E)) (seen : List (Event (Mark E)))
+      → KnownSeat s kept id (cpu_of_event e) seen → MayCome (R.allowed (opened start)) kept.log e
+      → Moves R (mine start (cpu_of_event e) seen) (mine start (cpu_of_event e) (e ∷ kept.log)) e
   after_move s kept id e seen knows may = record {
     view = refl;
     adds = record {
       others = knows.since.more;
-      foreign = λ c same. subst (λ d. AreOthers actor d knows.since.more) (sym same) knows.since.others;
+      foreign = λ c same. subst (λ d. AreOthers cpu_of_event d knows.since.more) (sym same) knows.since.others;
       is = ap (λ l. e ∷ l) knows.since.is;
     };
     legal = (may, kept.legal);
   }
 
   pub draws_allowed : IsWordKind K → (slots id : ℕ) (cpu : CpuId) (seen : List (Event (Mark E))) (held : List (ℕ × Home E B)) (lock : LockId)
-      → IsSome (opened start lock) → standing cpu seen ≡ Outside
-      → Allows (Kept K R n start) slots id (mine start cpu seen, held) (word_at (rank_of start lock) 0) (λ m. (m + 1) % 2 ^ 64)
+      → IsSome (opened start lock) → lock_phase cpu seen ≡ Idle
+      → Allows (TableInv K R n start) slots id (mine start cpu seen, held) (word_at (rank_of start lock) 0) (λ m. (m + 1) % 2 ^ 64)
       (Drew R (step slots (word_at (rank_of start lock) 0) 1 0 none) (mine start cpu seen, held))
   draws_allowed law slots id cpu seen held lock exists out s kept count at fits =
       let k : ℕ = rank_of start lock in
@@ -93,7 +94,7 @@ module _ (K : WordKind) {E B O : Type 0} (R : Rules E B O) (n : ℕ) (start : Li
       let x : ℕ = (t + 1) % 2 ^ 64 in
       let e : Event (Mark E) = Draw cpu lock t in
       let now = known_seat s kept id cpu seen at in
-      let outside : standing cpu kept.log ≡ Outside = standing_since cpu kept.log seen now.since ∙ out in
+      let outside : lock_phase cpu kept.log ≡ Idle = lock_phase_since cpu kept.log seen now.since ∙ out in
       let old = kept.shows.each lock exists in
       let few : cpu.0 < CPUS = lt_of_lt_of_le now.below kept.few in
       let next_is : t ≡ draws lock kept.log % 2 ^ 64 = law.next_is (draws lock kept.log) (frees lock kept.log) (words_of s.words k) old.words_are in
@@ -118,18 +119,19 @@ module _ (K : WordKind) {E B O : Type 0} (R : Rules E B O) (n : ℕ) (start : Li
       )
 
   -- what a look of a CPU that waits may do: in the log it reads how often the lock was freed
-  look_may : (s : State (Home E B) (View E B)) (kept : Kept K R n start s) (id : ℕ) (cpu : CpuId) (seen : List (Event (Mark E))) (lock : LockId) (ticket : ℕ)
-      → KnownSeat s kept id cpu seen → standing cpu seen ≡ Waiting lock ticket
+  look_may : (s : State (Home E B) (View E B)) (kept : TableInv K R n start s) (id : ℕ) (cpu : CpuId) (seen : List (Event (Mark E))) (lock : LockId)
+      (ticket : ℕ)
+      → KnownSeat s kept id cpu seen → lock_phase cpu seen ≡ Waiting lock ticket
       → MayCome (R.allowed (opened start)) kept.log (Look cpu lock ticket (frees lock kept.log % 2 ^ 64))
-  look_may s kept id cpu seen lock ticket now waits = ((standing_since cpu kept.log seen now.since ∙ waits, refl), tt)
+  look_may s kept id cpu seen lock ticket now waits = ((lock_phase_since cpu kept.log seen now.since ∙ waits, refl), tt)
 
   -- the number found tells whether the look hits
-  found_tells : IsWordKind K → (s : State (Home E B) (View E B)) (kept : Kept K R n start s) (id : ℕ) (cpu : CpuId) (seen : List (Event (Mark E)))
-      (lock : LockId) (ticket : ℕ) → IsSome (opened start lock) → KnownSeat s kept id cpu seen → standing cpu seen ≡ Waiting lock ticket
+  found_reads : IsWordKind K → (s : State (Home E B) (View E B)) (kept : TableInv K R n start s) (id : ℕ) (cpu : CpuId) (seen : List (Event (Mark E)))
+      (lock : LockId) (ticket : ℕ) → IsSome (opened start lock) → KnownSeat s kept id cpu seen → lock_phase cpu seen ≡ Waiting lock ticket
       → K.serves ticket (slice_index s.words (word_at (rank_of start lock) (K.looks_at ticket))) ≡ (frees lock kept.log % 2 ^ 64 == ticket)
-  found_tells law s kept id cpu seen lock ticket exists now waits =
+  found_reads law s kept id cpu seen lock ticket exists now waits =
       serves_exactly kept.log (words_legal (R.allowed (opened start)) kept.log kept.legal) cpu lock ticket
-      (standing_since cpu kept.log seen now.since ∙ waits) (K.serves ticket (slice_index s.words (word_at (rank_of start lock) (K.looks_at ticket))))
+      (lock_phase_since cpu kept.log seen now.since ∙ waits) (K.serves ticket (slice_index s.words (word_at (rank_of start lock) (K.looks_at ticket))))
       (λ spot. law.hits (draws lock kept.log) (frees lock kept.log) (words_of s.words (rank_of start lock)) (kept.shows.each lock exists).words_are
       ticket spot)
 
@@ -141,12 +143,12 @@ module _ (K : WordKind) {E B O : Type 0} (R : Rules E B O) (n : ℕ) (start : Li
   -- what the step leaves, as the call of `load` asks it
   abbrev After : ℕ → Me (Home E B) (View E B) → ℕ → (ℕ → ℕ) → (ℕ → Me (Home E B) (View E B) → Type 0) → State (Home E B) (View E B) → Type 0
   After id me i f told s = (w : View E B) × (a : Act (Home E B)) × Rattle.atomic_table.specs.Table.Valid s.homes me.1 a
-      × Kept K R n start (stepped s i (f (slice_index s.words i)) id me.1 w a)
+      × TableInv K R n start (stepped s i (f (slice_index s.words i)) id me.1 w a)
       × told (slice_index s.words i) (w, Rattle.atomic_table.specs.Table.carried_after me.1 a)
 
-  look_misses : IsWordKind K → (s : State (Home E B) (View E B)) (kept : Kept K R n start s) (id slots : ℕ) (cpu : CpuId) (seen : List (Event (Mark E)))
+  look_misses : IsWordKind K → (s : State (Home E B) (View E B)) (kept : TableInv K R n start s) (id slots : ℕ) (cpu : CpuId) (seen : List (Event (Mark E)))
       (lock : LockId) (ticket : ℕ) (exists : IsSome (opened start lock))
-      → KnownSeat s kept id cpu seen → standing cpu seen ≡ Waiting lock ticket
+      → KnownSeat s kept id cpu seen → lock_phase cpu seen ≡ Waiting lock ticket
       → K.serves ticket (slice_index s.words (word_at (rank_of start lock) (K.looks_at ticket))) ≡ false
       → After id (mine start cpu seen, []) (word_at (rank_of start lock) (K.looks_at ticket)) (λ m. m) (Looked K R (mine start cpu seen, [])) s
   look_misses law s kept id slots cpu seen lock ticket exists now waits other =
@@ -156,7 +158,7 @@ module _ (K : WordKind) {E B O : Type 0} (R : Rules E B O) (n : ℕ) (start : Li
       let read : ℕ = frees lock kept.log % 2 ^ 64 in
       let e : Event (Mark E) = Look cpu lock ticket read in
       let may : MayCome (R.allowed (opened start)) kept.log e = look_may s kept id cpu seen lock ticket now waits in
-      let misses : (read == ticket) ≡ false = sym (found_tells law s kept id cpu seen lock ticket exists now waits) ∙ other in
+      let misses : (read == ticket) ≡ false = sym (found_reads law s kept id cpu seen lock ticket exists now waits) ∙ other in
       let old = kept.shows.each lock exists in
       let here : ShowsLock K R.edited start s.words s.homes (e ∷ kept.log) lock = record {
         home = old.home;
@@ -178,15 +180,15 @@ module _ (K : WordKind) {E B O : Type 0} (R : Rules E B O) (n : ℕ) (start : Li
           moves = after_move s kept id e seen now may;
           finds = inl (record {
             other = other;
-            waits = standing_own e kept.log ∙ ap (λ b. if b then Inside lock ticket else Waiting lock ticket) misses;
+            waits = lock_phase_own e kept.log ∙ ap (λ b. if b then Holding lock ticket else Waiting lock ticket) misses;
             held = refl;
           });
         },
       )
 
-  look_hits : IsWordKind K → (s : State (Home E B) (View E B)) (kept : Kept K R n start s) (id slots : ℕ) (cpu : CpuId) (seen : List (Event (Mark E)))
+  look_hits : IsWordKind K → (s : State (Home E B) (View E B)) (kept : TableInv K R n start s) (id slots : ℕ) (cpu : CpuId) (seen : List (Event (Mark E)))
       (lock : LockId) (ticket : ℕ) (exists : IsSome (opened start lock))
-      → KnownSeat s kept id cpu seen → standing cpu seen ≡ Waiting lock ticket
+      → KnownSeat s kept id cpu seen → lock_phase cpu seen ≡ Waiting lock ticket
       → K.serves ticket (slice_index s.words (word_at (rank_of start lock) (K.looks_at ticket))) ≡ true
       → After id (mine start cpu seen, []) (word_at (rank_of start lock) (K.looks_at ticket)) (λ m. m) (Looked K R (mine start cpu seen, [])) s
   look_hits law s kept id slots cpu seen lock ticket exists now waits served =
@@ -196,7 +198,7 @@ module _ (K : WordKind) {E B O : Type 0} (R : Rules E B O) (n : ℕ) (start : Li
       let read : ℕ = frees lock kept.log % 2 ^ 64 in
       let e : Event (Mark E) = Look cpu lock ticket read in
       let may : MayCome (R.allowed (opened start)) kept.log e = look_may s kept id cpu seen lock ticket now waits in
-      let same : (read == ticket) ≡ true = sym (found_tells law s kept id cpu seen lock ticket exists now waits) ∙ served in
+      let same : (read == ticket) ≡ true = sym (found_reads law s kept id cpu seen lock ticket exists now waits) ∙ served in
       let legal : IsLawful (MayCome (R.allowed (opened start))) (e ∷ kept.log) = (may, kept.legal) in
       let old = kept.shows.each lock exists in
       let found = home_of old.home
@@ -229,7 +231,7 @@ module _ (K : WordKind) {E B O : Type 0} (R : Rules E B O) (n : ℕ) (start : Li
           moves = after_move s kept id e seen now may;
           finds = inr (record {
             same = served;
-            inside = standing_own e kept.log ∙ ap (λ b. if b then Inside lock ticket else Waiting lock ticket) same;
+            inside = lock_phase_own e kept.log ∙ ap (λ b. if b then Holding lock ticket else Waiting lock ticket) same;
             home = y;
             block = b;
             held = refl;
@@ -240,8 +242,8 @@ module _ (K : WordKind) {E B O : Type 0} (R : Rules E B O) (n : ℕ) (start : Li
       )
 
   pub looks_allowed : IsWordKind K → (slots id : ℕ) (cpu : CpuId) (seen : List (Event (Mark E))) (lock : LockId) (ticket : ℕ) → IsSome (opened start lock)
-      → standing cpu seen ≡ Waiting lock ticket
-      → Allows (Kept K R n start) slots id (mine start cpu seen, []) (word_at (rank_of start lock) (K.looks_at ticket)) (λ m. m)
+      → lock_phase cpu seen ≡ Waiting lock ticket
+      → Allows (TableInv K R n start) slots id (mine start cpu seen, []) (word_at (rank_of start lock) (K.looks_at ticket)) (λ m. m)
       (Looked K R (mine start cpu seen, []))
   looks_allowed law slots id cpu seen lock ticket exists waits s kept count at fits =
       go (K.serves ticket (slice_index s.words (word_at (rank_of start lock) (K.looks_at ticket)))) refl
@@ -252,7 +254,7 @@ module _ (K : WordKind) {E B O : Type 0} (R : Rules E B O) (n : ℕ) (start : Li
       go false other = look_misses law s kept id slots cpu seen lock ticket exists (known_seat s kept id cpu seen at) waits other
 
   -- the CPU inside a lock has the ticket that is served
-  served_ticket : (log : List (Event (Mark E))) → IsLegalWords log → (cpu : CpuId) (lock : LockId) (ticket : ℕ) → standing cpu log ≡ Inside lock ticket
+  served_ticket : (log : List (Event (Mark E))) → IsLegalWords log → (cpu : CpuId) (lock : LockId) (ticket : ℕ) → lock_phase cpu log ≡ Holding lock ticket
       → ticket ≡ frees lock log % 2 ^ 64
   served_ticket log legal cpu lock ticket inside =
       let acts = legal_acts edit_of log legal in
@@ -267,11 +269,11 @@ module _ (K : WordKind) {E B O : Type 0} (R : Rules E B O) (n : ℕ) (start : Li
   pub frees_allowed : IsWordKind K → (slots id : ℕ) (cpu : CpuId) (seen : List (Event (Mark E))) (lock : LockId) (ticket : ℕ) (edit : E) (block : B)
       (y : Home E B)
       → IsSome (opened start lock)
-      → standing cpu seen ≡ Inside lock ticket → y.block ≡ Some block → y.edit ≡ Some edit
+      → lock_phase cpu seen ≡ Holding lock ticket → y.block ≡ Some block → y.edit ≡ Some edit
       → option_map (R.edited edit) (block_after R.edited (opened start) lock (sections seen)) ≡ Some block
       → StaysAllowed (R.allowed (opened start)) (sections seen) (section cpu lock edit)
       → (f : ℕ → ℕ) → ((m : ℕ) → f m ≡ given_on (K.stores ticket) m)
-      → Allows (Kept K R n start) slots id (mine start cpu seen, (rank_of start lock, y) ∷ []) (word_at (rank_of start lock) (K.gives_at ticket)) f
+      → Allows (TableInv K R n start) slots id (mine start cpu seen, (rank_of start lock, y) ∷ []) (word_at (rank_of start lock) (K.gives_at ticket)) f
       (λ _. Freed R (mine start cpu seen, (rank_of start lock, y) ∷ []))
   frees_allowed law slots id cpu seen lock ticket edit block y exists in_lock has_block has_edit is_edited stays f f_is s kept count at fits =
       let k : ℕ = rank_of start lock in
@@ -282,7 +284,7 @@ module _ (K : WordKind) {E B O : Type 0} (R : Rules E B O) (n : ℕ) (start : Li
       let now = known_seat s kept id cpu seen at in
       let more : List (Event (Mark E)) = now.since.more in
       let Allowed = R.allowed (opened start) in
-      let inside : standing cpu kept.log ≡ Inside lock ticket = standing_since cpu kept.log seen now.since ∙ in_lock in
+      let inside : lock_phase cpu kept.log ≡ Holding lock ticket = lock_phase_since cpu kept.log seen now.since ∙ in_lock in
       let legal_log = words_legal Allowed kept.log kept.legal in
       let sections_are : sections kept.log ≡ sections more ++ sections seen = ap sections now.since.is ∙ sections-append more seen in
       let allowed : Allowed (sections kept.log) (section cpu lock edit) = subst (λ l. Allowed l (section cpu lock edit)) (sym sections_are)
@@ -338,7 +340,7 @@ module _ (K : WordKind) {E B O : Type 0} (R : Rules E B O) (n : ℕ) (start : Li
 
   -- a load by which a seat takes in what it was told
   pub meets_allowed : (slots id : ℕ) (v : View E B) (held : List (ℕ × Home E B)) → v.start ≡ start
-      → Allows (Kept K R n start) slots id (v, held) 0 (λ m. m) (Met R (step slots 0 0 0 none) (v, held))
+      → Allows (TableInv K R n start) slots id (v, held) 0 (λ m. m) (Met R (step slots 0 0 0 none) (v, held))
   meets_allowed slots id v held started s kept count at fits =
       let same : set s.words 0 (slice_index s.words 0) ≡ s.words = set-get_or s.words 0 0 in
       let w : View E B = viewed v.start (v.lent ++ v.cpus) kept.log in (
@@ -363,7 +365,7 @@ module _ (K : WordKind) {E B O : Type 0} (R : Rules E B O) (n : ℕ) (start : Li
 
   -- a new seat that acts for nobody
   pub enters : (slots : ℕ) (first : View E B) → first.start ≡ start
-      → Enters (Kept K R n start) slots 0 (λ m w. Entered (step slots 0 0 0 none) (first, []) m (w, []))
+      → Enters (TableInv K R n start) slots 0 (λ m w. Entered (step slots 0 0 0 none) (first, []) m (w, []))
   enters slots first started s kept count fits =
       let w : View E B = viewed first.start [] [] in (
         w,
@@ -381,7 +383,7 @@ module _ (K : WordKind) {E B O : Type 0} (R : Rules E B O) (n : ℕ) (start : Li
       )
 
   -- notes of what a seat has seen
-  pub notes_split : (id : ℕ) (v : View E B) → Splits (Kept K R n start) id v v (viewed v.start [] v.seen)
+  pub notes_split : (id : ℕ) (v : View E B) → Splits (TableInv K R n start) id v v (viewed v.start [] v.seen)
   notes_split id v s kept at =
       let fits = kept.sees.fits id v at in
       let s' = sees_less n s.views kept.log kept.sees id v at v fits (λ c o. o) in
@@ -397,7 +399,7 @@ module _ (K : WordKind) {E B O : Type 0} (R : Rules E B O) (n : ℕ) (start : Li
       }
 
   pub notes_join : (id : ℕ) (v : View E B) (other : ℕ) (w : View E B)
-      → Joins (Kept K R n start) id v other w (record { start = v.start; cpus = v.cpus; seen = v.seen; told = w.seen; lent = w.cpus }) (viewed [] [] [])
+      → Joins (TableInv K R n start) id v other w (record { start = v.start; cpus = v.cpus; seen = v.seen; told = w.seen; lent = w.cpus }) (viewed [] [] [])
   notes_join id v other w s kept at apart there = record {
     few = kept.few;
     log = kept.log;

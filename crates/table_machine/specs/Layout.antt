@@ -33,8 +33,8 @@ pub record AreFirst (opens locks done : ℕ) (words : List ℕ) : Type 0 where
   pub zeros : (rank word : ℕ) → done ≤ rank → rank < locks → word ≤ CPUS → words_of words rank word ≡ 0
 
 -- the row tells the rank of each lock of the opening
-abbrev pub TellsRanks : {B : Type 0} → List ℕ → List (LockId × B) → Type 0
-TellsRanks ranks start = (lock : LockId) → IsSome (opened start lock) → slice_index ranks (lock_number lock) ≡ rank_of start lock
+abbrev pub AreRanks : {B : Type 0} → List ℕ → List (LockId × B) → Type 0
+AreRanks ranks start = (lock : LockId) → IsSome (opened start lock) → slice_index ranks (lock_number lock) ≡ rank_of start lock
 
 -- a table is laid out for these locks: their words, their slots, and the row of their ranks
 pub record IsLaidOut {B : Type 0} (start : List (LockId × B)) (words slots : ℕ) (ranks : List ℕ) (locks : List LockId) : Type 0 where
@@ -42,5 +42,5 @@ pub record IsLaidOut {B : Type 0} (start : List (LockId × B)) (words slots : �
   pub slots_are : slots ≡ length start
   pub small : word_count (length start) < 2 ^ 64
   pub row : length ranks ≡ LOCKS
-  pub tells : TellsRanks ranks start
+  pub ranks_hold : AreRanks ranks start
   pub locks_are : locks ≡ map (λ (o : LockId × B). o.0) start

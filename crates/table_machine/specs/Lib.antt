@@ -4,4 +4,4 @@ pub mod Layout
 pub mod Views
 pub mod Rule
 pub mod Plays
-pub mod Desks
+pub mod SeatViews

@@ -5,7 +5,7 @@ use Rattle.event_log.specs.declared.ids.LockId.{LockId}
 use Rattle.event_log.specs.declared.events.Event.{Event}
 use Rattle.event_log.specs.declared.events.Event.TheVariants.{Draw, Look, Free}
 use Rattle.event_log.specs.History.{IsLawful, Adds}
-use Rattle.event_log.specs.WordsLog.{actor, standing, Waiting, Inside}
+use Rattle.event_log.specs.WordsLog.{cpu_of_event, lock_phase, Waiting, Holding}
 use Rattle.layer_traits.specs.declared.edits.Mark.{Mark}
 use Rattle.event_log.specs.Sections.{block_after}
 use Rattle.layer_traits.specs.Protocol.{Rules}
@@ -20,7 +20,7 @@ use Rattle.table_machine.specs.Views.{viewed, mine, owner, IsCpu, Fits}
 -- events of others, then this one; the whole is legal
 pub record Moves {E B O : Type 0} (rules : Rules E B O) (v w : View E B) (e : Event (Mark E)) : Type 0 where
   pub view : w ≡ mine v.start (owner v.cpus) w.seen
-  pub adds : Adds (IsCpu (owner v.cpus)) actor e v.seen w.seen
+  pub adds : Adds (IsCpu (owner v.cpus)) cpu_of_event e v.seen w.seen
   pub legal : IsLawful (MayCome (rules.allowed (opened v.start))) w.seen
 
 -- a Draw of the lock whose word `next` this is
@@ -36,14 +36,14 @@ pub record Drew {E B O : Type 0} (rules : Rules E B O) (at : Step (Home E B)) (v
 pub record Misses (kind : WordKind) {E B : Type 0} (lock : LockId) (ticket : ℕ) (v : Me (Home E B) (View E B)) (found : ℕ)
     (w : Me (Home E B) (View E B)) : Type 0 where
   pub other : kind.serves ticket found ≡ false
-  pub waits : standing (owner v.0.cpus) w.0.seen ≡ Waiting lock ticket
+  pub waits : lock_phase (owner v.0.cpus) w.0.seen ≡ Waiting lock ticket
   pub held : w.1 ≡ v.1
 
 -- a look by whose number the ticket is served: the block that it took is the fold of the lock's sections
 pub record Hits (kind : WordKind) {E B O : Type 0} (rules : Rules E B O) (lock : LockId) (ticket : ℕ) (v : Me (Home E B) (View E B)) (found : ℕ)
     (w : Me (Home E B) (View E B)) : Type 0 where
   pub same : kind.serves ticket found ≡ true
-  pub inside : standing (owner v.0.cpus) w.0.seen ≡ Inside lock ticket
+  pub inside : lock_phase (owner v.0.cpus) w.0.seen ≡ Holding lock ticket
   pub home : Home E B
   pub block : B
   pub held : w.1 ≡ (rank_of v.0.start lock, home) ∷ v.1
@@ -56,7 +56,7 @@ pub record Looked (kind : WordKind) {E B O : Type 0} (rules : Rules E B O) (v : 
     (w : Me (Home E B) (View E B)) : Type 0 where
   pub lock : LockId
   pub ticket : ℕ
-  pub waits : standing (owner v.0.cpus) v.0.seen ≡ Waiting lock ticket
+  pub waits : lock_phase (owner v.0.cpus) v.0.seen ≡ Waiting lock ticket
   pub read : ℕ
   pub moves : Moves rules v.0 w.0 (Look (owner v.0.cpus) lock ticket read)
   pub finds : Misses kind lock ticket v found w ⊎ Hits kind rules lock ticket v found w
@@ -65,7 +65,7 @@ pub record Looked (kind : WordKind) {E B O : Type 0} (rules : Rules E B O) (v : 
 pub record Freed {E B O : Type 0} (rules : Rules E B O) (v w : Me (Home E B) (View E B)) : Type 0 where
   pub lock : LockId
   pub ticket : ℕ
-  pub inside : standing (owner v.0.cpus) v.0.seen ≡ Inside lock ticket
+  pub inside : lock_phase (owner v.0.cpus) v.0.seen ≡ Holding lock ticket
   pub edit : E
   pub home : Home E B
   pub slot : ℕ

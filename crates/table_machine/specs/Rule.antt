@@ -8,7 +8,7 @@ use Rattle.event_log.specs.declared.ids.CpuId.{CpuId}
 use Rattle.event_log.specs.declared.ids.LockId.{LockId}
 use Rattle.event_log.specs.declared.events.Event.{Event}
 use Rattle.event_log.specs.History.{IsLawful, AreOthers}
-use Rattle.event_log.specs.WordsLog.{actor, draws, frees}
+use Rattle.event_log.specs.WordsLog.{cpu_of_event, draws, frees}
 use Rattle.layer_traits.specs.declared.edits.Mark.{Mark}
 use Rattle.layer_traits.specs.Protocol.{Rules}
 use Rattle.layer_traits.specs.WordsProtocol.{MayCome}
@@ -44,11 +44,11 @@ pub record Shows (kind : WordKind) {E B : Type 0} (edited : E → B → B) (star
   pub each : (lock : LockId) → IsSome (opened start lock) → ShowsLock kind edited start words homes log lock
 
 -- there is one legal log of the CPUs of this table: the words and slots are its replay, the views are fronts of it
-pub record Kept (kind : WordKind) {E B O : Type 0} (rules : Rules E B O) (cpu_count : ℕ) (start : List (LockId × B))
+pub record TableInv (kind : WordKind) {E B O : Type 0} (rules : Rules E B O) (cpu_count : ℕ) (start : List (LockId × B))
     (s : State (Home E B) (View E B)) : Type 0 where
   pub few : cpu_count ≤ CPUS
   pub log : List (Event (Mark E))
   pub legal : IsLawful (MayCome (rules.allowed (opened start))) log
   pub shows : Shows kind rules.edited start s.words s.homes log
   pub sees : Sees cpu_count s.views log
-  pub rest : (c : CpuId) → cpu_count ≤ c.0 → AreOthers actor c log
+  pub rest : (c : CpuId) → cpu_count ≤ c.0 → AreOthers cpu_of_event c log

@@ -6,7 +6,7 @@ use Rattle.event_log.specs.declared.ids.CpuId.{CpuId}
 use Rattle.event_log.specs.declared.ids.LockId.{LockId}
 use Rattle.event_log.specs.declared.events.Event.{Event}
 use Rattle.event_log.specs.History.{AreOthers}
-use Rattle.event_log.specs.WordsLog.{actor}
+use Rattle.event_log.specs.WordsLog.{cpu_of_event}
 use Rattle.layer_traits.specs.declared.edits.Mark.{Mark}
 use Rattle.table_machine.specs.declared.views.View.{View}
 
@@ -46,7 +46,7 @@ pub record EndsWith {E : Type 0} (log seen : List E) : Type 0 where
 pub record IsSince {M : Type 0} (log seen : List (Event M)) (cpu : CpuId) : Type 0 where
   pub more : List (Event M)
   pub is : log ≡ more ++ seen
-  pub others : AreOthers actor cpu more
+  pub others : AreOthers cpu_of_event cpu more
 
 -- the CPU is one of this view's own, or of those that were lent to it
 abbrev pub Owns : {E B : Type 0} → CpuId → View E B → Type 0

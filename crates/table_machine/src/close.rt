@@ -6,10 +6,10 @@ ghost use mathlib.Core.Option.{some};
 ghost use lib.ListN.{get_elem?};
 ghost use Rattle.event_log.specs.declared.ids.LockId.{LockId};
 ghost use Rattle.table_machine.specs.declared.views.Home.{Home};
-ghost use Rattle.table_machine.specs.Desks.{Desk, IsOver, Covers, Closes, Gathered};
+ghost use Rattle.table_machine.specs.SeatViews.{SeatView, IsOver, Covers, Closes, Gathered};
 
 use crate::keys::Key;
-use crate::plays::{Enters, Meets, Tells};
+use crate::plays::{Copies, Enters, Meets};
 use crate::rule::Token;
 use crate::shared::Shared;
 use crate::table_words::TableWords;
@@ -59,7 +59,7 @@ impl<E: Edit, K: TableWords> Shared<E, K> {
         requires over { IsOver self.now key }
         ensures table { seat.new.table_id ≡ self.now.table }
         ensures start { seat.new.me.0.start ≡ self.now.start }
-        ensures gathered { (desks : List _) → Gathered self.now.start seat.old.me.0 desks → Gathered self.now.start seat.new.me.0 (desks ++ key ∷ []) }
+        ensures gathered { (seat_views : List _) → Gathered self.now.start seat.old.me.0 seat_views → Gathered self.now.start seat.new.me.0 (seat_views ++ key ∷ []) }
     {
         let Key {
             token,
@@ -67,7 +67,7 @@ impl<E: Edit, K: TableWords> Shared<E, K> {
             ticket: _,
         } = key;
         let table = &self.table.shared;
-        table.join_seat::<Tells>(seat, token);
+        table.join_seat::<Copies>(seat, token);
         table.load::<Meets<E>>(seat, 0);
     }
 }

@@ -3,15 +3,15 @@
 ghost use Rattle.std.specs.Prelude.{◌≡◌, ℕ, List, [], IsSome, Some, MatchOption, option_map};
 ghost use Rattle.event_log.specs.declared.events.Event.TheVariants.{Draw, Look, Free};
 ghost use Rattle.event_log.specs.History.{Adds, Grows, IsLawful};
-ghost use Rattle.event_log.specs.WordsLog.{actor, standing, Outside, Waiting, Inside};
+ghost use Rattle.event_log.specs.WordsLog.{cpu_of_event, lock_phase, Idle, Waiting, Holding};
 ghost use Rattle.event_log.specs.Sections.{block_after};
 ghost use Rattle.layer_traits.specs.Protocol.{section, StaysAllowed};
 ghost use Rattle.layer_traits.specs.WordsProtocol.{mark_of, sections, MayCome};
 ghost use Rattle.layer_traits.specs.OneLock.{opened};
-ghost use Rattle.table_machine.specs.Desks.{IsOf};
+ghost use Rattle.table_machine.specs.SeatViews.{IsOf};
 ghost use Rattle.table_machine.specs.Views.{viewed, EndsWith, IsCpu};
 
-use crate::plays::{Draws, Frees, Looks, Meets, Tells};
+use crate::plays::{Copies, Draws, Frees, Looks, Meets};
 use crate::rule::Token;
 use crate::shared::Shared;
 use crate::table_words::TableWords;
@@ -23,7 +23,7 @@ use std::marker::Model;
 /// The right to act for one CPU at one table, and all that the CPU has seen there. It may go from
 /// thread to thread; there is one for each CPU of the table.
 ///
-/// To a contract it is a desk: its CPU, its table, the blocks that the table opened with, and the
+/// To a contract it is a seat view: its CPU, its table, the blocks that the table opened with, and the
 /// words log that was seen, newest first.
 #[derive(Drop)]
 pub struct Key<E: Edit> {
@@ -34,9 +34,9 @@ pub struct Key<E: Edit> {
 }
 
 impl<E: Edit> Model for Key<E> {
-    ghost use Rattle.table_machine.specs.Desks.{Desk, IsKey};
+    ghost use Rattle.table_machine.specs.SeatViews.{SeatView, IsKey};
 
-    ghost Value = { Desk E E.Block };
+    ghost Value = { SeatView E E.Block };
 
     ghost view = { λ k. record { cpu = k.cpu; table = k.token.table_id; start = k.token.me.0.start; seen = k.token.me.0.seen } };
 
@@ -62,9 +62,9 @@ impl<E: Edit> Key<E> {
     pub(crate) fn draw<K: TableWords>(&mut self, shared: &Shared<E, K>, lock: LockId) -> u64
         requires of { IsOf shared.now self.old }
         requires lock { IsSome (opened self.old.start lock) }
-        requires outside { standing self.old.cpu self.old.seen ≡ Outside }
+        requires outside { lock_phase self.old.cpu self.old.seen ≡ Idle }
         ensures same { self.new ≡ record self.old { seen = self.new.seen } }
-        ensures adds { Adds (IsCpu self.old.cpu) actor (Draw self.old.cpu lock result) self.old.seen self.new.seen }
+        ensures adds { Adds (IsCpu self.old.cpu) cpu_of_event (Draw self.old.cpu lock result) self.old.seen self.new.seen }
         ensures legal { IsLawful (MayCome (E.rules.allowed (opened self.old.start))) self.new.seen }
     {
         let word = shared.word(lock, 0);
@@ -83,12 +83,12 @@ impl<E: Edit> Key<E> {
     ) -> Option<E::Block>
         requires of { IsOf shared.now self.old }
         requires lock { IsSome (opened self.old.start lock) }
-        requires waiting { standing self.old.cpu self.old.seen ≡ Waiting lock ticket }
+        requires waiting { lock_phase self.old.cpu self.old.seen ≡ Waiting lock ticket }
         ensures same { self.new ≡ record self.old { seen = self.new.seen } }
-        ensures adds { (read : ℕ) × Adds (IsCpu self.old.cpu) actor (Look self.old.cpu lock ticket read) self.old.seen self.new.seen }
+        ensures adds { (read : ℕ) × Adds (IsCpu self.old.cpu) cpu_of_event (Look self.old.cpu lock ticket read) self.old.seen self.new.seen }
         ensures hits { MatchOption result
-            (standing self.old.cpu self.new.seen ≡ Waiting lock ticket)
-            (λ block. (standing self.old.cpu self.new.seen ≡ Inside lock ticket)
+            (lock_phase self.old.cpu self.new.seen ≡ Waiting lock ticket)
+            (λ block. (lock_phase self.old.cpu self.new.seen ≡ Holding lock ticket)
             × (block_after E.rules.edited (opened self.old.start) lock (sections self.new.seen) ≡ Some block)) }
         ensures legal { IsLawful (MayCome (E.rules.allowed (opened self.old.start))) self.new.seen }
     {
@@ -117,11 +117,11 @@ impl<E: Edit> Key<E> {
     )
         requires of { IsOf shared.now self.old }
         requires lock { IsSome (opened self.old.start lock) }
-        requires inside { (ticket : ℕ) × (standing self.old.cpu self.old.seen ≡ Inside lock ticket) }
+        requires inside { (ticket : ℕ) × (lock_phase self.old.cpu self.old.seen ≡ Holding lock ticket) }
         requires edited { option_map (E.rules.edited edit) (block_after E.rules.edited (opened self.old.start) lock (sections self.old.seen)) ≡ Some block }
         requires allowed { StaysAllowed (E.rules.allowed (opened self.old.start)) (sections self.old.seen) (section self.old.cpu lock edit) }
         ensures same { self.new ≡ record self.old { seen = self.new.seen } }
-        ensures adds { Adds (IsCpu self.old.cpu) actor (Free self.old.cpu lock (mark_of edit)) self.old.seen self.new.seen }
+        ensures adds { Adds (IsCpu self.old.cpu) cpu_of_event (Free self.old.cpu lock (mark_of edit)) self.old.seen self.new.seen }
         ensures legal { IsLawful (MayCome (E.rules.allowed (opened self.old.start))) self.new.seen }
     {
         let word = shared.word(lock, K::gives_at(self.ticket));
@@ -147,7 +147,7 @@ impl<E: Edit> Key<E> {
         ensures table { result.table_id ≡ self.old.table }
         ensures notes { result.me ≡ (viewed self.old.start [] self.old.seen, []) }
     {
-        shared.table.shared.split_seat::<Tells>(&mut self.token)
+        shared.table.shared.split_seat::<Copies>(&mut self.token)
     }
 
     // Takes in what the token has seen.
@@ -157,11 +157,11 @@ impl<E: Edit> Key<E> {
         requires notes { (notes.me.1 ≡ []) × (notes.me.0.cpus ≡ []) }
         ensures same { self.new ≡ record self.old { seen = self.new.seen } }
         ensures begins { EndsWith self.new.seen notes.me.0.seen }
-        ensures grows { Grows (IsCpu self.old.cpu) actor self.old.seen self.new.seen }
+        ensures grows { Grows (IsCpu self.old.cpu) cpu_of_event self.old.seen self.new.seen }
         ensures legal { IsLawful (MayCome (E.rules.allowed (opened self.old.start))) self.new.seen }
     {
         let table = &shared.table.shared;
-        table.join_seat::<Tells>(&mut self.token, notes);
+        table.join_seat::<Copies>(&mut self.token, notes);
         table.load::<Meets<E>>(&mut self.token, 0);
     }
 }

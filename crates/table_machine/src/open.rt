@@ -4,10 +4,10 @@ ghost use Rattle.std.specs.Prelude.{◌≡◌, ◌+◌, ◌-◌, ◌<◌, ◌≤
 ghost use Rattle.event_log.specs.declared.ids.LockId.{LockId};
 ghost use Rattle.event_log.specs.declared.ids.TheConstants.{CPUS, LOCKS};
 ghost use Rattle.layer_traits.specs.OneLock.{AreDistinct};
-ghost use Rattle.table_machine.specs.Layout.{AreFirst, word_count, TellsRanks, IsLaidOut};
+ghost use Rattle.table_machine.specs.Layout.{AreFirst, word_count, AreRanks, IsLaidOut};
 ghost use Rattle.table_machine.specs.Rule.{fresh_home};
 ghost use Rattle.table_machine.specs.Views.{viewed, cpus_from};
-ghost use Rattle.table_machine.specs.Desks.{new_desk, new_desks};
+ghost use Rattle.table_machine.specs.SeatViews.{new_seat_view, new_seat_views};
 
 use crate::keys::Key;
 use crate::plays::Deals;
@@ -44,7 +44,7 @@ impl<E: Edit, K: TableWords> Shared<E, K> {
         requires cpus { cpus ≤ CPUS }
         ensures start { IfOk result (λ r. r.0.start ≡ blocks.items) }
         ensures cpus { IfOk result (λ r. r.0.cpus ≡ cpus) }
-        ensures keys { IfOk result (λ r. r.1.items ≡ new_desks r.0 cpus) }
+        ensures keys { IfOk result (λ r. r.1.items ≡ new_seat_views r.0 cpus) }
     {
         match opened_table(alloc, blocks, cpus) {
             Ok((shared, dealer)) => {
@@ -67,7 +67,7 @@ impl<E: Edit, K: TableWords> Shared<E, K> {
         requires cpus { cpus ≡ self.now.cpus }
         requires table { dealer.table_id ≡ self.now.table }
         requires dealer { dealer.me ≡ (viewed self.now.start (cpus_from 0 cpus) [], []) }
-        ensures { IfOk result (λ keys. keys.items ≡ new_desks self.now cpus) }
+        ensures { IfOk result (λ keys. keys.items ≡ new_seat_views self.now cpus) }
     {
         let mut keys = Vec::with_capacity(alloc, usize::from(cpus))?;
         for cpu in 0..cpus {
@@ -81,7 +81,7 @@ impl<E: Edit, K: TableWords> Shared<E, K> {
         requires cpu { cpu < self.now.cpus }
         requires table { dealer.old.table_id ≡ self.now.table }
         requires dealer { dealer.old.me ≡ (viewed self.now.start (cpus_from cpu (self.now.cpus - cpu)) [], []) }
-        ensures key { result ≡ new_desk self.now cpu }
+        ensures key { result ≡ new_seat_view self.now cpu }
         ensures table { dealer.new.table_id ≡ self.now.table }
         ensures dealer { dealer.new.me ≡ (viewed self.now.start (cpus_from (cpu + 1) (self.now.cpus - (cpu + 1))) [], []) }
     {
@@ -157,7 +157,7 @@ fn laid_out<E: Edit, K: TableWords>(
     ensures words { IfOk result (λ r. AreFirst K.kind.opens (length blocks.items) (length blocks.items) r.words.items) }
     ensures small { IfOk result (λ r. word_count (length blocks.items) < 2 ^ 64) }
     ensures row { IfOk result (λ r. length r.ranks.items ≡ LOCKS) }
-    ensures ranks { IfOk result (λ r. TellsRanks r.ranks.items blocks.items) }
+    ensures ranks { IfOk result (λ r. AreRanks r.ranks.items blocks.items) }
     ensures locks { IfOk result (λ r. r.locks.items ≡ map (λ (o : LockId × _). o.0) blocks.items) }
     ensures homes { IfOk result (λ r. r.homes.items ≡ map (λ (o : LockId × _). fresh_home o.1) blocks.items) }
     ensures none { IfOk result (λ r. r.returned.items ≡ []) }
@@ -205,7 +205,7 @@ fn zero_words(alloc: Global, locks: usize) -> Result<Vec<u64>, AllocError>
 // A row that tells the rank of each lock.
 fn ranks_of<B>(alloc: Global, blocks: &[(LockId, B)]) -> Result<Vec<usize>, AllocError>
     ensures row { IfOk result (λ v. length v.items ≡ LOCKS) }
-    ensures ranks { IfOk result (λ v. TellsRanks v.items blocks.now) }
+    ensures ranks { IfOk result (λ v. AreRanks v.items blocks.now) }
 {
     let mut ranks = vec![in alloc; 0; LOCKS]?;
     let mut rank = blocks.len();

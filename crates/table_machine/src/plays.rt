@@ -66,9 +66,9 @@ impl<E, B> Split<View<E, B>> for Deals {
 }
 
 /// What a seat has seen, for another seat. It acts for no CPU.
-pub(crate) struct Tells;
+pub(crate) struct Copies;
 
-impl<E, B> Split<View<E, B>> for Tells {
+impl<E, B> Split<View<E, B>> for Copies {
     ghost use Rattle.std.specs.Prelude.{[]};
     ghost use Rattle.table_machine.specs.Views.{viewed};
 
@@ -77,7 +77,7 @@ impl<E, B> Split<View<E, B>> for Tells {
     ghost right = { λ v. viewed v.start [] v.seen };
 }
 
-impl<E, B> Join<View<E, B>> for Tells {
+impl<E, B> Join<View<E, B>> for Copies {
     ghost use Rattle.std.specs.Prelude.{[]};
     ghost use Rattle.table_machine.specs.Views.{viewed};
 

@@ -26,10 +26,10 @@ pub(crate) struct LogRule<E, K> {
 impl<E: Edit, K: TableWords> TableRule<Home<E, E::Block>, View<E, E::Block>, Opening<E::Block>>
     for LogRule<E, K> {
     ghost use Rattle.std.specs.Prelude.{[]};
-    ghost use Rattle.table_machine.specs.Rule.{Kept};
+    ghost use Rattle.table_machine.specs.Rule.{TableInv};
     ghost use Rattle.table_machine.specs.Views.{viewed, cpus_from};
 
-    ghost holds = { λ k. Kept K.kind E.rules k.cpus k.blocks.value.items };
+    ghost holds = { λ k. TableInv K.kind E.rules k.cpus k.blocks.value.items };
 
     ghost first = { λ k. viewed k.blocks.value.items (cpus_from 0 k.cpus) [] };
 }

@@ -3,17 +3,17 @@
 ghost use Rattle.std.specs.Prelude.{◌≡◌, List, IsSome, Some, MatchOption, option_map};
 ghost use Rattle.event_log.specs.declared.ids.CpuId.{CpuId};
 ghost use Rattle.event_log.specs.History.{Grows, IsLawful};
-ghost use Rattle.event_log.specs.WordsLog.{actor};
+ghost use Rattle.event_log.specs.WordsLog.{cpu_of_event};
 ghost use Rattle.layer_traits.specs.WordsProtocol.{MayCome};
 ghost use Rattle.layer_traits.specs.OneLock.{opened};
-ghost use Rattle.table_machine.specs.Desks.{IsOf};
+ghost use Rattle.table_machine.specs.SeatViews.{IsOf};
 ghost use Rattle.table_machine.specs.Views.{EndsWith, IsCpu};
 
 use crate::keys::Key;
 use crate::shared::Shared;
 use crate::table_words::{TableWords, TicketWords, WaiterWords};
 use event_log::{CpuId, LockId};
-use layer_traits::{Edit, Mark, TellsGrants, Words};
+use layer_traits::{Edit, Mark, UsesGrantWords, Words};
 use std::marker::Model;
 
 /// A CPU at a table: it may draw, look and free there. Each call lengthens the log that the seat
@@ -29,9 +29,9 @@ pub struct Seat<'a, E: Edit, K: TableWords = TicketWords> {
 pub type GrantSeat<'a, E> = Seat<'a, E, WaiterWords>;
 
 impl<'a, E: Edit, K: TableWords> Model for Seat<'a, E, K> {
-    ghost use Rattle.table_machine.specs.Desks.{Desk, IsOf};
+    ghost use Rattle.table_machine.specs.SeatViews.{SeatView, IsOf};
 
-    ghost Value = { Desk E E.Block };
+    ghost Value = { SeatView E E.Block };
 
     ghost view = { λ s. s.key };
 
@@ -73,7 +73,7 @@ impl<'a, E: Edit, K: TableWords> Words for Seat<'a, E, K> {
     ghost use Rattle.event_log.specs.History.{IsLawful};
     ghost use Rattle.layer_traits.specs.WordsProtocol.{MayCome, edit_of};
     ghost use Rattle.layer_traits.specs.OneLock.{opened};
-    ghost use Rattle.table_machine.specs.Desks.{site_of};
+    ghost use Rattle.table_machine.specs.SeatViews.{site_of};
 
     type Edit = E;
 
@@ -110,7 +110,7 @@ impl<'a, E: Edit, K: TableWords> Words for Seat<'a, E, K> {
     ghost legal = { λ s c acts. acts.1 };
 }
 
-impl<'a, E: Edit> TellsGrants for Seat<'a, E, WaiterWords> {}
+impl<'a, E: Edit> UsesGrantWords for Seat<'a, E, WaiterWords> {}
 
 /// Brings the second seat's view up to the first's: afterwards the second's log begins with all
 /// that the first has seen, and each still has all that it had seen. It may come at any moment, in
@@ -120,7 +120,7 @@ pub fn meet<E: Edit, K: TableWords>(first: &mut Seat<'_, E, K>, second: &mut Sea
     ensures first { first.new ≡ first.old }
     ensures second { second.new ≡ record second.old { seen = second.new.seen } }
     ensures begins { EndsWith second.new.seen first.old.seen }
-    ensures grows { Grows (IsCpu second.old.cpu) actor second.old.seen second.new.seen }
+    ensures grows { Grows (IsCpu second.old.cpu) cpu_of_event second.old.seen second.new.seen }
     ensures lawful { IsLawful (MayCome (E.rules.allowed (opened second.old.start))) second.new.seen }
 {
     let notes = first.key.notes(first.shared);

@@ -15,7 +15,7 @@ use std::marker::Model;
 /// at which waiters look, and a slot in which its block lies while no CPU is inside it. The locks
 /// are ticket locks, if no other words are named.
 ///
-/// To a contract it is a board: which table it is, the blocks that it opened with, and how many
+/// To a contract it is a table view: which table it is, the blocks that it opened with, and how many
 /// CPUs it has.
 #[derive(Drop)]
 pub struct Shared<E: Edit, K: TableWords = TicketWords> {
@@ -31,10 +31,10 @@ pub type GrantShared<E> = Shared<E, WaiterWords>;
 impl<E: Edit, K: TableWords> Model for Shared<E, K> {
     ghost use Rattle.std.specs.Prelude.{◌≡◌, ◌≤◌, [], length, vec_capacity};
     ghost use Rattle.layer_traits.specs.OneLock.{AreDistinct};
-    ghost use Rattle.table_machine.specs.Desks.{Board};
+    ghost use Rattle.table_machine.specs.SeatViews.{TableView};
     ghost use Rattle.table_machine.specs.Layout.{IsLaidOut};
 
-    ghost Value = { Board E.Block };
+    ghost Value = { TableView E.Block };
 
     ghost view = { λ s. record { table = s.table.shared.table_id; start = s.table.shared.key.blocks.value.items; cpus = s.table.shared.key.cpus } };
 

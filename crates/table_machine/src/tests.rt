@@ -1,18 +1,18 @@
 //! Seats at one table, which a single thread takes in turn.
 
 ghost use Rattle.std.specs.Prelude.{◌≡◌, ◌+◌, ◌%◌, ◌^◌, ◌<◌, [], ◌∷◌, Some, IsSome, IfOk, MatchOption};
-ghost use Rattle.event_log.specs.WordsLog.{standing, Outside, Waiting, Inside};
+ghost use Rattle.event_log.specs.WordsLog.{lock_phase, Idle, Waiting, Holding};
 ghost use Rattle.event_log.specs.Sections.{block_after};
-ghost use Rattle.event_log.specs.Grants.{grant_standing};
+ghost use Rattle.event_log.specs.Grants.{grant_lock_phase};
 ghost use Rattle.layer_traits.specs.GrantProtocol.{grant_sections};
 ghost use Rattle.layer_traits.specs.OneLock.{AreDistinct};
 ghost use Rattle.layer_traits.specs.WordsProtocol.{sections};
-ghost use Rattle.table_machine.specs.Desks.{IsOver, new_desk, new_desks};
+ghost use Rattle.table_machine.specs.SeatViews.{IsOver, new_seat_view, new_seat_views};
 ghost use Rattle.table_machine.specs.declared.tests.TheConstants.{LOCK, OTHER};
 
 use crate::{GrantShared, Key, Shared, TableWords, TicketWords, WaiterWords, meet};
 use event_log::{BufId, CpuId, LockId, NoMemory};
-use layer_traits::{Edit, GrantWords, Tray, Words};
+use layer_traits::{Edit, GrantWords, Payload, Words};
 use std::alloc::Global;
 use std::process::Abort;
 use std::test::Fail;
@@ -32,7 +32,7 @@ impl Edit for AddOne {
       allowed = λ opening past s. Unit {0};
     } };
 
-    fn apply(&self, block: &mut u64, _tray: &mut Tray) -> u64 {
+    fn apply(&self, block: &mut u64, _payload: &mut Payload) -> u64 {
         let old = *block;
         *block = old.wrapping_add(1);
         old
@@ -54,8 +54,8 @@ fn two_keys<R: Abort>(
 ) -> Result<(Shared<AddOne>, Key<AddOne>, Key<AddOne>), NoMemory>
     ensures start { IfOk result (λ t. t.0.start ≡ (LOCK, 40) ∷ (OTHER, 7) ∷ []) }
     ensures cpus { IfOk result (λ t. t.0.cpus ≡ 2) }
-    ensures first { IfOk result (λ t. t.1 ≡ new_desk t.0 0) }
-    ensures second { IfOk result (λ t. t.2 ≡ new_desk t.0 1) }
+    ensures first { IfOk result (λ t. t.1 ≡ new_seat_view t.0 0) }
+    ensures second { IfOk result (λ t. t.2 ≡ new_seat_view t.0 1) }
 {
     let Ok(blocks) = vec![in alloc; (LOCK, 40), (OTHER, 7)] else {
         return Err(NoMemory);
@@ -68,7 +68,7 @@ fn two_keys<R: Abort>(
 
 /// Closes a table at which nothing was done.
 fn untouched<K: TableWords>(shared: Shared<AddOne, K>, keys: Vec<Key<AddOne>>) -> Vec<(LockId, u64)>
-    requires keys { keys.items ≡ new_desks shared shared.cpus }
+    requires keys { keys.items ≡ new_seat_views shared shared.cpus }
 {
     shared.close(keys)
 }
@@ -95,11 +95,11 @@ fn draws<W: Words<Edit = AddOne>>(words: &mut W, cpu: CpuId, lock: LockId) -> u6
     requires cpu { W.ActsFor words.old cpu }
     requires lock { IsSome (W.opening words.old lock) }
     requires room { (m : _) → 0 < W.room m }
-    requires outside { standing cpu (W.seen words.old) ≡ Outside }
+    requires outside { lock_phase cpu (W.seen words.old) ≡ Idle }
     ensures acts { W.ActsFor words.new cpu }
     ensures lock { IsSome (W.opening words.new lock) }
     ensures site { W.site words.new ≡ W.site words.old }
-    ensures waits { standing cpu (W.seen words.new) ≡ Waiting lock result }
+    ensures waits { lock_phase cpu (W.seen words.new) ≡ Waiting lock result }
 {
     words.draw(cpu, lock)
 }
@@ -114,13 +114,13 @@ fn looks<W: Words<Edit = AddOne>>(
     requires cpu { W.ActsFor words.old cpu }
     requires lock { IsSome (W.opening words.old lock) }
     requires room { (m : _) → 0 < W.room m }
-    requires waiting { standing cpu (W.seen words.old) ≡ Waiting lock ticket }
+    requires waiting { lock_phase cpu (W.seen words.old) ≡ Waiting lock ticket }
     ensures acts { W.ActsFor words.new cpu }
     ensures lock { IsSome (W.opening words.new lock) }
     ensures site { W.site words.new ≡ W.site words.old }
     ensures hits { MatchOption result
-        (standing cpu (W.seen words.new) ≡ Waiting lock ticket)
-        (λ block. (standing cpu (W.seen words.new) ≡ Inside lock ticket)
+        (lock_phase cpu (W.seen words.new) ≡ Waiting lock ticket)
+        (λ block. (lock_phase cpu (W.seen words.new) ≡ Holding lock ticket)
         × (block_after (λ e n. (n + 1) % 2 ^ 64) (W.opening words.new) lock (sections (W.seen words.new)) ≡ Some block)) }
 {
     words.look(cpu, lock, ticket)
@@ -131,15 +131,15 @@ fn frees<W: Words<Edit = AddOne>>(words: &mut W, cpu: CpuId, lock: LockId, ticke
     requires cpu { W.ActsFor words.old cpu }
     requires lock { IsSome (W.opening words.old lock) }
     requires room { (m : _) → 0 < W.room m }
-    requires inside { standing cpu (W.seen words.old) ≡ Inside lock ticket }
+    requires inside { lock_phase cpu (W.seen words.old) ≡ Holding lock ticket }
     requires found { block_after (λ e n. (n + 1) % 2 ^ 64) (W.opening words.old) lock (sections (W.seen words.old)) ≡ Some found }
     ensures acts { W.ActsFor words.new cpu }
     ensures lock { IsSome (W.opening words.new lock) }
     ensures site { W.site words.new ≡ W.site words.old }
-    ensures outside { standing cpu (W.seen words.new) ≡ Outside }
+    ensures outside { lock_phase cpu (W.seen words.new) ≡ Idle }
 {
     let mut block = found;
-    AddOne.apply(&mut block, &mut Tray::new());
+    AddOne.apply(&mut block, &mut Payload::new());
     words.free(cpu, lock, block, W::mark(AddOne));
 }
 
@@ -153,11 +153,11 @@ fn adds_one<R: Abort, W: Words<Edit = AddOne>>(
     requires cpu { W.ActsFor words.old cpu }
     requires lock { IsSome (W.opening words.old lock) }
     requires room { (m : _) → 0 < W.room m }
-    requires outside { standing cpu (W.seen words.old) ≡ Outside }
+    requires outside { lock_phase cpu (W.seen words.old) ≡ Idle }
     ensures acts { W.ActsFor words.new cpu }
     ensures lock { IsSome (W.opening words.new lock) }
     ensures site { W.site words.new ≡ W.site words.old }
-    ensures outside { standing cpu (W.seen words.new) ≡ Outside }
+    ensures outside { lock_phase cpu (W.seen words.new) ≡ Idle }
 {
     let ticket = draws(words, cpu, lock);
     let Some(found) = looks(words, cpu, lock, ticket) else {
@@ -305,10 +305,10 @@ fn takes<W: GrantWords<Edit = AddOne>>(words: &mut W, cpu: CpuId, lock: LockId) 
     requires cpu { W.ActsFor words.old cpu }
     requires lock { IsSome (W.opening words.old lock) }
     requires room { (m : _) → 0 < W.room m }
-    requires outside { grant_standing cpu (W.seen words.old) ≡ Outside }
+    requires outside { grant_lock_phase cpu (W.seen words.old) ≡ Idle }
     ensures acts { W.ActsFor words.new cpu }
     ensures lock { IsSome (W.opening words.new lock) }
-    ensures waits { grant_standing cpu (W.seen words.new) ≡ Waiting lock result }
+    ensures waits { grant_lock_phase cpu (W.seen words.new) ≡ Waiting lock result }
 {
     words.take(cpu, lock)
 }
@@ -323,12 +323,12 @@ fn peeks<W: GrantWords<Edit = AddOne>>(
     requires cpu { W.ActsFor words.old cpu }
     requires lock { IsSome (W.opening words.old lock) }
     requires room { (m : _) → 0 < W.room m }
-    requires waiting { grant_standing cpu (W.seen words.old) ≡ Waiting lock ticket }
+    requires waiting { grant_lock_phase cpu (W.seen words.old) ≡ Waiting lock ticket }
     ensures acts { W.ActsFor words.new cpu }
     ensures lock { IsSome (W.opening words.new lock) }
     ensures hits { MatchOption result
-        (grant_standing cpu (W.seen words.new) ≡ Waiting lock ticket)
-        (λ block. (grant_standing cpu (W.seen words.new) ≡ Inside lock ticket)
+        (grant_lock_phase cpu (W.seen words.new) ≡ Waiting lock ticket)
+        (λ block. (grant_lock_phase cpu (W.seen words.new) ≡ Holding lock ticket)
         × (block_after (λ e n. (n + 1) % 2 ^ 64) (W.opening words.new) lock (grant_sections (W.seen words.new)) ≡ Some block)) }
 {
     words.peek(cpu, lock, ticket)
@@ -345,14 +345,14 @@ fn gives<W: GrantWords<Edit = AddOne>>(
     requires cpu { W.ActsFor words.old cpu }
     requires lock { IsSome (W.opening words.old lock) }
     requires room { (m : _) → 0 < W.room m }
-    requires inside { grant_standing cpu (W.seen words.old) ≡ Inside lock ticket }
+    requires inside { grant_lock_phase cpu (W.seen words.old) ≡ Holding lock ticket }
     requires found { block_after (λ e n. (n + 1) % 2 ^ 64) (W.opening words.old) lock (grant_sections (W.seen words.old)) ≡ Some found }
     ensures acts { W.ActsFor words.new cpu }
     ensures lock { IsSome (W.opening words.new lock) }
-    ensures outside { grant_standing cpu (W.seen words.new) ≡ Outside }
+    ensures outside { grant_lock_phase cpu (W.seen words.new) ≡ Idle }
 {
     let mut block = found;
-    AddOne.apply(&mut block, &mut Tray::new());
+    AddOne.apply(&mut block, &mut Payload::new());
     words.give(cpu, lock, block, W::mark(AddOne));
 }
 

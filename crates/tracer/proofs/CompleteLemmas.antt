@@ -11,7 +11,7 @@ use Rattle.event_log.specs.Buffers.{items_of, empty_buffers, after_effect, IsCap
 use Rattle.event_log.specs.Runs.{after_entry, IsRunFrom, IsRun}
 use Rattle.tracer.specs.declared.next_lines.NextLine.TheVariants as wants
 use Rattle.tracer.specs.declared.verdicts.Verdict.TheVariants.{Yes}
-use Rattle.tracer.specs.TraceText.{line_of, version_word, head_pieces, count_pieces, cap_pieces, entry_pieces, left_pieces, end_pieces}
+use Rattle.tracer.specs.TraceText.{text_line, version_word, head_pieces, count_pieces, cap_pieces, entry_pieces, left_pieces, end_pieces}
 use Rattle.tracer.specs.TraceText.{numbered, lines_of, spelling}
 use Rattle.tracer.specs.TraceText.{IsEntryOf, IsSpellable, IsTraceText, AreItemsOf}
 use Rattle.tracer.specs.Judging.{Progress, opening, step, lines_in, verdict_from, verdict_of}
@@ -30,7 +30,7 @@ end_is_line : IsLine end_pieces
 end_is_line = record { spaces = ((refl, (refl, (refl, tt))), tt); feeds = ((refl, (refl, (refl, tt))), tt) }
 
 complete_end : (s : Progress) (n : ℕ) → s.at ≡ wants.End → covers s.lowest s.version ≡ true
-    → verdict_from s n (lines_in (flat_map line_of (end_pieces ∷ []))) ≡ Yes
+    → verdict_from s n (lines_in (flat_map text_line (end_pieces ∷ []))) ≡ Yes
 complete_end s n at low = line_read s (record s { at = wants.Done }) n (codes "end") [] [] end_is_line (step_end s at low)
 
 -- what is left of a buffer, and of those behind it
@@ -47,7 +47,7 @@ complete_left : (v : Version) (caps : List ℕ) (earlier : List Entry) (contents
     → length contents ≡ length caps → length caps ≤ BUFFERS → b < length caps → drop b contents ≡ x ∷ xs → AllByRecursion (AreItemsOf v) (x ∷ xs)
     → covers (version_of earlier) v ≡ true
     → step s (join_with_byte 32 (left_pieces b (items_of contents b))) ≡ Ok (progress v (behind_left b caps) caps earlier contents)
-    → verdict_from s n (lines_in (flat_map line_of (numbered left_pieces b (x ∷ xs) ++ end_pieces ∷ []))) ≡ Yes
+    → verdict_from s n (lines_in (flat_map text_line (numbered left_pieces b (x ∷ xs) ++ end_pieces ∷ []))) ≡ Yes
 complete_left v caps earlier contents s b n x [] long few inside rest small low taken =
     let here = first_of contents b x [] rest in
     let last : (b + 1 ≡ length caps) = omega (arith, ap length rest, length-drop b contents) in
@@ -55,7 +55,7 @@ complete_left v caps earlier contents s b n x [] long few inside rest small low 
     let next : step s (join_with_byte 32 (left_pieces b x)) ≡ Ok (progress v wants.End caps earlier contents) =
     subst (λ (t : List Message). step s (join_with_byte 32 (left_pieces b t)) ≡ Ok (progress v wants.End caps earlier contents)) here (taken ∙ rw stops refl) in
     let fits : b < 2 ^ 64 = omega arith in
-    line_read s (progress v wants.End caps earlier contents) n (codes "left") _ (flat_map line_of (end_pieces ∷ [])) (left_is_line v b x fits small.0) next
+    line_read s (progress v wants.End caps earlier contents) n (codes "left") _ (flat_map text_line (end_pieces ∷ [])) (left_is_line v b x fits small.0) next
     ∙ complete_end (progress v wants.End caps earlier contents) (n + 1) refl low
 complete_left v caps earlier contents s b n x (y ∷ ys) long few inside rest small low taken =
     let here = first_of contents b x (y ∷ ys) rest in
@@ -67,7 +67,7 @@ complete_left v caps earlier contents s b n x (y ∷ ys) long few inside rest sm
     let behind = behind_first contents b x (y ∷ ys) rest in
     let fits : b < 2 ^ 64 = omega arith in
     let following : AreItemsOf v (items_of contents (b + 1)) = subst (AreItemsOf v) (sym (first_of contents (b + 1) y ys behind)) small.1.0 in
-    line_read s s' n (codes "left") _ (flat_map line_of (numbered left_pieces (b + 1) (y ∷ ys) ++ end_pieces ∷ [])) (left_is_line v b x fits small.0) next
+    line_read s s' n (codes "left") _ (flat_map text_line (numbered left_pieces (b + 1) (y ∷ ys) ++ end_pieces ∷ [])) (left_is_line v b x fits small.0) next
     ∙ complete_left v caps earlier contents s' (b + 1) (n + 1) y ys long few more behind small.1 low (step_left v
     (b + 1) caps earlier contents more few following)
 
@@ -75,7 +75,7 @@ complete_left v caps earlier contents s b n x (y ∷ ys) long few inside rest sm
 complete_first : (v : Version) (caps : List ℕ) (earlier : List Entry) (contents left : List (List Message)) (n : ℕ) → contents ≡ left
     → length contents ≡ length caps
     → 1 ≤ length caps → length caps ≤ BUFFERS → AllByRecursion (AreItemsOf v) left → v ≡ version_of earlier
-    → verdict_from (progress v wants.Entries caps earlier contents) n (lines_in (flat_map line_of (numbered left_pieces 0 left ++ end_pieces ∷ []))) ≡ Yes
+    → verdict_from (progress v wants.Entries caps earlier contents) n (lines_in (flat_map text_line (numbered left_pieces 0 left ++ end_pieces ∷ []))) ≡ Yes
 complete_first v caps earlier contents [] n same long some few small lowest = absurd (omega (arith, ap length same))
 complete_first v caps earlier contents (x ∷ xs) n same long some few small lowest =
     let inside : 0 < length caps = omega arith in
@@ -89,7 +89,7 @@ pub complete_entries : (v : Version) (caps : List ℕ) (earlier : List Entry) (c
     → IsRunFrom caps earlier contents es left → AllByRecursion (IsEntryOf (length caps)) es → length earlier + length es ≤ ENTRIES
     → length contents ≡ length caps → 1 ≤ length caps → length caps ≤ BUFFERS → AllByRecursion (AreItemsOf v) left → v ≡ version_from (version_of earlier) es
     → verdict_from (progress v wants.Entries caps earlier contents) n
-    (lines_in (flat_map line_of (map entry_pieces es ++ (numbered left_pieces 0 left ++ end_pieces ∷ [])))) ≡ Yes
+    (lines_in (flat_map text_line (map entry_pieces es ++ (numbered left_pieces 0 left ++ end_pieces ∷ [])))) ≡ Yes
 complete_entries v caps earlier contents [] left n run each room long some few small lowest =
     complete_first v caps earlier contents left n run long some few small lowest
 complete_entries v caps earlier contents (e ∷ es) left n run each room long some few small lowest =
@@ -100,33 +100,33 @@ complete_entries v caps earlier contents (e ∷ es) left n run each room long so
     let high = rw (← lowest) at (covers_next (version_of earlier) e es) in
     let onwards : v ≡ version_from (version_of (earlier ++ e ∷ [])) es = lowest ∙ ap (λ (u : Version). version_from u es) (sym (version_more earlier e)) in
     line_read (progress v wants.Entries caps earlier contents) (progress v wants.Entries caps (earlier ++ e ∷ []) after) n (codes "e") (behind_e e)
-    (flat_map line_of (map entry_pieces es ++ (numbered left_pieces 0 left ++ end_pieces ∷ []))) (entry_is_line (length caps) e few each.0)
+    (flat_map text_line (map entry_pieces es ++ (numbered left_pieces 0 left ++ end_pieces ∷ []))) (entry_is_line (length caps) e few each.0)
     (step_entry v caps earlier contents e few here long each.0 high run.0)
     ∙ complete_entries v caps (earlier ++ e ∷ []) after es left (n + 1) run.1 each.1 less after_long some few small onwards
 
 -- the capacities
 complete_caps : (v : Version) (count : ℕ) (caps more : List ℕ) (tail : List (List (List ℕ))) (n : ℕ) → 0 < length more → length caps + length more ≡ count
     → count ≤ BUFFERS
-    → AllByRecursion IsCapacity more → ((m : ℕ) → verdict_from (opened v wants.Entries (caps ++ more)) m (lines_in (flat_map line_of tail)) ≡ Yes)
-    → verdict_from (opened v (wants.Capacities count) caps) n (lines_in (flat_map line_of (numbered cap_pieces (length caps) more ++ tail))) ≡ Yes
+    → AllByRecursion IsCapacity more → ((m : ℕ) → verdict_from (opened v wants.Entries (caps ++ more)) m (lines_in (flat_map text_line tail)) ≡ Yes)
+    → verdict_from (opened v (wants.Capacities count) caps) n (lines_in (flat_map text_line (numbered cap_pieces (length caps) more ++ tail))) ≡ Yes
 complete_caps v count caps [] tail n some all few small behind = absurd (let z : 0 < 0 = some in omega arith)
 complete_caps v count caps (k ∷ []) tail n some all few small behind =
     let stops : nat_lt (length caps + 1) count ≡ false = le-ltb (length caps + 1) count (omega arith) in
     let next = step_cap v count caps k small.0 (omega arith) ∙ rw stops refl in
-    line_read (opened v (wants.Capacities count) caps) (opened v wants.Entries (caps ++ k ∷ [])) n (codes "cap") _ (flat_map line_of tail)
+    line_read (opened v (wants.Capacities count) caps) (opened v wants.Entries (caps ++ k ∷ [])) n (codes "cap") _ (flat_map text_line tail)
     (cap_is_line (length caps) k (omega arith) small.0) next ∙ behind (n + 1)
 complete_caps v count caps (k ∷ j ∷ ks) tail n some all few small behind =
     let goes : nat_lt (length caps + 1) count ≡ true = lt-ltb (length caps + 1) count (omega arith) in
     let next = step_cap v count caps k small.0 (omega arith) ∙ rw goes refl in
     let longer : length (caps ++ k ∷ []) ≡ length caps + 1 = length_push caps k in
-    let rest : (m : ℕ) → verdict_from (opened v wants.Entries ((caps ++ k ∷ []) ++ (j ∷ ks))) m (lines_in (flat_map line_of tail)) ≡ Yes =
+    let rest : (m : ℕ) → verdict_from (opened v wants.Entries ((caps ++ k ∷ []) ++ (j ∷ ks))) m (lines_in (flat_map text_line tail)) ≡ Yes =
     λ m. rw append_assoc (behind m) in
     let others : 0 < length (j ∷ ks) = omega arith in
     let counted : length (caps ++ k ∷ []) + length (j ∷ ks) ≡ count = omega arith in
     line_read (opened v (wants.Capacities count) caps) (opened v (wants.Capacities count) (caps ++ k ∷ [])) n (codes "cap")
-    _ (flat_map line_of (numbered cap_pieces (length caps + 1) (j ∷ ks) ++ tail)) (cap_is_line (length caps) k (omega arith) small.0) next
+    _ (flat_map text_line (numbered cap_pieces (length caps + 1) (j ∷ ks) ++ tail)) (cap_is_line (length caps) k (omega arith) small.0) next
     ∙ subst (λ (b : ℕ). verdict_from (opened v (wants.Capacities count) (caps ++ k ∷ [])) (n + 1)
-    (lines_in (flat_map line_of (numbered cap_pieces b (j ∷ ks) ++ tail))) ≡ Yes) longer
+    (lines_in (flat_map text_line (numbered cap_pieces b (j ∷ ks) ++ tail))) ≡ Yes) longer
     (complete_caps v count (caps ++ k ∷ []) (j ∷ ks) tail (n + 1) others counted few small.1 rest)
 
 head_is_line : (v : Version) → IsLine (head_pieces v)
@@ -152,16 +152,16 @@ complete_lines caps es left fits run =
     let tail = map entry_pieces es ++ (numbered left_pieces 0 left ++ end_pieces ∷ []) in
     let long : length (empty_buffers caps) ≡ length caps = length-map caps (λ (k : ℕ). []) in
     let room : length {A = Entry} [] + length es ≤ ENTRIES = (let h = fits.few_entries in omega arith) in
-    let entries : (m : ℕ) → verdict_from (opened v wants.Entries caps) m (lines_in (flat_map line_of tail)) ≡ Yes = λ m.
-    subst (λ (s : Progress). verdict_from s m (lines_in (flat_map line_of tail)) ≡ Yes)
+    let entries : (m : ℕ) → verdict_from (opened v wants.Entries caps) m (lines_in (flat_map text_line tail)) ≡ Yes = λ m.
+    subst (λ (s : Progress). verdict_from s m (lines_in (flat_map text_line tail)) ≡ Yes)
     (ap (λ buffers. record { at = wants.Entries; version = v; lowest = One; buffers = buffers; entries = 0 }) (known_fresh_from 0 caps caps))
     (complete_entries v caps [] (empty_buffers caps) es left m run fits.entries room long fits.some_buffer fits.few_buffers fits.values refl) in
     let some : 0 < length caps = (let h = fits.some_buffer in omega arith) in
     let none : 0 + length caps ≡ length caps = omega arith in
     line_read opening opens 1 (codes "mctower-trace") (version_word v ∷ [])
-    (line_of (count_pieces (length caps)) ++ flat_map line_of (numbered cap_pieces 0 caps ++ tail)) (head_is_line v) (step_head v opening refl)
+    (text_line (count_pieces (length caps)) ++ flat_map text_line (numbered cap_pieces 0 caps ++ tail)) (head_is_line v) (step_head v opening refl)
     ∙ line_read opens (opened v (wants.Capacities (length caps)) []) (1 + 1) (codes "buffers")
-    _ (flat_map line_of (numbered cap_pieces 0 caps ++ tail)) (count_is_line_of (length caps) fits.few_buffers)
+    _ (flat_map text_line (numbered cap_pieces 0 caps ++ tail)) (count_is_line_of (length caps) fits.few_buffers)
     (step_count (length caps) opens refl fits.some_buffer fits.few_buffers)
     ∙ complete_caps v (length caps) [] caps tail (1 + 1 + 1) some none fits.few_buffers fits.capacities entries
 

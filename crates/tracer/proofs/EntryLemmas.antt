@@ -18,7 +18,7 @@ use Rattle.tracer.specs.declared.next_lines.NextLine.{NextLine}
 use Rattle.tracer.specs.declared.versions.Version.{Version}
 use Rattle.tracer.specs.Versions.{covers, version_of_kind, version_of_message, version_of_entry, version_of}
 use Rattle.tracer.specs.TraceText.{kind_word, value_piece, IsValueOf}
-use Rattle.tracer.specs.Judging.{Digits, Progress, wanted, piece_at, digits_at, ended, in_range, kind_in, spells_value, value_in, is_of_version}
+use Rattle.tracer.specs.Judging.{Digits, Progress, or_reason, piece_at, digits_at, ended, in_range, kind_in, spells_value, value_in, is_of_version}
 use Rattle.tracer.specs.Judging.{entry_digits, entry_in}
 use Rattle.tracer.proofs.ReadLemmas.{bind_ok, fine, same_ok, in_range_taken, decimal_is_number}
 use Rattle.tracer.proofs.KnownLemmas.{known_from}
@@ -134,7 +134,7 @@ abbrev pub shape_of : Digits → List (List ℕ)
 shape_of d = d.cpu ∷ d.thread ∷ kind_word d.kind ∷ d.buffer ∷ d.value ∷ d.op ∷ d.pos ∷ []
 
 digits_test : {B : Type 0} (test : Bool) (x : List ℕ × List (List ℕ)) (f : List ℕ × List (List ℕ) → Result B Reason) (y : B)
-    → (wanted test Spelling (Ok x) >>= f) ≡ Ok y → f x ≡ Ok y
+    → (or_reason test Spelling (Ok x) >>= f) ≡ Ok y → f x ≡ Ok y
 digits_test true x f y e = e
 digits_test false x f y e = absurd (cc)
 

@@ -10,7 +10,7 @@ use Rattle.std.specs.Prelude.{slice_get}
 use Rattle.event_log.specs.declared.entries.Entry.{Entry}
 use Rattle.event_log.specs.Runs.{count_of}
 use Rattle.event_log.specs.Traces.{IsInterleaving, HasOpOrderFrom, HasOpOrder}
-use Rattle.tracer.specs.Gather.{traces_in, IsOrder, IsReady, TakesFirstReadyFrom, TakesFirstReady, HasNoOrder, next_entry, IsDue, NoneDueBelow}
+use Rattle.tracer.specs.Gather.{traces_in, IsOrder, IsFrontReady, TakesFirstReadyFrom, TakesFirstReady, HasNoOrder, next_entry, IsDue, NoneDueBelow}
 use Rattle.tracer.proofs.OrderLemmas.{at_head, head_at, head_within, count_more_same, count_more_other, CameFirst, may_come_first}
 
 -- what a look at a vector's slot says of the next entry of its trace
@@ -133,13 +133,13 @@ gathers_start traces n total taken counts done size fresh zeros all none =
     subst (Gathers traces total taken counts) (sym none) (gathers_none traces n total taken counts size fresh zeros all)
 
 none_ready_in : (traces : List (List Entry)) (taken counts : List ℕ) (done : List Entry) (j : ℕ) (rest : List Entry) → get_or (rests traces taken) j [] ≡ rest
-    → ((b : ℕ) → get_or counts b 0 ≡ count_of done b) → ((e : Entry) → next_entry traces taken j ≡ Some e → ¬ IsDue counts e) → ¬ IsReady done rest
+    → ((b : ℕ) → get_or counts b 0 ≡ count_of done b) → ((e : Entry) → next_entry traces taken j ≡ Some e → ¬ IsDue counts e) → ¬ IsFrontReady done rest
 none_ready_in traces taken counts done j [] at counted none ready = ready
 none_ready_in traces taken counts done j (e ∷ rest) at counted none ready = none e (head_is_next traces taken j e rest at) (ready ∙ sym (counted e.buffer.0))
 
 -- below the first trace that is due none is ready
 none_ready : (traces : List (List Entry)) (total : ℕ) (taken counts : List ℕ) (done : List Entry) (k : ℕ) → Gathers traces total taken counts done
-    → NoneDueBelow traces taken counts k → (j : ℕ) → j < k → ¬ IsReady done (get_or (rests traces taken) j [])
+    → NoneDueBelow traces taken counts k → (j : ℕ) → j < k → ¬ IsFrontReady done (get_or (rests traces taken) j [])
 none_ready traces total taken counts done k g below j under ready =
     none_ready_in traces taken counts done j (get_or (rests traces taken) j []) refl g.counted (λ e. below j e under) ready
 

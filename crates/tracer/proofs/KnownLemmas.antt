@@ -16,7 +16,7 @@ use Rattle.event_log.specs.Runs.{kind_eq, group_of, count_of, count_of_kind, IsN
 use Rattle.event_log.specs.Reading.{◌>>=◌}
 use Rattle.event_log.proofs.RunLemmas.{count_more, count_kind_more, items_none}
 use Rattle.tracer.specs.declared.verdicts.Reason.TheVariants.{Op, Pos, Full, WrongValue, CloseState, NotEmpty}
-use Rattle.tracer.specs.Judging.{Seen, fresh, wanted, or_range, was_closed, next_pos, bumped, counted, take_first, effect_of, entry_on, entry_among}
+use Rattle.tracer.specs.Judging.{Seen, fresh, or_reason, or_range, was_closed, next_pos, bumped, counted, take_first, item_effect, entry_on, entry_among}
 use Rattle.tracer.proofs.ReadLemmas.{bind_ok, wanted_ok, same_ok}
 
 -- what is known of buffer b, behind the earlier entries
@@ -129,7 +129,7 @@ take_taken value (x ∷ xs) after e =
     (ap Some ((bytes_eq-Decides x value).0 test.0), sym (same_ok xs after test.1))
 
 effect_again : (kind : Kind) (value : Message) (closed : Bool) (capacity : ℕ) (items : List Message) → IsAllowedEffect kind closed capacity items value
-    → effect_of kind value closed capacity items ≡ Ok (after_effect kind items value)
+    → item_effect kind value closed capacity items ≡ Ok (after_effect kind items value)
 effect_again Send value closed capacity items may = rw (may.0, lt-ltb (length items) capacity may.1) refl
 effect_again Recv value closed capacity items may = take_again value items may
 effect_again Close value closed capacity items may = refl
@@ -144,7 +144,7 @@ HasNone Close value = value ≡ no_message
 HasNone SendClosed value = Unit {0}
 HasNone RecvClosed value = value ≡ no_message
 
-put_taken : (value : Message) (closed : Bool) (capacity : ℕ) (items after : List Message) → effect_of Send value closed capacity items ≡ Ok after
+put_taken : (value : Message) (closed : Bool) (capacity : ℕ) (items after : List Message) → item_effect Send value closed capacity items ≡ Ok after
     → IsAllowedEffect Send closed capacity items value × (after ≡ items ++ value ∷ [])
 put_taken value true capacity items after e = absurd (cc)
 put_taken value false capacity items after e =
@@ -152,7 +152,7 @@ put_taken value false capacity items after e =
     ((refl, ltb-true (length items) capacity test.0), sym (same_ok (items ++ value ∷ []) after test.1))
 
 effect_taken : (kind : Kind) (value : Message) (closed : Bool) (capacity : ℕ) (items after : List Message) → HasNone kind value
-    → effect_of kind value closed capacity items ≡ Ok after
+    → item_effect kind value closed capacity items ≡ Ok after
     → IsAllowedEffect kind closed capacity items value × (after ≡ after_effect kind items value)
 effect_taken Send value closed capacity items after none e = put_taken value closed capacity items after e
 effect_taken Recv value closed capacity items after none e = take_taken value items after e
@@ -161,7 +161,7 @@ effect_taken SendClosed value closed capacity items after none e =
     let test = wanted_ok closed CloseState (Ok items) after e in
     (test.0, sym (same_ok items after test.1))
 effect_taken RecvClosed value closed capacity items after none e =
-    let shut = wanted_ok closed CloseState (wanted (length items == 0) NotEmpty (Ok items)) after e in
+    let shut = wanted_ok closed CloseState (or_reason (length items == 0) NotEmpty (Ok items)) after e in
     let test = wanted_ok (length items == 0) NotEmpty (Ok items) after shut.1 in
     ((shut.0, nil_from_length items (eqb-true (length items) 0 test.0), none), sym (same_ok items after test.1))
 
@@ -208,9 +208,9 @@ among_taken caps earlier contents e after long none taken =
     let stepped = bind_ok (entry_on e found.0) (λ next. Ok (slice_set (known_from earlier contents 0 caps) e.buffer.0 next)) after found.2 in
     let read : entry_on e seen ≡ Ok stepped.0 = ap (entry_on e) (sym same) ∙ stepped.1 in
     let group = group_of e.kind in
-    let effects = effect_of e.kind e.value (was_closed seen) seen.capacity seen.items in
+    let effects = item_effect e.kind e.value (was_closed seen) seen.capacity seen.items in
     let done = effects >>= λ items. Ok (counted group items seen) in
-    let op = wanted_ok (e.op == seen.ops) Op (wanted (e.pos == next_pos group seen) Pos done) stepped.0 read in
+    let op = wanted_ok (e.op == seen.ops) Op (or_reason (e.pos == next_pos group seen) Pos done) stepped.0 read in
     let pos = wanted_ok (e.pos == next_pos group seen) Pos done stepped.0 op.1 in
     let items = bind_ok effects (λ items. Ok (counted group items seen)) stepped.0 pos.1 in
     let effect = effect_taken e.kind e.value (was_closed seen) seen.capacity seen.items items.0 none items.1 in

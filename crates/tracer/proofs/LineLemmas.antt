@@ -14,7 +14,7 @@ use Rattle.tracer.specs.declared.writing.Piece.{Piece}
 use Rattle.tracer.specs.Pieces.{text_of, spaced, behind_comma}
 use Rattle.event_log.specs.declared.entries.Entry.{Entry}
 use Rattle.tracer.specs.Versions.{version_of}
-use Rattle.tracer.specs.TraceText.{line_of, numbered, message_text, head_pieces, count_pieces, cap_pieces, entry_pieces, left_pieces, end_pieces}
+use Rattle.tracer.specs.TraceText.{text_line, numbered, message_text, head_pieces, count_pieces, cap_pieces, entry_pieces, left_pieces, end_pieces}
 use Rattle.tracer.specs.TraceText.{spelling, lines_of}
 
 -- pieces with a space between each two: the first, and each other behind a space
@@ -27,7 +27,7 @@ flat_map-map f g [] = refl
 flat_map-map f g (x ∷ xs) = ap (λ (t : List ℕ). f (g x) ++ t) (flat_map-map f g xs)
 
 -- a line as its first word, its pieces, its messages and a line feed
-pub line_text : (w : List ℕ) (ps : List Piece) (ms : List Message) → line_of (w ∷ (map text_of ps ++ map message_text ms))
+pub line_text : (w : List ℕ) (ps : List Piece) (ms : List Message) → text_line (w ∷ (map text_of ps ++ map message_text ms))
     ≡ w ++ (flat_map (λ p. spaced (text_of p)) ps ++ (flat_map (λ m. spaced (message_text m)) ms ++ 10 ∷ []))
 line_text w ps ms =
     let front : join_with_byte 32 (w ∷ (map text_of ps ++ map message_text ms)) ≡ w ++ flat_map spaced (map text_of ps ++ map message_text ms) =
@@ -81,46 +81,46 @@ numbered-map line f b (x ∷ xs) = ap (λ (t : List (List (List ℕ))). line b (
 
 -- the lines before are out, and this one
 pub numbered_out : {X : Type 0} (line : ℕ → X → List (List ℕ)) (xs : List X) (i : ℕ) (d : X) (old mid new : Option (List ℕ)) → i < length xs
-    → Appends old mid (flat_map line_of (numbered line 0 (take i xs))) → Appends mid new (line_of (line i (get_or xs i d)))
-    → Appends old new (flat_map line_of (numbered line 0 (take (i + 1) xs)))
+    → Appends old mid (flat_map text_line (numbered line 0 (take i xs))) → Appends mid new (text_line (line i (get_or xs i d)))
+    → Appends old new (flat_map text_line (numbered line 0 (take (i + 1) xs)))
 numbered_out line xs i d old mid new lt front here =
     let more : numbered line 0 (take (i + 1) xs) ≡ numbered line 0 (take i xs) ++ line i (get_or xs i d) ∷ [] = numbered_more line 0 xs i d lt
     ∙ rw (zero-add i) refl in
-    let text : flat_map line_of (numbered line 0 (take (i + 1) xs)) ≡ flat_map line_of (numbered line 0 (take i xs)) ++ line_of (line i (get_or xs i d)) =
-    ap (flat_map line_of) more ∙ flat_map-append line_of (numbered line 0 (take i xs)) (line i (get_or xs i d) ∷ [])
-    ∙ ap (λ (t : List ℕ). flat_map line_of (numbered line 0 (take i xs)) ++ t) (append-nil (line_of (line i (get_or xs i d)))) in
+    let text : flat_map text_line (numbered line 0 (take (i + 1) xs)) ≡ flat_map text_line (numbered line 0 (take i xs)) ++ text_line (line i (get_or xs i d)) =
+    ap (flat_map text_line) more ∙ flat_map-append text_line (numbered line 0 (take i xs)) (line i (get_or xs i d) ∷ [])
+    ∙ ap (λ (t : List ℕ). flat_map text_line (numbered line 0 (take i xs)) ++ t) (append-nil (text_line (line i (get_or xs i d)))) in
     rw text (appends_then old mid new _ _ front here)
 
 -- the lines before are out, and this one failed
 pub numbered_failed : {X : Type 0} (line : ℕ → X → List (List ℕ)) (xs : List X) (i : ℕ) (d : X) (failed : Bool) (old mid new : Option (List ℕ)) → i < length xs
-    → Appends old mid (flat_map line_of (numbered line 0 (take i xs))) → failed ≡ true → Outs failed mid new (line_of (line i (get_or xs i d)))
-    → Outs failed old new (flat_map line_of (numbered line 0 xs))
+    → Appends old mid (flat_map text_line (numbered line 0 (take i xs))) → failed ≡ true → Outs failed mid new (text_line (line i (get_or xs i d)))
+    → Outs failed old new (flat_map text_line (numbered line 0 xs))
 numbered_failed line xs i d failed old mid new lt front e here =
     let rest = numbered line (0 + i + 1) (drop (i + 1) xs) in
     let cut : numbered line 0 xs ≡ numbered line 0 (take i xs) ++ (line i (get_or xs i d) ∷ rest) = numbered_at line 0 xs i d lt ∙ rw (zero-add i) refl in
-    let text : flat_map line_of (numbered line 0 xs) ≡ flat_map line_of (numbered line 0 (take i xs))
-    ++ (line_of (line i (get_or xs i d)) ++ flat_map line_of rest) = ap (flat_map line_of) cut
-    ∙ flat_map-append line_of (numbered line 0 (take i xs)) (line i (get_or xs i d) ∷ rest) in
-    rw text (outs_then failed old mid new _ _ front (outs_before failed mid new (line_of (line i (get_or xs i d))) (flat_map line_of rest) e here))
+    let text : flat_map text_line (numbered line 0 xs) ≡ flat_map text_line (numbered line 0 (take i xs))
+    ++ (text_line (line i (get_or xs i d)) ++ flat_map text_line rest) = ap (flat_map text_line) cut
+    ∙ flat_map-append text_line (numbered line 0 (take i xs)) (line i (get_or xs i d) ∷ rest) in
+    rw text (outs_then failed old mid new _ _ front (outs_before failed mid new (text_line (line i (get_or xs i d))) (flat_map text_line rest) e here))
 
 -- the text of a trace in the parts in which it is written
 pub spelling_parts : {V : Type 0} (items : V → List Message) (caps : List ℕ) (es : List Entry) (left : List V)
-    → spelling caps es (map items left) ≡ line_of (head_pieces (version_of es))
-    ++ (line_of (count_pieces (length caps))
-    ++ (flat_map line_of (numbered cap_pieces 0 caps)
-    ++ (flat_map (λ e. line_of (entry_pieces e)) es ++ (flat_map line_of (numbered (λ b v. left_pieces b (items v)) 0 left) ++ line_of end_pieces))))
+    → spelling caps es (map items left) ≡ text_line (head_pieces (version_of es))
+    ++ (text_line (count_pieces (length caps))
+    ++ (flat_map text_line (numbered cap_pieces 0 caps)
+    ++ (flat_map (λ e. text_line (entry_pieces e)) es ++ (flat_map text_line (numbered (λ b v. left_pieces b (items v)) 0 left) ++ text_line end_pieces))))
 unfolding spelling lines_of
 spelling_parts items caps es left =
-    let last : flat_map line_of (numbered left_pieces 0 (map items left) ++ end_pieces ∷ [])
-    ≡ flat_map line_of (numbered (λ b v. left_pieces b (items v)) 0 left) ++ line_of end_pieces =
-    flat_map-append line_of (numbered left_pieces 0 (map items left)) (end_pieces ∷ [])
-    ∙ ap (λ (t : List (List (List ℕ))). flat_map line_of t ++ line_of end_pieces) (numbered-map left_pieces items 0 left) in
-    let middle : flat_map line_of (map entry_pieces es ++ (numbered left_pieces 0 (map items left) ++ end_pieces ∷ []))
-    ≡ flat_map (λ e. line_of (entry_pieces e)) es ++ (flat_map line_of (numbered (λ b v. left_pieces b (items v)) 0 left) ++ line_of end_pieces) =
-    flat_map-append line_of (map entry_pieces es) (numbered left_pieces 0 (map items left) ++ end_pieces ∷ [])
-    ∙ rw (flat_map-map line_of entry_pieces es, last) refl in
-    let front : flat_map line_of (numbered cap_pieces 0 caps ++ (map entry_pieces es ++ (numbered left_pieces 0 (map items left) ++ end_pieces ∷ [])))
-    ≡ flat_map line_of (numbered cap_pieces 0 caps)
-    ++ (flat_map (λ e. line_of (entry_pieces e)) es ++ (flat_map line_of (numbered (λ b v. left_pieces b (items v)) 0 left) ++ line_of end_pieces)) =
-    flat_map-append line_of (numbered cap_pieces 0 caps) _ ∙ ap (λ (t : List ℕ). flat_map line_of (numbered cap_pieces 0 caps) ++ t) middle in
-    ap (λ (t : List ℕ). line_of (head_pieces (version_of es)) ++ (line_of (count_pieces (length caps)) ++ t)) front
+    let last : flat_map text_line (numbered left_pieces 0 (map items left) ++ end_pieces ∷ [])
+    ≡ flat_map text_line (numbered (λ b v. left_pieces b (items v)) 0 left) ++ text_line end_pieces =
+    flat_map-append text_line (numbered left_pieces 0 (map items left)) (end_pieces ∷ [])
+    ∙ ap (λ (t : List (List (List ℕ))). flat_map text_line t ++ text_line end_pieces) (numbered-map left_pieces items 0 left) in
+    let middle : flat_map text_line (map entry_pieces es ++ (numbered left_pieces 0 (map items left) ++ end_pieces ∷ []))
+    ≡ flat_map (λ e. text_line (entry_pieces e)) es ++ (flat_map text_line (numbered (λ b v. left_pieces b (items v)) 0 left) ++ text_line end_pieces) =
+    flat_map-append text_line (map entry_pieces es) (numbered left_pieces 0 (map items left) ++ end_pieces ∷ [])
+    ∙ rw (flat_map-map text_line entry_pieces es, last) refl in
+    let front : flat_map text_line (numbered cap_pieces 0 caps ++ (map entry_pieces es ++ (numbered left_pieces 0 (map items left) ++ end_pieces ∷ [])))
+    ≡ flat_map text_line (numbered cap_pieces 0 caps)
+    ++ (flat_map (λ e. text_line (entry_pieces e)) es ++ (flat_map text_line (numbered (λ b v. left_pieces b (items v)) 0 left) ++ text_line end_pieces)) =
+    flat_map-append text_line (numbered cap_pieces 0 caps) _ ∙ ap (λ (t : List ℕ). flat_map text_line (numbered cap_pieces 0 caps) ++ t) middle in
+    ap (λ (t : List ℕ). text_line (head_pieces (version_of es)) ++ (text_line (count_pieces (length caps)) ++ t)) front

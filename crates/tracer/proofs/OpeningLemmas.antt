@@ -18,7 +18,7 @@ use Rattle.tracer.specs.declared.versions.Version.{Version}
 use Rattle.tracer.specs.declared.versions.Version.TheVariants.{One, Two, Three}
 use Rattle.tracer.specs.Versions.{covers}
 use Rattle.tracer.specs.TraceText.{head_pieces, cap_pieces, count_pieces}
-use Rattle.tracer.specs.Judging.{Progress, fresh, wanted, piece_at, word_at, digits_at, ended, in_range, is_value, count_digits, count_line, capacity_digits}
+use Rattle.tracer.specs.Judging.{Progress, fresh, or_reason, piece_at, word_at, digits_at, ended, in_range, is_value, count_digits, count_line, capacity_digits}
 use Rattle.tracer.specs.Judging.{capacity_line, version_in, head_line, end_line, step}
 use Rattle.tracer.proofs.SplitLemmas.{IsLine, decimal_lacks, pieces_again}
 use Rattle.tracer.proofs.ReadLemmas.{bind_ok, wanted_ok, same_ok, piece_taken, word_taken, digits_taken, ended_taken}
@@ -65,7 +65,7 @@ pub end_taken : (line : List ℕ) (s after : Progress) → end_line line s ≡ O
     → (line ≡ codes "end") × (covers s.lowest s.version ≡ true) × (after ≡ record s { at = wants.Done })
 unfolding end_line
 end_taken line s after taken =
-    let test = wanted_ok (bytes_eq line (codes "end")) Spelling (wanted (covers s.lowest s.version) OfVersion (Ok
+    let test = wanted_ok (bytes_eq line (codes "end")) Spelling (or_reason (covers s.lowest s.version) OfVersion (Ok
     (record s { at = wants.Done }))) after taken in
     let low = wanted_ok (covers s.lowest s.version) OfVersion (Ok (record s { at = wants.Done })) after test.1 in
     ((bytes_eq-Decides line (codes "end")).0 test.0, low.0, sym (same_ok (record s { at = wants.Done }) after low.1))
@@ -113,8 +113,8 @@ pub count_line_taken : (ps : List (List ℕ)) (s after : Progress) → count_lin
 unfolding count_line
 count_line_taken ps s after taken =
     let digits = bind_ok (count_digits ps) (λ digits. in_range BUFFERS digits >>= λ count.
-    wanted (nat_lt 0 count) Range (Ok (record s { at = wants.Capacities count; buffers = [] }))) after taken in
-    let count = bind_ok (in_range BUFFERS digits.0) (λ count. wanted (nat_lt 0 count) Range (Ok (record s { at = wants.Capacities count; buffers = [] }))) after
+    or_reason (nat_lt 0 count) Range (Ok (record s { at = wants.Capacities count; buffers = [] }))) after taken in
+    let count = bind_ok (in_range BUFFERS digits.0) (λ count. or_reason (nat_lt 0 count) Range (Ok (record s { at = wants.Capacities count; buffers = [] }))) after
     digits.2 in
     let some = wanted_ok (nat_lt 0 count.0) Range (Ok (record s { at = wants.Capacities count.0; buffers = [] })) after count.2 in (
       count.0,
@@ -174,10 +174,10 @@ capacity_digits_taken : (b : ℕ) (ps : List (List ℕ)) (digits : List ℕ) →
 unfolding capacity_digits
 capacity_digits_taken b ps digits taken =
     let word = bind_ok (word_at (codes "cap") ps) (λ rest. piece_at rest >>= λ number.
-    wanted (is_value number.0 b) Spelling (digits_at number.1) >>= λ capacity. ended capacity.1 >>= λ _. Ok capacity.0) digits taken in
-    let number = bind_ok (piece_at word.0) (λ number. wanted (is_value number.0 b) Spelling (digits_at number.1) >>= λ capacity. ended capacity.1 >>= λ _.
+    or_reason (is_value number.0 b) Spelling (digits_at number.1) >>= λ capacity. ended capacity.1 >>= λ _. Ok capacity.0) digits taken in
+    let number = bind_ok (piece_at word.0) (λ number. or_reason (is_value number.0 b) Spelling (digits_at number.1) >>= λ capacity. ended capacity.1 >>= λ _.
     Ok capacity.0) digits word.2 in
-    let capacity = bind_ok (wanted (is_value number.0.0 b) Spelling (digits_at number.0.1)) (λ capacity. ended capacity.1 >>= λ _. Ok capacity.0) digits
+    let capacity = bind_ok (or_reason (is_value number.0.0 b) Spelling (digits_at number.0.1)) (λ capacity. ended capacity.1 >>= λ _. Ok capacity.0) digits
     number.2 in
     let value = wanted_ok (is_value number.0.0 b) Spelling (digits_at number.0.1) capacity.0 capacity.1 in
     let last = bind_ok (ended capacity.0.1) (λ _. Ok capacity.0.0) digits capacity.2 in
@@ -214,10 +214,10 @@ unfolding capacity_line
 capacity_line_taken v at count caps ps after taken =
     let s = opened v at caps in
     let digits = bind_ok (capacity_digits (length s.buffers) ps)
-    (λ digits. in_range CAPACITY digits >>= λ capacity. wanted (nat_lt 0 capacity) Range
+    (λ digits. in_range CAPACITY digits >>= λ capacity. or_reason (nat_lt 0 capacity) Range
     (Ok (record s { at = behind_cap (length s.buffers + 1) count; buffers = s.buffers ++ fresh capacity ∷ [] }))) after taken in
     let capacity = bind_ok (in_range CAPACITY digits.0)
-    (λ capacity. wanted (nat_lt 0 capacity) Range
+    (λ capacity. or_reason (nat_lt 0 capacity) Range
     (Ok (record s { at = behind_cap (length s.buffers + 1) count; buffers = s.buffers ++ fresh capacity ∷ [] }))) after digits.2 in
     let some = wanted_ok (nat_lt 0 capacity.0) Range
     (Ok (record s { at = behind_cap (length s.buffers + 1) count; buffers = s.buffers ++ fresh capacity.0 ∷ [] })) after capacity.2 in (

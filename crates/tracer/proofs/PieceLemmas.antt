@@ -8,7 +8,7 @@ use Rattle.std.proofs.lemmas.List.Splits.{length-slice_split}
 use Rattle.event_log.specs.Messages.{Message}
 use Rattle.tracer.specs.declared.verdicts.Reason.{Reason}
 use Rattle.tracer.specs.declared.pieces.Pieces.{Pieces}
-use Rattle.tracer.specs.Judging.{piece_at, pieces_of, are_values}
+use Rattle.tracer.specs.Judging.{piece_at, line_pieces, are_values}
 use Rattle.tracer.specs.Lines.{left_of}
 
 pub no_piece : (ps : List (List ℕ)) (reason : Reason) → piece_at ps ≡ Err reason → ps ≡ []
@@ -21,16 +21,16 @@ pub piece_missing : (ps : List (List ℕ)) (reason : Reason) (ns : List Message)
 piece_missing ps reason ns i e lt = rw (no_piece ps reason e, drop_more ns i [] lt) refl
 
 -- a line has a piece
-no_pieces : (line : List ℕ) (ps : List (List ℕ)) → pieces_of line ≡ ps → are_values ps [] ≡ false
+no_pieces : (line : List ℕ) (ps : List (List ℕ)) → line_pieces line ≡ ps → are_values ps [] ≡ false
 no_pieces line [] e = absurd (let n = ap length e in omega (arith, length-slice_split (λ b. b == 32) line))
 no_pieces line (p ∷ ps) e = refl
 
 -- all numbers are read
 pieces_end : (pieces : Pieces) (ns : List Message) (i : ℕ) → length ns ≤ i → are_values (left_of pieces) (drop i ns) ≡ is_none pieces.rest
 pieces_end pieces ns i le =
-    rw (drop_all i ns le) (elim pieces.rest as (λ r. are_values (elim r [ None ↦ [] | Some line ↦ pieces_of line.now ]) [] ≡ is_none r) [
+    rw (drop_all i ns le) (elim pieces.rest as (λ r. are_values (elim r [ None ↦ [] | Some line ↦ line_pieces line.now ]) [] ≡ is_none r) [
       | None ↦ refl
-      | Some line ↦ no_pieces line.now (pieces_of line.now) refl
+      | Some line ↦ no_pieces line.now (line_pieces line.now) refl
     ])
 
 same_none : (line : Option (Bor (List ℕ))) (b : Bool) → is_some line ≡ not b → b ≡ is_none line

@@ -9,14 +9,14 @@ use Rattle.event_log.specs.Reading.{◌>>=◌}
 use Rattle.event_log.proofs.DigitsLemmas.{decimal-spelled, is_number-spelled, number_to-decimal, number_to-spelling, number_to-Some}
 use Rattle.tracer.specs.declared.verdicts.Reason.{Reason}
 use Rattle.tracer.specs.declared.verdicts.Reason.TheVariants.{Spelling}
-use Rattle.tracer.specs.Judging.{wanted, piece_at, word_at, digits_at, ended, or_range, in_range, is_just, is_value}
+use Rattle.tracer.specs.Judging.{or_reason, piece_at, word_at, digits_at, ended, or_range, in_range, is_just, is_value}
 
 -- the value of a step without a fault
 pub bind_ok : {A B : Type 0} (r : Result A Reason) (f : A → Result B Reason) (y : B) → (r >>= f) ≡ Ok y → (x : A) × (r ≡ Ok x) × (f x ≡ Ok y)
 bind_ok (Ok x) f y e = (x, refl, e)
 bind_ok (Err reason) f y e = absurd (cc)
 
-pub wanted_ok : {A : Type 0} (test : Bool) (reason : Reason) (next : Result A Reason) (y : A) → wanted test reason next ≡ Ok y → (test ≡ true) × (next ≡ Ok y)
+pub wanted_ok : {A : Type 0} (test : Bool) (reason : Reason) (next : Result A Reason) (y : A) → or_reason test reason next ≡ Ok y → (test ≡ true) × (next ≡ Ok y)
 wanted_ok true reason next y e = (refl, e)
 wanted_ok false reason next y e = absurd (cc)
 
@@ -32,14 +32,14 @@ piece_taken (p ∷ ps) x e = let same : (p, ps) ≡ x = cc in rw (← same) refl
 
 pub word_taken : (w : List ℕ) (ps rest : List (List ℕ)) → word_at w ps ≡ Ok rest → ps ≡ w ∷ rest
 word_taken w ps rest e =
-    let first = bind_ok (piece_at ps) (λ p. wanted (bytes_eq p.0 w) Spelling (Ok p.1)) rest e in
+    let first = bind_ok (piece_at ps) (λ p. or_reason (bytes_eq p.0 w) Spelling (Ok p.1)) rest e in
     let test = wanted_ok (bytes_eq first.0.0 w) Spelling (Ok first.0.1) rest first.2 in
     let same : first.0.0 ≡ w = (bytes_eq-Decides first.0.0 w).0 test.0 in
     piece_taken ps first.0 first.1 ∙ rw (same, same_ok first.0.1 rest test.1) refl
 
 pub digits_taken : (ps : List (List ℕ)) (x : List ℕ × List (List ℕ)) → digits_at ps ≡ Ok x → ps ≡ x.0 ∷ x.1
 digits_taken ps x e =
-    let first = bind_ok (piece_at ps) (λ p. wanted (is_number p.0) Spelling (Ok p)) x e in
+    let first = bind_ok (piece_at ps) (λ p. or_reason (is_number p.0) Spelling (Ok p)) x e in
     let test = wanted_ok (is_number first.0.0) Spelling (Ok first.0) x first.2 in
     piece_taken ps first.0 first.1 ∙ rw (same_ok first.0 x test.1) refl
 

@@ -11,6 +11,7 @@ use Rattle.event_log.specs.declared.ids.TheConstants.{BUFFERS, ENTRIES}
 use Rattle.event_log.specs.declared.entries.Entry.{Entry}
 use Rattle.event_log.specs.Buffers.{items_of, empty_buffers, IsCapacity}
 use Rattle.event_log.specs.Runs.{IsNext, after_entry, IsRunFrom, IsRun}
+use Rattle.event_log.proofs.Streams.{taken_put}
 use Rattle.tracer.specs.declared.next_lines.NextLine.TheVariants as wants
 use Rattle.tracer.specs.declared.verdicts.Reason.{Reason}
 use Rattle.tracer.specs.declared.verdicts.Verdict.{Verdict}
@@ -18,10 +19,10 @@ use Rattle.tracer.specs.declared.verdicts.Verdict.TheVariants.{Yes, No}
 use Rattle.tracer.specs.declared.versions.Version.{Version}
 use Rattle.tracer.specs.declared.versions.Version.TheVariants.{One}
 use Rattle.tracer.specs.Versions.{covers, version_of_entry, version_from, version_of}
-use Rattle.tracer.specs.TraceText.{line_of, head_pieces, count_pieces, cap_pieces, entry_pieces, left_pieces, end_pieces, numbered, lines_of, spelling}
+use Rattle.tracer.specs.TraceText.{text_line, head_pieces, count_pieces, cap_pieces, entry_pieces, left_pieces, end_pieces, numbered, lines_of, spelling}
 use Rattle.tracer.specs.TraceText.{IsEntryOf, IsSpellable, AreItemsOf}
 use Rattle.tracer.specs.Verdicts.{IsTraceOfRun}
-use Rattle.tracer.specs.Judging.{Progress, opening, step, after_line, pieces_of, lines_in, verdict_from, verdict_of, head_line}
+use Rattle.tracer.specs.Judging.{Progress, opening, step, after_line, line_pieces, lines_in, verdict_from, verdict_of, head_line}
 use Rattle.tracer.specs.Judging.{end_line, count_line, capacity_line}
 use Rattle.tracer.specs.Judging.{entries_line, left_line}
 use Rattle.tracer.proofs.KnownLemmas.{known_fresh_from}
@@ -37,7 +38,7 @@ went (Ok after) n next e = (after, refl, e)
 went (Err reason) n next e = absurd (cc)
 
 -- a line of these pieces
-line_spelled : (line : List ℕ) (ps : List (List ℕ)) (rest : List ℕ) → pieces_of line ≡ ps → line ++ 10 ∷ rest ≡ line_of ps ++ rest
+line_spelled : (line : List ℕ) (ps : List (List ℕ)) (rest : List ℕ) → line_pieces line ≡ ps → line ++ 10 ∷ rest ≡ text_line ps ++ rest
 line_spelled line ps rest e =
     let same : line ≡ join_with_byte 32 ps = sym (join_with_byte-slice_split 32 line) ∙ ap (join_with_byte 32) e in
     rw same (sym (append_assoc (join_with_byte 32 ps) (10 ∷ []) rest))
@@ -59,7 +60,7 @@ done_end v low buffers entries n (line ∷ next ∷ more) e = absurd (cc)
 
 sound_end : (v low : Version) (buffers : _) (entries n : ℕ) (lines : List (List ℕ))
     → verdict_from (record { at = wants.End; version = v; lowest = low; buffers = buffers; entries = entries }) n lines ≡ Yes
-    → (join_with_byte 10 lines ≡ flat_map line_of (end_pieces ∷ [])) × (covers low v ≡ true)
+    → (join_with_byte 10 lines ≡ flat_map text_line (end_pieces ∷ [])) × (covers low v ≡ true)
 unfolding step
 sound_end v low buffers entries n [] e = absurd (cc)
 sound_end v low buffers entries n (rest ∷ []) e = absurd (cc)
@@ -74,7 +75,7 @@ sound_end v low buffers entries n (line ∷ next ∷ more) e =
 
 -- the lines are what is left from buffer b on, and the end of a text of a version that is no higher than the entries want
 abbrev LeftText : Version → Version → ℕ → List (List Message) → List (List ℕ) → Type 0
-LeftText v low b contents lines = (join_with_byte 10 lines ≡ flat_map line_of (numbered left_pieces b (drop b contents) ++ end_pieces ∷ []))
+LeftText v low b contents lines = (join_with_byte 10 lines ≡ flat_map text_line (numbered left_pieces b (drop b contents) ++ end_pieces ∷ []))
     × AllByRecursion (AreItemsOf v) (drop b contents) × (covers low v ≡ true)
 
 behind_cases : (v : Version) (b : ℕ) (caps : List ℕ) (earlier : List Entry) (contents : List (List Message)) (n : ℕ) (lines : List (List ℕ)) (more : Bool)
@@ -91,16 +92,16 @@ behind_cases v b caps earlier contents n lines false is long again e =
 
 -- a line of what is left of buffer b, and the lines behind it
 left_text : (v low : Version) (b : ℕ) (contents : List (List Message)) (line : List ℕ) (ps : List (List ℕ)) (next : List ℕ) (more : List (List ℕ))
-    → pieces_of line ≡ ps
+    → line_pieces line ≡ ps
     → b < length contents → ps ≡ left_pieces b (items_of contents b) → AreItemsOf v (items_of contents b) → LeftText v low (b + 1) contents (next ∷ more)
     → LeftText v low b contents (line ∷ next ∷ more)
 left_text v low b contents line ps next more is inside spelled small behind =
     let cut : drop b contents ≡ items_of contents b ∷ drop (b + 1) contents = drop_more contents b [] inside in
-    let text : line ++ 10 ∷ join_with_byte 10 (next ∷ more) ≡ line_of (left_pieces b (items_of contents b))
-    ++ flat_map line_of (numbered left_pieces (b + 1) (drop (b + 1) contents) ++ end_pieces ∷ []) =
+    let text : line ++ 10 ∷ join_with_byte 10 (next ∷ more) ≡ text_line (left_pieces b (items_of contents b))
+    ++ flat_map text_line (numbered left_pieces (b + 1) (drop (b + 1) contents) ++ end_pieces ∷ []) =
     line_spelled line (left_pieces b (items_of contents b)) (join_with_byte 10 (next ∷ more)) (is ∙ spelled)
-    ∙ ap (λ (t : List ℕ). line_of (left_pieces b (items_of contents b)) ++ t) behind.0 in
-    subst (λ (all : List (List Message)). (line ++ 10 ∷ join_with_byte 10 (next ∷ more) ≡ flat_map line_of (numbered left_pieces b all ++ end_pieces ∷ []))
+    ∙ ap (λ (t : List ℕ). text_line (left_pieces b (items_of contents b)) ++ t) behind.0 in
+    subst (λ (all : List (List Message)). (line ++ 10 ∷ join_with_byte 10 (next ∷ more) ≡ flat_map text_line (numbered left_pieces b all ++ end_pieces ∷ []))
     × AllByRecursion (AreItemsOf v) all × (covers low v ≡ true)) (sym cut) (text, (small, behind.1), behind.2)
 
 sound_left : (v : Version) (b : ℕ) (caps : List ℕ) (earlier : List Entry) (contents : List (List Message)) (n : ℕ) (lines : List (List ℕ))
@@ -111,12 +112,12 @@ sound_left v b caps earlier contents n [] long e = absurd (cc)
 sound_left v b caps earlier contents n (rest ∷ []) long e = absurd (cc)
 sound_left v b caps earlier contents n (line ∷ next ∷ more) long e =
     let s = progress v (wants.Contents b) caps earlier contents in
-    let go = went (left_line b (pieces_of line) s) n (λ after. verdict_from after (n + 1) (next ∷ more)) e in
-    let taken = left_line_taken v (wants.Contents b) b caps earlier contents (pieces_of line) go.0 go.1 in
+    let go = went (left_line b (line_pieces line) s) n (λ after. verdict_from after (n + 1) (next ∷ more)) e in
+    let taken = left_line_taken v (wants.Contents b) b caps earlier contents (line_pieces line) go.0 go.1 in
     let behind = behind_cases v b caps earlier contents (n + 1) (next ∷ more) (nat_lt (b + 1) (length caps)) refl long
     (λ _ again. sound_left v (b + 1) caps earlier contents (n + 1) (next ∷ more) long again)
     (subst (λ (a : Progress). verdict_from a (n + 1) (next ∷ more) ≡ Yes) taken.is go.2) in
-    left_text v (version_of earlier) b contents line (pieces_of line) next more refl (let h = taken.known in omega arith) taken.spelled taken.small behind
+    left_text v (version_of earlier) b contents line (line_pieces line) next more refl (let h = taken.known in omega arith) taken.spelled taken.small behind
 
 -- ---- the entries
 
@@ -129,14 +130,14 @@ pub record Judged (v : Version) (caps : List ℕ) (earlier : List Entry) (conten
   pub each : length left ≡ length caps
   pub values : AllByRecursion (AreItemsOf v) left
   pub lowest : v ≡ version_from (version_of earlier) es
-  pub text : join_with_byte 10 lines ≡ flat_map line_of (map entry_pieces es ++ (numbered left_pieces 0 left ++ end_pieces ∷ []))
+  pub text : join_with_byte 10 lines ≡ flat_map text_line (map entry_pieces es ++ (numbered left_pieces 0 left ++ end_pieces ∷ []))
 
 abbrev IsJudged : Version → List ℕ → List Entry → List (List Message) → List (List ℕ) → Type 0
 IsJudged v caps earlier contents lines = (es : List Entry) × (left : List (List Message)) × Judged v caps earlier contents lines es left
 
 -- an entry, and the lines behind it
 judged_more : (v : Version) (caps : List ℕ) (earlier : List Entry) (contents : List (List Message)) (line next : List ℕ) (more : List (List ℕ)) (e : Entry)
-    → pieces_of line ≡ entry_pieces e → IsEntryOf (length caps) e → IsNext caps earlier contents e
+    → line_pieces line ≡ entry_pieces e → IsEntryOf (length caps) e → IsNext caps earlier contents e
     → IsJudged v caps (earlier ++ e ∷ []) (after_entry contents e) (next ∷ more) → IsJudged v caps earlier contents (line ∷ next ∷ more)
 judged_more v caps earlier contents line next more e spelled small can behind =
     let rest = behind.2 in (
@@ -149,7 +150,7 @@ judged_more v caps earlier contents line next more e spelled small can behind =
         each = rest.each;
         values = rest.values;
         lowest = rest.lowest ∙ ap (λ (u : Version). version_from u behind.0) (version_more earlier e);
-        text = line_spelled line (entry_pieces e) (join_with_byte 10 (next ∷ more)) spelled ∙ ap (λ (t : List ℕ). line_of (entry_pieces e) ++ t) rest.text;
+        text = line_spelled line (entry_pieces e) (join_with_byte 10 (next ∷ more)) spelled ∙ ap (λ (t : List ℕ). text_line (entry_pieces e) ++ t) rest.text;
       },
     )
 
@@ -178,8 +179,8 @@ sound_entries v caps earlier contents n [] few long high e = absurd (cc)
 sound_entries v caps earlier contents n (rest ∷ []) few long high e = absurd (cc)
 sound_entries v caps earlier contents n (line ∷ next ∷ more) few long high e =
     let s = progress v wants.Entries caps earlier contents in
-    let go = went (entries_line (pieces_of line) s) n (λ after. verdict_from after (n + 1) (next ∷ more)) e in
-    elim (entries_taken v caps earlier contents (pieces_of line) go.0 long go.1) [
+    let go = went (entries_line (line_pieces line) s) n (λ after. verdict_from after (n + 1) (next ∷ more)) e in
+    elim (entries_taken v caps earlier contents (line_pieces line) go.0 long go.1) [
       | inl entry ↦
           judged_more v caps earlier contents line next more entry.0 entry.1 entry.2 entry.4
           (sound_entries v caps (earlier ++ entry.0 ∷ []) (after_entry contents entry.0) (n + 1) (next ∷ more)
@@ -188,7 +189,7 @@ sound_entries v caps earlier contents n (line ∷ next ∷ more) few long high e
           (subst (λ (a : Progress). verdict_from a (n + 1) (next ∷ more) ≡ Yes) entry.6 go.2))
       | inr left ↦
           judged_left v caps earlier contents (line ∷ next ∷ more) few long high
-          (left_text v (version_of earlier) 0 contents line (pieces_of line) next more refl (let h = left.known in omega arith) left.spelled left.small
+          (left_text v (version_of earlier) 0 contents line (line_pieces line) next more refl (let h = left.known in omega arith) left.spelled left.small
           (behind_cases v 0 caps earlier contents (n + 1) (next ∷ more) (nat_lt (0 + 1) (length caps)) refl long
           (λ _ again. sound_left v (0 + 1) caps earlier contents (n + 1) (next ∷ more) long again)
           (subst (λ (a : Progress). verdict_from a (n + 1) (next ∷ more) ≡ Yes) left.is go.2)))
@@ -201,7 +202,7 @@ pub record CapsJudged (v : Version) (count : ℕ) (caps : List ℕ) (lines : Lis
   pub counted : length caps + length more ≡ count
   pub small : AllByRecursion IsCapacity more
   pub judged : verdict_from (opened v wants.Entries (caps ++ more)) m rest ≡ Yes
-  pub text : join_with_byte 10 lines ≡ flat_map line_of (numbered cap_pieces (length caps) more) ++ join_with_byte 10 rest
+  pub text : join_with_byte 10 lines ≡ flat_map text_line (numbered cap_pieces (length caps) more) ++ join_with_byte 10 rest
 
 abbrev AreCaps : Version → ℕ → List ℕ → List (List ℕ) → Type 0
 AreCaps v count caps lines = (more : List ℕ) × (m : ℕ) × (rest : List (List ℕ)) × CapsJudged v count caps lines more m rest
@@ -214,7 +215,7 @@ caps_cases v count caps n lines false is le again e =
     let past = ltb-false (length caps) count is in
     ([], n, lines, record { counted = omega arith; small = tt; judged = rw (append-nil caps) e; text = refl })
 
-caps_more : (v : Version) (count : ℕ) (caps : List ℕ) (line next : List ℕ) (more : List (List ℕ)) (k : ℕ) → pieces_of line ≡ cap_pieces (length caps) k
+caps_more : (v : Version) (count : ℕ) (caps : List ℕ) (line next : List ℕ) (more : List (List ℕ)) (k : ℕ) → line_pieces line ≡ cap_pieces (length caps) k
     → IsCapacity k
     → AreCaps v count (caps ++ k ∷ []) (next ∷ more) → AreCaps v count caps (line ∷ next ∷ more)
 caps_more v count caps line next more k spelled small behind =
@@ -229,9 +230,9 @@ caps_more v count caps line next more k spelled small behind =
         small = (small, rest.small);
         judged = rw (← append_assoc caps (k ∷ []) others) rest.judged;
         text = line_spelled line (cap_pieces (length caps) k) (join_with_byte 10 (next ∷ more)) spelled
-            ∙ ap (λ (t : List ℕ). line_of (cap_pieces (length caps) k) ++ t)
-            (rest.text ∙ ap (λ (b : ℕ). flat_map line_of (numbered cap_pieces b others) ++ join_with_byte 10 behind.2) longer)
-            ∙ sym (append_assoc (line_of (cap_pieces (length caps) k)) (flat_map line_of (numbered cap_pieces (length caps + 1) others))
+            ∙ ap (λ (t : List ℕ). text_line (cap_pieces (length caps) k) ++ t)
+            (rest.text ∙ ap (λ (b : ℕ). flat_map text_line (numbered cap_pieces b others) ++ join_with_byte 10 behind.2) longer)
+            ∙ sym (append_assoc (text_line (cap_pieces (length caps) k)) (flat_map text_line (numbered cap_pieces (length caps + 1) others))
             (join_with_byte 10 behind.2));
       },
     )
@@ -243,8 +244,8 @@ sound_caps v count caps n [] lt e = absurd (cc)
 sound_caps v count caps n (rest ∷ []) lt e = absurd (cc)
 sound_caps v count caps n (line ∷ next ∷ more) lt e =
     let s = opened v (wants.Capacities count) caps in
-    let go = went (capacity_line count (pieces_of line) s) n (λ after. verdict_from after (n + 1) (next ∷ more)) e in
-    let taken = capacity_line_taken v (wants.Capacities count) count caps (pieces_of line) go.0 go.1 in
+    let go = went (capacity_line count (line_pieces line) s) n (λ after. verdict_from after (n + 1) (next ∷ more)) e in
+    let taken = capacity_line_taken v (wants.Capacities count) count caps (line_pieces line) go.0 go.1 in
     let k = taken.0 in
     let longer : length (caps ++ k ∷ []) ≡ length caps + 1 = length_push caps k in
     let judged : verdict_from (opened v (behind_cap (length (caps ++ k ∷ [])) count) (caps ++ k ∷ [])) (n + 1) (next ∷ more) ≡ Yes =
@@ -258,13 +259,13 @@ sound_caps v count caps n (line ∷ next ∷ more) lt e =
 -- what it says that the lines from the number of buffers on get yes
 abbrev IsTail : Version → List ℕ → Type 0
 IsTail v text = (caps : List ℕ) × (es : List Entry) × (left : List (List Message)) × IsSpellable caps es left × IsRun caps es left × (v ≡ version_of es)
-    × (text ≡ line_of (count_pieces (length caps)) ++ flat_map line_of
+    × (text ≡ text_line (count_pieces (length caps)) ++ flat_map text_line
     (numbered cap_pieces 0 caps ++ (map entry_pieces es ++ (numbered left_pieces 0 left ++ end_pieces ∷ []))))
 
 tail_of : (v : Version) (line next : List ℕ) (more : List (List ℕ)) (n : ℕ) (caps : List ℕ) (rest : List (List ℕ)) (es : List Entry) (left : List
     (List Message))
-    → pieces_of line ≡ count_pieces n → 1 ≤ n → n ≤ BUFFERS → length caps ≡ n → AllByRecursion IsCapacity caps
-    → join_with_byte 10 (next ∷ more) ≡ flat_map line_of (numbered cap_pieces 0 caps) ++ join_with_byte 10 rest
+    → line_pieces line ≡ count_pieces n → 1 ≤ n → n ≤ BUFFERS → length caps ≡ n → AllByRecursion IsCapacity caps
+    → join_with_byte 10 (next ∷ more) ≡ flat_map text_line (numbered cap_pieces 0 caps) ++ join_with_byte 10 rest
     → Judged v caps [] (empty_buffers caps) rest es left → IsTail v (join_with_byte 10 (line ∷ next ∷ more))
 tail_of v line next more n caps rest es left spelled some few counted small text judged = (
   caps,
@@ -282,7 +283,7 @@ tail_of v line next more n caps rest es left spelled some few counted small text
   judged.run,
   judged.lowest,
   line_spelled line (count_pieces n) (join_with_byte 10 (next ∷ more)) spelled
-      ∙ rw (counted, text, judged.text) (ap (λ (t : List ℕ). line_of (count_pieces n) ++ t) (sym (flat_map-append line_of (numbered cap_pieces 0 caps) _))),
+      ∙ rw (counted, text, judged.text) (ap (λ (t : List ℕ). text_line (count_pieces n) ++ t) (sym (flat_map-append text_line (numbered cap_pieces 0 caps) _))),
 )
 
 sound_count : (v : Version) (n : ℕ) (lines : List (List ℕ)) → verdict_from (record opening { at = wants.Count; version = v }) n lines ≡ Yes
@@ -292,8 +293,8 @@ sound_count v n [] e = absurd (cc)
 sound_count v n (rest ∷ []) e = absurd (cc)
 sound_count v n (line ∷ next ∷ more) e =
     let s : Progress = record opening { at = wants.Count; version = v } in
-    let go = went (count_line (pieces_of line) s) n (λ after. verdict_from after (n + 1) (next ∷ more)) e in
-    let taken = count_line_taken (pieces_of line) s go.0 go.1 in
+    let go = went (count_line (line_pieces line) s) n (λ after. verdict_from after (n + 1) (next ∷ more)) e in
+    let taken = count_line_taken (line_pieces line) s go.0 go.1 in
     let count = taken.0 in
     let judged : verdict_from (opened v (wants.Capacities count) []) (n + 1) (next ∷ more) ≡ Yes =
     subst (λ (a : Progress). verdict_from a (n + 1) (next ∷ more) ≡ Yes) taken.1.is go.2 in
@@ -309,7 +310,7 @@ sound_count v n (line ∷ next ∷ more) e =
     all.3.text entries.2
 
 head_text : (v : Version) (es : List Entry) (line rest body : List ℕ) → line ≡ join_with_byte 32 (head_pieces v) → v ≡ version_of es → rest ≡ body
-    → line ++ 10 ∷ rest ≡ line_of (head_pieces (version_of es)) ++ body
+    → line ++ 10 ∷ rest ≡ text_line (head_pieces (version_of es)) ++ body
 head_text v es line rest body e1 e2 e3 =
     rw (e1, e3, ← e2) (sym (append_assoc (join_with_byte 32 (head_pieces v)) (10 ∷ []) body))
 
@@ -326,6 +327,7 @@ sound_lines n (line ∷ next ∷ more) e =
       tail.2,
       record { spellable = tail.3; spelled = head_text head.0 tail.1 line (join_with_byte 10 (next ∷ more)) _ head.1 tail.5 tail.6 },
       tail.4,
+      taken_put tail.0 tail.1 tail.2 tail.4,
     )
 
 pub sound : (text : List ℕ) → verdict_of text ≡ Yes → IsTraceOfRun text

@@ -9,8 +9,8 @@ use Rattle.std.proofs.lemmas.List.Elements.{All-from_recursion}
 use Rattle.std.proofs.lemmas.List.Splits.{slice_split_at, slice_split_none}
 use Rattle.std.proofs.lemmas.Bool.{and_parts}
 use Rattle.event_log.proofs.DigitsLemmas.{decimal-spelled}
-use Rattle.tracer.specs.TraceText.{line_of}
-use Rattle.tracer.specs.Judging.{Progress, pieces_of, lines_in, step, verdict_from}
+use Rattle.tracer.specs.TraceText.{text_line}
+use Rattle.tracer.specs.Judging.{Progress, line_pieces, lines_in, step, verdict_from}
 use Rattle.tracer.proofs.VerdictLemmas.{line_taken}
 
 -- no byte of the text is this one
@@ -54,16 +54,16 @@ pub record IsLine (ps : List (List ℕ)) : Type 0 where
   pub spaces : AllByRecursion (Lacks 32) ps
   pub feeds : AllByRecursion (Lacks 10) ps
 
-pub pieces_again : (p : List ℕ) (ps : List (List ℕ)) → IsLine (p ∷ ps) → pieces_of (join_with_byte 32 (p ∷ ps)) ≡ p ∷ ps
+pub pieces_again : (p : List ℕ) (ps : List (List ℕ)) → IsLine (p ∷ ps) → line_pieces (join_with_byte 32 (p ∷ ps)) ≡ p ∷ ps
 pieces_again p ps line = split_join 32 p ps line.spaces
 
 line_again : (p : List ℕ) (ps : List (List ℕ)) (rest : List ℕ) → IsLine (p ∷ ps)
-    → lines_in (line_of (p ∷ ps) ++ rest) ≡ join_with_byte 32 (p ∷ ps) ∷ lines_in rest
+    → lines_in (text_line (p ∷ ps) ++ rest) ≡ join_with_byte 32 (p ∷ ps) ∷ lines_in rest
 line_again p ps rest line =
-    let text : line_of (p ∷ ps) ++ rest ≡ join_with_byte 32 (p ∷ ps) ++ 10 ∷ rest = append_assoc (join_with_byte 32 (p ∷ ps)) (10 ∷ []) rest in
+    let text : text_line (p ∷ ps) ++ rest ≡ join_with_byte 32 (p ∷ ps) ++ 10 ∷ rest = append_assoc (join_with_byte 32 (p ∷ ps)) (10 ∷ []) rest in
     ap lines_in text ∙ split_behind 10 (join_with_byte 32 (p ∷ ps)) rest (join_lacks 10 32 (p ∷ ps) refl line.feeds)
 
 -- a line that is taken
 pub line_read : (s after : Progress) (n : ℕ) (p : List ℕ) (ps : List (List ℕ)) (rest : List ℕ) → IsLine (p ∷ ps)
-    → step s (join_with_byte 32 (p ∷ ps)) ≡ Ok after → verdict_from s n (lines_in (line_of (p ∷ ps) ++ rest)) ≡ verdict_from after (n + 1) (lines_in rest)
-line_read s after n p ps rest line taken = line_taken s after n (line_of (p ∷ ps) ++ rest) (join_with_byte 32 (p ∷ ps)) rest (line_again p ps rest line) taken
+    → step s (join_with_byte 32 (p ∷ ps)) ≡ Ok after → verdict_from s n (lines_in (text_line (p ∷ ps) ++ rest)) ≡ verdict_from after (n + 1) (lines_in rest)
+line_read s after n p ps rest line taken = line_taken s after n (text_line (p ∷ ps) ++ rest) (join_with_byte 32 (p ∷ ps)) rest (line_again p ps rest line) taken

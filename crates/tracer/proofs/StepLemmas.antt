@@ -20,7 +20,7 @@ use Rattle.tracer.specs.declared.next_lines.NextLine.TheVariants as wants
 use Rattle.tracer.specs.TraceText.{kind_word, message_text, value_piece, entry_pieces, left_pieces, IsValueOf, IsEntryOf, AreItemsOf}
 use Rattle.tracer.specs.declared.versions.Version.{Version}
 use Rattle.tracer.specs.Versions.{covers, both, version_of_kind, version_of_message, version_of_entry, version_of}
-use Rattle.tracer.specs.Judging.{Digits, Seen, Progress, wanted, piece_at, word_at, is_value, is_message, is_within, are_values, is_left, is_of_version}
+use Rattle.tracer.specs.Judging.{Digits, Seen, Progress, or_reason, piece_at, word_at, is_value, is_message, is_within, are_values, is_left, is_of_version}
 use Rattle.tracer.specs.Judging.{spells_message, spells_value, entry_digits, entry_in}
 use Rattle.tracer.specs.Judging.{entry_among, entry_line, left_digits, left_line, entries_line, step}
 use Rattle.tracer.proofs.SplitLemmas.{Lacks, IsLine, decimal_lacks, pieces_again}
@@ -194,15 +194,15 @@ entry_line_taken : (v : Version) (at : NextLine) (caps : List ℕ) (earlier : Li
 unfolding entry_line
 entry_line_taken v at caps earlier contents ps after long taken =
     let s = progress v at caps earlier contents in
-    let digits = bind_ok (entry_digits ps) (λ digits. wanted (is_of_version v digits) Spelling (entry_in digits) >>= λ e.
-    wanted (nat_lt (length earlier) ENTRIES) Range (entry_among e s.buffers) >>= λ buffers.
+    let digits = bind_ok (entry_digits ps) (λ digits. or_reason (is_of_version v digits) Spelling (entry_in digits) >>= λ e.
+    or_reason (nat_lt (length earlier) ENTRIES) Range (entry_among e s.buffers) >>= λ buffers.
     Ok (record s { lowest = both (version_of earlier) (version_of_entry e); buffers = buffers; entries = length earlier + 1 })) after taken in
-    let entry = bind_ok (wanted (is_of_version v digits.0) Spelling (entry_in digits.0)) (λ e.
-    wanted (nat_lt (length earlier) ENTRIES) Range (entry_among e s.buffers) >>= λ buffers.
+    let entry = bind_ok (or_reason (is_of_version v digits.0) Spelling (entry_in digits.0)) (λ e.
+    or_reason (nat_lt (length earlier) ENTRIES) Range (entry_among e s.buffers) >>= λ buffers.
     Ok (record s { lowest = both (version_of earlier) (version_of_entry e); buffers = buffers; entries = length earlier + 1 })) after digits.2 in
     let spells = wanted_ok (is_of_version v digits.0) Spelling (entry_in digits.0) entry.0 entry.1 in
     let parts = and_parts (covers v (version_of_kind digits.0.kind)) (spells_value v digits.0.kind digits.0.value) spells.0 in
-    let among = bind_ok (wanted (nat_lt (length earlier) ENTRIES) Range (entry_among entry.0 s.buffers))
+    let among = bind_ok (or_reason (nat_lt (length earlier) ENTRIES) Range (entry_among entry.0 s.buffers))
     (λ buffers. Ok (record s { lowest = both (version_of earlier) (version_of_entry entry.0); buffers = buffers; entries = length earlier + 1 })) after
     entry.2 in
     let room = wanted_ok (nat_lt (length earlier) ENTRIES) Range (entry_among entry.0 s.buffers) among.0 among.1 in (
@@ -269,10 +269,10 @@ left_digits_taken : (v : Version) (b : ℕ) (ps values : List (List ℕ)) → le
 unfolding left_digits
 left_digits_taken v b ps values taken =
     let word = bind_ok (word_at (codes "left") ps) (λ rest. piece_at rest >>= λ number.
-    wanted (is_value number.0 b) Spelling (wanted (list_all (spells_message v) number.1) Spelling (Ok number.1))) values taken in
+    or_reason (is_value number.0 b) Spelling (or_reason (list_all (spells_message v) number.1) Spelling (Ok number.1))) values taken in
     let number = bind_ok (piece_at word.0)
-    (λ number. wanted (is_value number.0 b) Spelling (wanted (list_all (spells_message v) number.1) Spelling (Ok number.1))) values word.2 in
-    let value = wanted_ok (is_value number.0.0 b) Spelling (wanted (list_all (spells_message v) number.0.1) Spelling (Ok number.0.1)) values number.2 in
+    (λ number. or_reason (is_value number.0 b) Spelling (or_reason (list_all (spells_message v) number.1) Spelling (Ok number.1))) values word.2 in
+    let value = wanted_ok (is_value number.0.0 b) Spelling (or_reason (list_all (spells_message v) number.0.1) Spelling (Ok number.0.1)) values number.2 in
     let rest = wanted_ok (list_all (spells_message v) number.0.1) Spelling (Ok number.0.1) values value.1 in
     let same = same_ok number.0.1 values rest.1 in (
       left_shape ps word.0 number.0.0 number.0.1 values b (word_taken (codes "left") ps word.0 word.1) (piece_taken word.0 number.0 number.1)
@@ -325,8 +325,8 @@ left_line_taken v at b caps earlier contents ps after taken =
     let s = progress v at caps earlier contents in
     let next : Progress = record s { at = cond (nat_lt (b + 1) (length s.buffers)) (wants.Contents (b + 1)) wants.End } in
     let digits = bind_ok (left_digits v b ps)
-    (λ values. wanted (list_all is_within values) Range (wanted (is_left values (slice_get s.buffers b)) Left (Ok next))) after taken in
-    let range = wanted_ok (list_all is_within digits.0) Range (wanted (is_left digits.0 (slice_get s.buffers b)) Left (Ok next)) after digits.2 in
+    (λ values. or_reason (list_all is_within values) Range (or_reason (is_left values (slice_get s.buffers b)) Left (Ok next))) after taken in
+    let range = wanted_ok (list_all is_within digits.0) Range (or_reason (is_left digits.0 (slice_get s.buffers b)) Left (Ok next)) after digits.2 in
     let left = wanted_ok (is_left digits.0 (slice_get s.buffers b)) Left (Ok next) after range.1 in
     let holds = holds_of digits.0 (slice_get s.buffers b) left.0 in
     let spelled = left_digits_taken v b ps digits.0 digits.1 in

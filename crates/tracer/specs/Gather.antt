@@ -15,15 +15,15 @@ abbrev pub IsOrder : List (List Entry) → List Entry → Type 0
 IsOrder traces order = IsInterleaving traces order × HasOpOrder order
 
 -- behind the earlier entries, the first entry of a trace has the op number that its buffer waits for
-abbrev pub IsReady : List Entry → List Entry → Type 0
-IsReady earlier [] = ⊥
-IsReady earlier (e ∷ _) = e.op ≡ count_of earlier e.buffer.0
+abbrev pub IsFrontReady : List Entry → List Entry → Type 0
+IsFrontReady earlier [] = ⊥
+IsFrontReady earlier (e ∷ _) = e.op ≡ count_of earlier e.buffer.0
 
 -- behind the earlier entries, each entry is taken from the first trace that is ready
 abbrev pub TakesFirstReadyFrom : List Entry → List (List Entry) → List Entry → Type 0
 TakesFirstReadyFrom earlier traces [] = Unit {0}
 TakesFirstReadyFrom earlier traces (e ∷ es) = (k : ℕ) × (rest : List Entry) × (slice_get traces k ≡ Some (e ∷ rest))
-    × IsReady earlier (e ∷ rest) × ((j : ℕ) → j < k → ¬ IsReady earlier (slice_index_or traces j []))
+    × IsFrontReady earlier (e ∷ rest) × ((j : ℕ) → j < k → ¬ IsFrontReady earlier (slice_index_or traces j []))
     × TakesFirstReadyFrom (earlier ++ e ∷ []) (slice_set traces k rest) es
 
 -- at each point the order takes the first trace whose next entry has the op number that its buffer waits for

@@ -23,19 +23,19 @@ use Rattle.tracer.specs.declared.versions.Version.TheVariants.{One, Two, Three}
 use Rattle.tracer.specs.Versions.{covers, both, version_of_kind, version_of_count, version_of_entry}
 
 -- what a function returned, seen by view, is what reading gives
-abbrev pub Gives : {X Y : Type 0} → (X → Y) → Result X Reason → Result Y Reason → Type 0
-Gives view (Ok x) read = read ≡ Ok (view x)
-Gives view (Err reason) read = read ≡ Err reason
+abbrev pub GivesOrReason : {X Y : Type 0} → (X → Y) → Result X Reason → Result Y Reason → Type 0
+GivesOrReason view (Ok x) read = read ≡ Ok (view x)
+GivesOrReason view (Err reason) read = read ≡ Err reason
 
 -- goes on where the test holds, else gives the reason
-abbrev pub wanted : {A : Type 0} → Bool → Reason → Result A Reason → Result A Reason
-wanted test reason next = if test then next else Err reason
+abbrev pub or_reason : {A : Type 0} → Bool → Reason → Result A Reason → Result A Reason
+or_reason test reason next = if test then next else Err reason
 
 -- ---- the pieces of a line
 
 -- the pieces between spaces
-abbrev pub pieces_of : List ℕ → List (List ℕ)
-pieces_of line = slice_split (λ b. b == 32) line
+abbrev pub line_pieces : List ℕ → List (List ℕ)
+line_pieces line = slice_split (λ b. b == 32) line
 
 -- a piece, and the pieces behind it
 abbrev pub piece_at : List (List ℕ) → Result (List ℕ × List (List ℕ)) Reason
@@ -44,11 +44,11 @@ piece_at (piece ∷ rest) = Ok (piece, rest)
 
 -- this word, and the pieces behind it
 abbrev pub word_at : List ℕ → List (List ℕ) → Result (List (List ℕ)) Reason
-word_at word pieces = piece_at pieces >>= λ p. wanted (bytes_eq p.0 word) Spelling (Ok p.1)
+word_at word pieces = piece_at pieces >>= λ p. or_reason (bytes_eq p.0 word) Spelling (Ok p.1)
 
 -- a piece that spells a number of any size
 abbrev pub digits_at : List (List ℕ) → Result (List ℕ × List (List ℕ)) Reason
-digits_at pieces = piece_at pieces >>= λ p. wanted (is_number p.0) Spelling (Ok p)
+digits_at pieces = piece_at pieces >>= λ p. or_reason (is_number p.0) Spelling (Ok p)
 
 -- nothing stands behind
 abbrev pub ended : List (List ℕ) → Result (Unit {0}) Reason
@@ -125,26 +125,26 @@ counted group items seen = record {
 
 -- a send wants room
 abbrev pub put_in : Message → ℕ → List Message → Result (List Message) Reason
-put_in value capacity items = wanted (nat_lt (length items) capacity) Full (Ok (items ++ value ∷ []))
+put_in value capacity items = or_reason (nat_lt (length items) capacity) Full (Ok (items ++ value ∷ []))
 
 -- a receive wants its value as the first item
 abbrev pub take_first : Message → List Message → Result (List Message) Reason
 take_first value [] = Err EmptyTake
-take_first value (first ∷ rest) = wanted (bytes_eq first value) WrongValue (Ok rest)
+take_first value (first ∷ rest) = or_reason (bytes_eq first value) WrongValue (Ok rest)
 
 -- the items that an effect leaves, of a buffer that is closed or not
-abbrev pub effect_of : Kind → Message → Bool → ℕ → List Message → Result (List Message) Reason
-effect_of Send value closed capacity items = if closed then Err CloseState else put_in value capacity items
-effect_of Recv value closed capacity items = take_first value items
-effect_of Close value closed capacity items = Ok items
-effect_of SendClosed value closed capacity items = wanted closed CloseState (Ok items)
-effect_of RecvClosed value closed capacity items = wanted closed CloseState (wanted (length items == 0) NotEmpty (Ok items))
+abbrev pub item_effect : Kind → Message → Bool → ℕ → List Message → Result (List Message) Reason
+item_effect Send value closed capacity items = if closed then Err CloseState else put_in value capacity items
+item_effect Recv value closed capacity items = take_first value items
+item_effect Close value closed capacity items = Ok items
+item_effect SendClosed value closed capacity items = or_reason closed CloseState (Ok items)
+item_effect RecvClosed value closed capacity items = or_reason closed CloseState (or_reason (length items == 0) NotEmpty (Ok items))
 
 -- the buffer after an entry
 unfoldable pub entry_on : Entry → Seen → Result Seen Reason
-entry_on e seen = wanted (e.op == seen.ops) Op
-    (wanted (e.pos == next_pos (group_of e.kind) seen) Pos
-    (effect_of e.kind e.value (was_closed seen) seen.capacity seen.items >>= λ items. Ok (counted (group_of e.kind) items seen)))
+entry_on e seen = or_reason (e.op == seen.ops) Op
+    (or_reason (e.pos == next_pos (group_of e.kind) seen) Pos
+    (item_effect e.kind e.value (was_closed seen) seen.capacity seen.items >>= λ items. Ok (counted (group_of e.kind) items seen)))
 
 -- ---- the lines
 
@@ -192,7 +192,7 @@ numbers_in (word ∷ words) = in_range 18446744073709551615 word >>= λ n. numbe
 
 -- the message that the piece spells, if it has no more words than a message has
 abbrev pub message_in : List ℕ → Result Message Reason
-message_in piece = wanted (nat_le (length (words_of piece)) WORDS) Range (numbers_in (words_of piece))
+message_in piece = or_reason (nat_le (length (words_of piece)) WORDS) Range (numbers_in (words_of piece))
 
 -- whether the piece spells a message of an effect of this kind, of any size, as a text of this version may
 abbrev pub spells_value : Version → Kind → List ℕ → Bool
@@ -245,8 +245,8 @@ entry_among e buffers = or_range (slice_get buffers e.buffer.0)
 
 unfoldable pub entry_line : List (List ℕ) → Progress → Result Progress Reason
 entry_line pieces s = entry_digits pieces
-    >>= λ digits. wanted (is_of_version s.version digits) Spelling (entry_in digits)
-    >>= λ e. wanted (nat_lt s.entries ENTRIES) Range (entry_among e s.buffers)
+    >>= λ digits. or_reason (is_of_version s.version digits) Spelling (entry_in digits)
+    >>= λ e. or_reason (nat_lt s.entries ENTRIES) Range (entry_among e s.buffers)
     >>= λ buffers. Ok (record s { lowest = both s.lowest (version_of_entry e); buffers = buffers; entries = s.entries + 1 })
 
 -- the digits of the number of buffers
@@ -259,20 +259,20 @@ count_digits pieces = word_at (codes "buffers") pieces
 unfoldable pub count_line : List (List ℕ) → Progress → Result Progress Reason
 count_line pieces s = count_digits pieces
     >>= λ digits. in_range BUFFERS digits
-    >>= λ count. wanted (nat_lt 0 count) Range (Ok (record s { at = wants.Capacities count; buffers = [] }))
+    >>= λ count. or_reason (nat_lt 0 count) Range (Ok (record s { at = wants.Capacities count; buffers = [] }))
 
 -- the digits of the capacity of buffer b
 unfoldable pub capacity_digits : ℕ → List (List ℕ) → Result (List ℕ) Reason
 capacity_digits b pieces = word_at (codes "cap") pieces
     >>= λ rest. piece_at rest
-    >>= λ number. wanted (is_value number.0 b) Spelling (digits_at number.1)
+    >>= λ number. or_reason (is_value number.0 b) Spelling (digits_at number.1)
     >>= λ capacity. ended capacity.1
     >>= λ _. Ok capacity.0
 
 unfoldable pub capacity_line : ℕ → List (List ℕ) → Progress → Result Progress Reason
 capacity_line count pieces s = capacity_digits (length s.buffers) pieces
     >>= λ digits. in_range CAPACITY digits
-    >>= λ capacity. wanted (nat_lt 0 capacity) Range
+    >>= λ capacity. or_reason (nat_lt 0 capacity) Range
     (Ok (record s {
       at = if nat_lt (length s.buffers + 1) count then wants.Capacities count else wants.Entries;
       buffers = s.buffers ++ fresh capacity ∷ [];
@@ -282,7 +282,7 @@ capacity_line count pieces s = capacity_digits (length s.buffers) pieces
 unfoldable pub left_digits : Version → ℕ → List (List ℕ) → Result (List (List ℕ)) Reason
 left_digits v b pieces = word_at (codes "left") pieces
     >>= λ rest. piece_at rest
-    >>= λ number. wanted (is_value number.0 b) Spelling (wanted (list_all (spells_message v) number.1) Spelling (Ok number.1))
+    >>= λ number. or_reason (is_value number.0 b) Spelling (or_reason (list_all (spells_message v) number.1) Spelling (Ok number.1))
 
 -- this very message
 abbrev pub is_same : Result Message Reason → Message → Bool
@@ -310,8 +310,8 @@ is_left values (Some seen) = are_values values seen.items
 
 unfoldable pub left_line : ℕ → List (List ℕ) → Progress → Result Progress Reason
 left_line b pieces s = left_digits s.version b pieces
-    >>= λ values. wanted (list_all is_within values) Range
-    (wanted (is_left values (slice_get s.buffers b)) Left
+    >>= λ values. or_reason (list_all is_within values) Range
+    (or_reason (is_left values (slice_get s.buffers b)) Left
     (Ok (record s { at = if nat_lt (b + 1) (length s.buffers) then wants.Contents (b + 1) else wants.End })))
 
 -- a line whose first piece is `e` is an entry; any other is what is left of the first buffer
@@ -331,15 +331,15 @@ head_line line s = version_in line >>= λ v. Ok (record s { at = wants.Count; ve
 
 -- the last line, where no lower version than the head's can spell the text
 unfoldable pub end_line : List ℕ → Progress → Result Progress Reason
-end_line line s = wanted (bytes_eq line (codes "end")) Spelling (wanted (covers s.lowest s.version) OfVersion (Ok (record s { at = wants.Done })))
+end_line line s = or_reason (bytes_eq line (codes "end")) Spelling (or_reason (covers s.lowest s.version) OfVersion (Ok (record s { at = wants.Done })))
 
 -- a line after which the text may go on, or the first reason against it
 abbrev pub line_at : NextLine → Progress → List ℕ → Result Progress Reason
 line_at wants.Head s line = head_line line s
-line_at wants.Count s line = count_line (pieces_of line) s
-line_at (wants.Capacities count) s line = capacity_line count (pieces_of line) s
-line_at wants.Entries s line = entries_line (pieces_of line) s
-line_at (wants.Contents b) s line = left_line b (pieces_of line) s
+line_at wants.Count s line = count_line (line_pieces line) s
+line_at (wants.Capacities count) s line = capacity_line count (line_pieces line) s
+line_at wants.Entries s line = entries_line (line_pieces line) s
+line_at (wants.Contents b) s line = left_line b (line_pieces line) s
 line_at wants.End s line = end_line line s
 line_at wants.Done s line = Err Spelling
 

@@ -2,11 +2,11 @@
 use Rattle.std.specs.Prelude.{ℕ, List, [], Some, None}
 use Rattle.tracer.specs.declared.pieces.Pieces.{Pieces}
 use Rattle.tracer.specs.declared.lines.EntryDigits.{EntryDigits}
-use Rattle.tracer.specs.Judging.{pieces_of, Digits}
+use Rattle.tracer.specs.Judging.{line_pieces, Digits}
 
 -- the pieces that are still to be read
 abbrev pub left_of : Pieces → List (List ℕ)
-left_of pieces = elim pieces.rest [ None ↦ [] | Some line ↦ pieces_of line.now ]
+left_of pieces = elim pieces.rest [ None ↦ [] | Some line ↦ line_pieces line.now ]
 
 abbrev pub digits_of : EntryDigits → Digits
 digits_of d = record { cpu = d.cpu.now; thread = d.thread.now; kind = d.kind; buffer = d.buffer.now; value = d.value.now; op = d.op.now; pos = d.pos.now }

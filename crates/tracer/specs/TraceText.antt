@@ -13,8 +13,8 @@ use Rattle.tracer.specs.declared.versions.Version.TheVariants.{One, Two, Three}
 use Rattle.tracer.specs.Versions.{covers, version_of_message, version_of}
 
 -- a line: its pieces with one space between each two, and a line feed
-abbrev pub line_of : List (List ℕ) → List ℕ
-line_of pieces = join_with_byte 32 pieces ++ 10 ∷ []
+abbrev pub text_line : List (List ℕ) → List ℕ
+text_line pieces = join_with_byte 32 pieces ++ 10 ∷ []
 
 -- the head line names the format and its version
 abbrev pub version_word : Version → List ℕ
@@ -76,7 +76,7 @@ lines_of caps es left = head_pieces (version_of es) ∷ count_pieces
 
 -- the one spelling
 unfoldable pub spelling : List ℕ → List Entry → List (List Message) → List ℕ
-spelling caps es left = flat_map line_of (lines_of caps es left)
+spelling caps es left = flat_map text_line (lines_of caps es left)
 
 -- a message that a text of this version can spell
 pub record IsItemOf (v : Version) (m : Message) : Type 0 where

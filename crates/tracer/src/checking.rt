@@ -1,18 +1,31 @@
 //! The verdict on a text.
 
 ghost use Rattle.std.specs.Prelude.{◌≡◌};
+ghost use Rattle.tracer.specs.declared.verdicts.Verdict.TheVariants.{Yes as SaysYes};
 ghost use Rattle.tracer.specs.Judging.{verdict_of};
+ghost use Rattle.tracer.specs.Verdicts.{IsTraceOfRun};
 
 use crate::judge::Judge;
+use crate::laws::yes_is_right;
 use crate::pieces::cut;
 use crate::verdicts::{Reason, Verdict};
 
 /// Judges a text: whether it is the trace text of a run of first-in first-out buffers that ends in
 /// what the text says is left. If not, the answer is the first line with a fault, counted from 1,
 /// and the first reason against it. It knows no plan: whether a thread stays on one CPU, or whether
-/// the calls are a program's, it does not test. It takes no memory.
-#[tactic(auto, unfolding(crate::specs::Judging::verdict_of))]
+/// the calls are a program's, it does not test. After a yes, what was put into each buffer is what
+/// was taken out, in that order, and then what is left. It takes no memory.
 pub fn check(text: &[u8]) -> Verdict
+    ensures verdict { result ≡ verdict_of text.now }
+    ensures run { result ≡ SaysYes → IsTraceOfRun text.now }
+{
+    yes_is_right();
+    judged(text)
+}
+
+// The verdict, line by line.
+#[tactic(auto, unfolding(crate::specs::Judging::verdict_of))]
+fn judged(text: &[u8]) -> Verdict
     ensures { result ≡ verdict_of text.now }
 {
     let mut judge = Judge::new();

@@ -2,7 +2,7 @@
 
 ghost use Rattle.std.specs.Prelude.{◌≡◌, ◌≤◌};
 ghost use Rattle.event_log.specs.declared.ids.TheConstants.{CAPACITY};
-ghost use Rattle.tracer.specs.Judging.{put_in, take_first, effect_of};
+ghost use Rattle.tracer.specs.Judging.{put_in, take_first, item_effect};
 ghost use Rattle.tracer.specs.Tallies.{StepsTo};
 
 use crate::verdicts::Reason;
@@ -51,7 +51,7 @@ pub fn act(
     value: &Msg,
 ) -> Result<(), Reason>
     requires { capacity ≤ CAPACITY }
-    ensures { StepsTo (effect_of kind value.now closed capacity items.old.items) result items.new.items }
+    ensures { StepsTo (item_effect kind value.now closed capacity items.old.items) result items.new.items }
 {
     match kind {
         Kind::Send if closed => Err(Reason::CloseState),

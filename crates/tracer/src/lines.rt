@@ -2,7 +2,7 @@
 
 ghost use Rattle.std.specs.Prelude.{◌≡◌, ◌≤◌, ◌<◌, IfOk, codes};
 ghost use Rattle.event_log.specs.declared.ids.TheConstants.{ENTRIES};
-ghost use Rattle.tracer.specs.Judging.{Gives, kind_in, has_message, value_in, is_of_version, entry_digits, entry_in};
+ghost use Rattle.tracer.specs.Judging.{GivesOrReason, kind_in, has_message, value_in, is_of_version, entry_digits, entry_in};
 ghost use Rattle.tracer.specs.Judging.{capacity_digits, left_digits, count_digits};
 ghost use Rattle.tracer.specs.Lines.{left_of, digits_of};
 
@@ -86,7 +86,7 @@ fn value_in(kind: Kind, piece: &[u8]) -> Result<Msg, Reason>
 #[tactic(auto, unfolding(crate::specs::Judging::entry_digits))]
 #[inline]
 pub fn entry_digits(pieces: Pieces<'_>) -> Result<EntryDigits<'_>, Reason>
-    ensures { Gives digits_of result (entry_digits (left_of pieces.entry)) }
+    ensures { GivesOrReason digits_of result (entry_digits (left_of pieces.entry)) }
 {
     let (cpu, rest) = digits(pieces)?;
     let (thread, rest) = digits(rest)?;
@@ -136,7 +136,7 @@ pub fn entry_in(digits: EntryDigits<'_>) -> Result<Entry, Reason>
 /// The digits of the number of buffers.
 #[tactic(auto, unfolding(crate::specs::Judging::count_digits))]
 pub fn count_digits(pieces: Pieces<'_>) -> Result<&[u8], Reason>
-    ensures { Gives (λ x. x.now) result (count_digits (left_of pieces.entry)) }
+    ensures { GivesOrReason (λ x. x.now) result (count_digits (left_of pieces.entry)) }
 {
     let rest = word(b"buffers", pieces)?;
     let (count, rest) = digits(rest)?;
@@ -147,7 +147,7 @@ pub fn count_digits(pieces: Pieces<'_>) -> Result<&[u8], Reason>
 /// The digits of the capacity of buffer `b`.
 #[tactic(auto, unfolding(crate::specs::Judging::capacity_digits))]
 pub fn capacity_digits(b: u64, pieces: Pieces<'_>) -> Result<&[u8], Reason>
-    ensures { Gives (λ x. x.now) result (capacity_digits b (left_of pieces.entry)) }
+    ensures { GivesOrReason (λ x. x.now) result (capacity_digits b (left_of pieces.entry)) }
 {
     let rest = word(b"cap", pieces)?;
     let (number, rest) = piece(rest)?;
@@ -162,7 +162,7 @@ pub fn capacity_digits(b: u64, pieces: Pieces<'_>) -> Result<&[u8], Reason>
 /// The pieces of the items of buffer `b`, in a text of this version.
 #[tactic(auto, unfolding(crate::specs::Judging::left_digits))]
 pub fn left_digits(version: Version, b: u64, pieces: Pieces<'_>) -> Result<Pieces<'_>, Reason>
-    ensures { Gives left_of result (left_digits version b (left_of pieces.entry)) }
+    ensures { GivesOrReason left_of result (left_digits version b (left_of pieces.entry)) }
 {
     let rest = word(b"left", pieces)?;
     let (number, rest) = piece(rest)?;

@@ -2,7 +2,7 @@
 
 ghost use Rattle.std.specs.Prelude.{◌≡◌, ◌+◌, ◌≤◌, ◌==◌, ◌∷◌, [], ℕ, length, IfNone, IfSome, IfOk};
 ghost use Rattle.std.specs.List.{slice_split};
-ghost use Rattle.tracer.specs.Judging.{Gives, piece_at, word_at, digits_at, ended, in_range, is_value};
+ghost use Rattle.tracer.specs.Judging.{GivesOrReason, piece_at, word_at, digits_at, ended, in_range, is_value};
 ghost use Rattle.tracer.specs.Lines.{left_of};
 
 use crate::verdicts::Reason;
@@ -32,7 +32,7 @@ pub struct Pieces<'a> {
 /// The next piece, and the pieces behind it.
 #[inline(always)]
 pub fn piece(pieces: Pieces<'_>) -> Result<(&[u8], Pieces<'_>), Reason>
-    ensures { Gives (λ x. (x.0.now, left_of x.1)) result (piece_at (left_of pieces.entry)) }
+    ensures { GivesOrReason (λ x. (x.0.now, left_of x.1)) result (piece_at (left_of pieces.entry)) }
 {
     let Some(rest) = pieces.rest else {
         return Err(Reason::Spelling);
@@ -45,7 +45,7 @@ pub fn piece(pieces: Pieces<'_>) -> Result<(&[u8], Pieces<'_>), Reason>
 
 /// The pieces behind the next one, which must be `word`.
 pub fn word<'a>(word: &[u8], pieces: Pieces<'a>) -> Result<Pieces<'a>, Reason>
-    ensures { Gives left_of result (word_at word.now (left_of pieces.entry)) }
+    ensures { GivesOrReason left_of result (word_at word.now (left_of pieces.entry)) }
 {
     let (front, rest) = piece(pieces)?;
     if front != word {
@@ -57,7 +57,7 @@ pub fn word<'a>(word: &[u8], pieces: Pieces<'a>) -> Result<Pieces<'a>, Reason>
 /// The next piece, which must spell a number, and the pieces behind it.
 #[inline(always)]
 pub fn digits(pieces: Pieces<'_>) -> Result<(&[u8], Pieces<'_>), Reason>
-    ensures { Gives (λ x. (x.0.now, left_of x.1)) result (digits_at (left_of pieces.entry)) }
+    ensures { GivesOrReason (λ x. (x.0.now, left_of x.1)) result (digits_at (left_of pieces.entry)) }
 {
     let (front, rest) = piece(pieces)?;
     if !is_number(front) {

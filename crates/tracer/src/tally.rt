@@ -109,6 +109,10 @@ impl Tally {
 }
 
 impl Default for Tally {
+    ghost use Rattle.tracer.specs.Tallies.{seen_in};
+
+    ghost is_default = { λ t. seen_in t ≡ fresh 0 };
+
     /// A buffer without room.
     fn default() -> Tally {
         Tally::new(0)

@@ -1,7 +1,7 @@
 //! What a trace text is judged to be.
 
 ghost use Rattle.std.specs.Prelude.{◌≡◌};
-ghost use Rattle.tracer.specs.Reasons.{name_of};
+ghost use Rattle.tracer.specs.Reasons.{reason_name};
 
 use std::fmt;
 use thiserror::Error;
@@ -38,7 +38,7 @@ pub enum Reason {
 impl Reason {
     /// The name of the reason with its number, as `Spelling(30)`.
     pub fn name(self) -> &'static str
-        ensures { result.now ≡ name_of self }
+        ensures { result.now ≡ reason_name self }
     {
         match self {
             Reason::Spelling => "Spelling(30)",
@@ -58,9 +58,9 @@ impl Reason {
 
 impl fmt::Display for Reason {
     ghost use Rattle.std.specs.Prelude.{Some};
-    ghost use Rattle.tracer.specs.Reasons.{name_of};
+    ghost use Rattle.tracer.specs.Reasons.{reason_name};
 
-    ghost output = { λ reason. Some (name_of reason) };
+    ghost output = { λ reason. Some (reason_name reason) };
 
     fn fmt<W: fmt::Write>(&self, f: &mut fmt::Formatter<W>) -> fmt::Result {
         f.write_str(self.name())

@@ -2,7 +2,7 @@
 
 ghost use Rattle.std.specs.Prelude.{◌≡◌, ◌++◌, ◌∷◌, [], length, map, is_err, false, decimal, flat_map, codes};
 ghost use Rattle.tracer.specs.Sinks.{WentOut, has_failed};
-ghost use Rattle.tracer.specs.TraceText.{IsSpellable, spelling, line_of, head_pieces, entry_pieces, cap_pieces, left_pieces};
+ghost use Rattle.tracer.specs.TraceText.{IsSpellable, spelling, text_line, head_pieces, entry_pieces, cap_pieces, left_pieces};
 ghost use Rattle.tracer.specs.TraceText.{numbered, kind_word, value_piece, message_text};
 ghost use Rattle.tracer.specs.Pieces.{text_of, spaced, behind_comma};
 
@@ -103,7 +103,7 @@ fn put_line<W: Write>(
 ) -> Result<(), WriteFault>
     requires { has_failed sink.old ≡ false }
     ensures failed { is_err result ≡ has_failed sink.new }
-    ensures out { WentOut W.contents sink.old sink.new (line_of (word.now ∷ (map text_of pieces.now ++ map message_text messages.now))) }
+    ensures out { WentOut W.contents sink.old sink.new (text_line (word.now ∷ (map text_of pieces.now ++ map message_text messages.now))) }
 {
     sink.put(word)?;
     put_pieces(sink, pieces)?;
@@ -115,7 +115,7 @@ fn put_line<W: Write>(
 fn put_head<W: Write>(sink: &mut Sink<W>, version: Version) -> Result<(), WriteFault>
     requires { has_failed sink.old ≡ false }
     ensures failed { is_err result ≡ has_failed sink.new }
-    ensures out { WentOut W.contents sink.old sink.new (line_of (head_pieces version)) }
+    ensures out { WentOut W.contents sink.old sink.new (text_line (head_pieces version)) }
 {
     put_line(sink, b"mctower-trace", &[Piece::Word(version.word())], &[])
 }
@@ -124,7 +124,7 @@ fn put_head<W: Write>(sink: &mut Sink<W>, version: Version) -> Result<(), WriteF
 fn put_caps<W: Write>(sink: &mut Sink<W>, caps: &[u8]) -> Result<(), WriteFault>
     requires { has_failed sink.old ≡ false }
     ensures failed { is_err result ≡ has_failed sink.new }
-    ensures out { WentOut W.contents sink.old sink.new (flat_map line_of (numbered cap_pieces 0 caps.now)) }
+    ensures out { WentOut W.contents sink.old sink.new (flat_map text_line (numbered cap_pieces 0 caps.now)) }
 {
     for (b, capacity) in caps.iter().enumerate() {
         let pieces = [Piece::Number(b as u64), Piece::Number(u64::from(*capacity))];
@@ -160,7 +160,7 @@ fn value_of(kind: Kind, value: &Msg) -> Piece<'_>
 fn put_entry<W: Write>(sink: &mut Sink<W>, entry: &Entry) -> Result<(), WriteFault>
     requires { has_failed sink.old ≡ false }
     ensures failed { is_err result ≡ has_failed sink.new }
-    ensures out { WentOut W.contents sink.old sink.new (line_of (entry_pieces entry.now)) }
+    ensures out { WentOut W.contents sink.old sink.new (text_line (entry_pieces entry.now)) }
 {
     let pieces = [
         Piece::Number(u64::from(entry.cpu.0)),
@@ -178,7 +178,7 @@ fn put_entry<W: Write>(sink: &mut Sink<W>, entry: &Entry) -> Result<(), WriteFau
 fn put_entries<W: Write>(sink: &mut Sink<W>, entries: &[Entry]) -> Result<(), WriteFault>
     requires { has_failed sink.old ≡ false }
     ensures failed { is_err result ≡ has_failed sink.new }
-    ensures out { WentOut W.contents sink.old sink.new (flat_map (λ e. line_of (entry_pieces e)) entries.now) }
+    ensures out { WentOut W.contents sink.old sink.new (flat_map (λ e. text_line (entry_pieces e)) entries.now) }
 {
     for entry in entries {
         put_entry(sink, entry)?;
@@ -193,7 +193,7 @@ fn put_left<W: Write>(
 ) -> Result<(), WriteFault>
     requires { has_failed sink.old ≡ false }
     ensures failed { is_err result ≡ has_failed sink.new }
-    ensures out { WentOut W.contents sink.old sink.new (flat_map line_of (numbered (λ b v. left_pieces b v.items) 0 left.now)) }
+    ensures out { WentOut W.contents sink.old sink.new (flat_map text_line (numbered (λ b v. left_pieces b v.items) 0 left.now)) }
 {
     for (b, items) in left.iter().enumerate() {
         put_line(sink, b"left", &[Piece::Number(b as u64)], items)?;

@@ -15,14 +15,14 @@ use Rattle.layer_traits.specs.declared.calls.Call.{Call}
 use Rattle.layer_traits.specs.declared.calls.Effect.{Effect}
 use Rattle.layer_traits.specs.declared.calls.Reply.{Reply}
 use Rattle.layer_traits.specs.declared.steps.Step.TheVariants.{Stepped}
-use Rattle.layer_traits.specs.declared.talks.Stage.{Stage}
-use Rattle.layer_traits.specs.declared.talks.Stage.TheVariants as at
-use Rattle.layer_traits.specs.declared.talks.Talk.{Talk}
+use Rattle.layer_traits.specs.declared.call_states.Stage.{Stage}
+use Rattle.layer_traits.specs.declared.call_states.Stage.TheVariants as at
+use Rattle.layer_traits.specs.declared.call_states.CallState.{CallState}
 use Rattle.layer_traits.specs.Along.{IsStep}
 use Rattle.layer_traits.specs.LockLaw.{slept_for}
 use Rattle.layer_traits.specs.Places.{is_thread}
 use Rattle.layer_traits.specs.Plans.{Left, Follows, is_in_section}
-use Rattle.layer_traits.specs.BufferLaw.{Buffering, begun_at, fifo_plan, going, going_at, plan_at, talk_of}
+use Rattle.layer_traits.specs.BufferLaw.{Buffering, begun_at, fifo_plan, going, going_at, plan_at, call_state_of}
 use Rattle.event_log.specs.Runs.{Sends, Receives, Closes}
 use Rattle.cpu.specs.Table.Setups.{Setup, Acquires, Call as TableCall, Private, new_thread, program_of, thread_at}
 use Rattle.cpu.specs.Table.Choice.{Goes, at_instruction, choice, new_call}
@@ -33,7 +33,7 @@ use Rattle.cpu.specs.Tower.Composed.{AsksFor, HandIsKnown, IsBeginning, IsGoing,
 use Rattle.cpu.specs.Tower.Composed.{asks_again, was_handed_again, signals, signals_own, releases, has_signalled, has_signalled_own, has_released, named}
 use Rattle.cpu.proofs.Tower.Callers.{HasRoom, Site, awake, caller_in}
 use Rattle.cpu.proofs.Tower.Numbered.{numbered_at, own_at, part_at, parts, threads_at}
-use Rattle.cpu.proofs.Tower.Lines.{HasHad, from, own, talk}
+use Rattle.cpu.proofs.Tower.Lines.{HasHad, from, own, call_state}
 use Rattle.cpu.proofs.Tower.Composition.{asks_line}
 use Rattle.cpu.proofs.Tower.Plans.{plans_are_lines}
 use Rattle.cpu.proofs.Tower.Polled.{Polled, Way}
@@ -46,22 +46,22 @@ thread_here own guests trace t within =
     let zero_plus : 0 + t.0 ≡ t.0 = omega arith in
     numbered_at (λ n. thread_of own (tid n)) 0 t.0 guests new_thread at_start within ∙ ap (λ n. thread_of own (tid n) (guest_at guests t)) zero_plus
 
-begun_stands : (stage : Stage) (hand : Option Tid) (kept : Option TowerOut) (s w : Option BufId) (effect : Option Effect) (call : Call)
-    → Stands stage hand kept s w effect → begun_at stage (Some call) ≡ Some call
-begun_stands stage hand kept s w effect call asks = refl
-begun_stands stage hand kept s w effect call (was_handed b) = refl
-begun_stands stage hand kept s w effect call enters = refl
-begun_stands stage hand kept s w effect call tries = refl
-begun_stands stage hand kept s w effect call waits = refl
-begun_stands stage hand kept s w effect call (was_woken b) = refl
-begun_stands stage hand kept s w effect call asks_again = refl
-begun_stands stage hand kept s w effect call (was_handed_again b) = refl
-begun_stands stage hand kept s w effect call (signals f) = refl
-begun_stands stage hand kept s w effect call (signals_own f) = refl
-begun_stands stage hand kept s w effect call (releases f) = refl
-begun_stands stage hand kept s w effect call (has_signalled u v f) = refl
-begun_stands stage hand kept s w effect call (has_signalled_own u v f) = refl
-begun_stands stage hand kept s w effect call (has_released u f) = refl
+begun_stands : (stage : Stage) (hand : Option Tid) (deferred : Option TowerOut) (s w : Option BufId) (effect : Option Effect) (call : Call)
+    → Stands stage hand deferred s w effect → begun_at stage (Some call) ≡ Some call
+begun_stands stage hand deferred s w effect call asks = refl
+begun_stands stage hand deferred s w effect call (was_handed b) = refl
+begun_stands stage hand deferred s w effect call enters = refl
+begun_stands stage hand deferred s w effect call tries = refl
+begun_stands stage hand deferred s w effect call waits = refl
+begun_stands stage hand deferred s w effect call (was_woken b) = refl
+begun_stands stage hand deferred s w effect call asks_again = refl
+begun_stands stage hand deferred s w effect call (was_handed_again b) = refl
+begun_stands stage hand deferred s w effect call (signals f) = refl
+begun_stands stage hand deferred s w effect call (signals_own f) = refl
+begun_stands stage hand deferred s w effect call (releases f) = refl
+begun_stands stage hand deferred s w effect call (has_signalled u v f) = refl
+begun_stands stage hand deferred s w effect call (has_signalled_own u v f) = refl
+begun_stands stage hand deferred s w effect call (has_released u f) = refl
 
 -- a CPU whose thread is in a call goes on with it
 going_goes : (setup : Setup) (c : CpuId) (p : Private) (t : Tid) (call : TableCall) → p.current ≡ Some t → (thread_at p t).call ≡ Some call
@@ -85,11 +85,11 @@ module _ (polled : Polled) (own : Buffering) (guests : List State) (trace : List
       → (is_in_section (phase c old) ≡ false → halted_at setup c (private_of own guests trace) ≡ None) → IsStepFrom own
   polls_are_steps going known known2 live follows =
       let p : Private = private_of own guests trace in
-      let talk_now : Talk = talk_of own.talks t in
-      let begun : begun_at talk_now.stage talk_now.call ≡ Some call
-      = ap (begun_at talk_now.stage) going.begun
-      ∙ begun_stands talk_now.stage (threads_in own).hand own.cv.lock.sleep.kept (slept_for own.cv.lock.slept t)
-      (slept_for own.cv.waits t) talk_now.effect call going.stands in
+      let call_state_now : CallState = call_state_of own.call_states t in
+      let begun : begun_at call_state_now.stage call_state_now.call ≡ Some call
+      = ap (begun_at call_state_now.stage) going.begun
+      ∙ begun_stands call_state_now.stage (threads_in own).hand own.cv.lock.sleep.deferred (slept_for own.cv.lock.slept t)
+      (slept_for own.cv.waits t) call_state_now.effect call going.stands in
       let is = ap (λ x. x.call) (thread_here own guests trace t going.in_guests) ∙ ap (option_map _) begun in
       let way : Way Reply polled = record {
         p = p;
@@ -152,14 +152,14 @@ module _ (site : Site) (had : HasHad site None) (first_position : site.position 
   begins_at (instruction.Sub r q) is halted = absurd is
   begins_at (instruction.Jnz r k) is halted = absurd is
 
-  pub choice_begins : (talk_of site.talks site.t).stage ≡ at.Between → AsksFor (next_of (program_of site.setup site.t) g) g site.call
+  pub choice_begins : (call_state_of site.call_states site.t).stage ≡ at.Idle → AsksFor (next_of (program_of site.setup site.t) g) g site.call
       → halted_at site.setup site.c p ≡ None → choice site.setup site.c p ≡ Goes (from site None had Acquires)
-  choice_begins between begins_here halted =
-      let quiet : (thread_at p site.t).call ≡ None
-      = ap (λ x. x.call) there ∙ ap (λ s. (thread_from (record (talk_of site.talks site.t) { stage = s }) (slept_for site.slept site.t)
+  choice_begins at_idle begins_here halted =
+      let no_call : (thread_at p site.t).call ≡ None
+      = ap (λ x. x.call) there ∙ ap (λ s. (thread_from (record (call_state_of site.call_states site.t) { stage = s }) (slept_for site.slept site.t)
       (slept_for site.waits site.t)
-      (is_thread site.t (Some site.t) && false) (is_in site.t site.ended) g).call) between in
-      let way = choice_current site.setup site.c p site.t None refl refl quiet halted
+      (is_thread site.t (Some site.t) && false) (is_in site.t site.ended) g).call) at_idle in
+      let way = choice_current site.setup site.c p site.t None refl refl no_call halted
       ∙ ap (λ x. at_instruction site.setup site.c p site.t (next_of (program_of site.setup site.t) x.guest)) there in
       way ∙ begins_at (next_of (program_of site.setup site.t) g) begins_here (ap halted_by (sym way) ∙ halted)
 
@@ -174,7 +174,7 @@ module _ (polled : Polled) (own : Buffering) (guests : List State) (trace : List
   abbrev room : HasRoom own guests t
   room = record {
     in_guests = beginning.in_guests;
-    in_talks = beginning.in_talks;
+    in_call_states = beginning.in_call_states;
     in_slept = beginning.in_slept;
     in_waits = beginning.in_waits;
   }
@@ -183,7 +183,7 @@ module _ (polled : Polled) (own : Buffering) (guests : List State) (trace : List
   site = awake (caller_in setup c own guests t room trace call 0) beginning.slept beginning.waits
 
   abbrev had : HasHad site None
-  had = ap (λ s. (going_at s (talk_of own.talks t) call).effect) beginning.between
+  had = ap (λ s. (going_at s (call_state_of own.call_states t) call).effect) beginning.at_idle
 
   abbrev pieces : Buffering
   pieces = part_at site.runner None None
@@ -192,9 +192,9 @@ module _ (polled : Polled) (own : Buffering) (guests : List State) (trace : List
   by_pieces halted follow =
       let p : Private = private_of pieces guests trace in
       let q : Private = from site None had Acquires in
-      let plan : fifo_plan setup.homes c t call pieces ≡ plan_at setup.homes c t call at.Acquires (talk site None had at.Acquires) pieces
-      = ap (λ s. plan_at setup.homes c t call (going_at s (talk_of own.talks t) call).stage
-      (going_at s (talk_of own.talks t) call) pieces) beginning.between in
+      let plan : fifo_plan setup.homes c t call pieces ≡ plan_at setup.homes c t call at.Acquires (call_state site None had at.Acquires) pieces
+      = ap (λ s. plan_at setup.homes c t call (going_at s (call_state_of own.call_states t) call).stage
+      (going_at s (call_state_of own.call_states t) call) pieces) beginning.at_idle in
       let line = subst (λ x. IsLine setup c q x (private_after setup c t call pieces guests trace)) (sym plan) (asks_line site had) in
       let way : Way Reply polled = record {
         p = p;
@@ -203,11 +203,11 @@ module _ (polled : Polled) (own : Buffering) (guests : List State) (trace : List
         after = private_after setup c t call pieces guests trace;
         line = line;
         goes = λ past same. step_goes setup c p q old past same (λ inside. absurd (cc (inside, outside)))
-            (λ out. choice_begins site had refl beginning.between beginning.at halted);
+            (λ out. choice_begins site had refl beginning.at_idle beginning.at halted);
       } in
       line_is_step polled way got known follow
 
   pub first_polls_are_steps : First own
   first_polls_are_steps =
-      subst First (λ i. own_at (sym beginning.current i) (sym beginning.hand i) (threads_in own).ready (threads_in own).ended (sym beginning.kept i)
-      own.cv.lock.slept own.cv.waits own.talks) by_pieces
+      subst First (λ i. own_at (sym beginning.current i) (sym beginning.hand i) (threads_in own).ready (threads_in own).ended (sym beginning.deferred i)
+      own.cv.lock.slept own.cv.waits own.call_states) by_pieces

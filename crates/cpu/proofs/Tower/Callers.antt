@@ -8,24 +8,24 @@ use Rattle.event_log.specs.declared.ids.Tid.{Tid}
 use Rattle.guest.specs.State.{State}
 use Rattle.layer_traits.specs.declared.calls.Call.{Call}
 use Rattle.layer_traits.specs.declared.calls.Effect.{Effect}
-use Rattle.layer_traits.specs.declared.talks.Stage.{Stage}
-use Rattle.layer_traits.specs.declared.talks.Talk.{Talk}
+use Rattle.layer_traits.specs.declared.call_states.Stage.{Stage}
+use Rattle.layer_traits.specs.declared.call_states.CallState.{CallState}
 use Rattle.layer_traits.specs.BufferLaw.{Buffering}
 use Rattle.layer_traits.specs.LockLaw.{slept_for}
 use Rattle.cpu.specs.Table.Setups.{Setup}
 use Rattle.cpu.specs.Tower.Privates.{threads_in}
 
--- thread t runs: the CPU's part but for its hand and the answer that it keeps, and the guests, where the thread has a talk and a guest
+-- thread t runs: the CPU's part but for its hand and the answer that it keeps, and the guests, where the thread has a call state and a guest
 pub record Runner : Type 0 where
   pub t : Tid
   pub ready : List Tid
   pub ended : List Tid
   pub slept : List (Option BufId)
   pub waits : List (Option BufId)
-  pub talks : List Talk
+  pub call_states : List CallState
   pub guests : List State
   pub in_guests : t.0 < length guests
-  pub in_talks : t.0 < length talks
+  pub in_call_states : t.0 < length call_states
 
 -- the thread that runs is in a call, or begins one
 pub record Caller : Type 0 where
@@ -49,7 +49,7 @@ pub record Site : Type 0 where
 -- the lists of a part and of its guests reach thread t
 pub record HasRoom (own : Buffering) (guests : List State) (t : Tid) : Type 0 where
   pub in_guests : t.0 < length guests
-  pub in_talks : t.0 < length own.talks
+  pub in_call_states : t.0 < length own.call_states
   pub in_slept : t.0 < length own.cv.lock.slept
   pub in_waits : t.0 < length own.cv.waits
 
@@ -65,10 +65,10 @@ caller_in setup c own guests t room trace call position = record {
     ended = (threads_in own).ended;
     slept = own.cv.lock.slept;
     waits = own.cv.waits;
-    talks = own.talks;
+    call_states = own.call_states;
     guests = guests;
     in_guests = room.in_guests;
-    in_talks = room.in_talks;
+    in_call_states = room.in_call_states;
   };
   trace = trace;
   call = call;
@@ -80,9 +80,9 @@ caller_in setup c own guests t room trace call position = record {
 abbrev pub awake : (caller : Caller) → slept_for caller.slept caller.t ≡ None → slept_for caller.waits caller.t ≡ None → Site
 awake caller is_slept is_waits = record { caller = caller; is_slept = is_slept; is_waits = is_waits }
 
--- the talk of the call at a stage
-abbrev pub talk_at : Caller → Stage → Option Effect → Talk
-talk_at caller stage effect = record { stage = stage; call = Some caller.call; position = caller.position; effect = effect }
+-- the call state of the call at a stage
+abbrev pub call_state_at : Caller → Stage → Option Effect → CallState
+call_state_at caller stage effect = record { stage = stage; call = Some caller.call; position = caller.position; effect = effect }
 
 -- the caller at this stage, with what the poll left of where threads sleep and wait
 abbrev pub at_next : (caller : Caller) (slept2 waits2 : List (Option BufId)) (stage : Stage) → caller.t.0 < length slept2 → caller.t.0 < length waits2
@@ -91,8 +91,8 @@ at_next caller slept2 waits2 stage long_slept long_waits = record caller {
   runner = record caller.runner {
     slept = slept2;
     waits = waits2;
-    talks = slice_set caller.talks caller.t.0 (talk_at caller stage None);
-    in_talks = subst (λ n. caller.t.0 < n) (sym (length-set caller.talks caller.t.0 (talk_at caller stage None))) caller.in_talks;
+    call_states = slice_set caller.call_states caller.t.0 (call_state_at caller stage None);
+    in_call_states = subst (λ n. caller.t.0 < n) (sym (length-set caller.call_states caller.t.0 (call_state_at caller stage None))) caller.in_call_states;
   };
   in_slept = long_slept;
   in_waits = long_waits;

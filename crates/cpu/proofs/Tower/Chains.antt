@@ -17,12 +17,12 @@ use Rattle.layer_traits.specs.declared.locked.QEdit.TheVariants.{Acquire, Releas
 use Rattle.layer_traits.specs.declared.conditions.CvLeave.TheVariants.{Wait}
 use Rattle.layer_traits.specs.declared.buffer_edits.BufferEdit.{BufferEdit}
 use Rattle.layer_traits.specs.declared.buffer_edits.BufferOut.{BufferOut}
-use Rattle.layer_traits.specs.declared.talks.Stage.{Stage}
-use Rattle.layer_traits.specs.declared.talks.Stage.TheVariants as at
-use Rattle.layer_traits.specs.declared.talks.Talk.{Talk}
+use Rattle.layer_traits.specs.declared.call_states.Stage.{Stage}
+use Rattle.layer_traits.specs.declared.call_states.Stage.TheVariants as at
+use Rattle.layer_traits.specs.declared.call_states.CallState.{CallState}
 use Rattle.layer_traits.specs.BufferProtocol.{buffer_rules}
-use Rattle.layer_traits.specs.BufferLaw.{BufferPlan, Buffering, buffer_of, chained, fifo_plan, going, left_heard, plan_at, plan_of, plan_on, quiet}
-use Rattle.layer_traits.specs.BufferLaw.{side_of as tower_side, talk_of}
+use Rattle.layer_traits.specs.BufferLaw.{BufferPlan, Buffering, buffer_of, chained, fifo_plan, going, left_recorded, plan_at, plan_of, plan_on, no_call}
+use Rattle.layer_traits.specs.BufferLaw.{side_of as tower_side, call_state_of}
 use Rattle.layer_traits.specs.Conditions.{CvCall}
 use Rattle.layer_traits.specs.CvLaw.{Waiting, cv_plan, cv_plan_for, left_waiting}
 use Rattle.layer_traits.specs.LockLaw.{plan_for, slept_for}
@@ -32,9 +32,9 @@ use Rattle.cpu.specs.Table.Setups.{Setup, Acquires, Enters, Tries, Waits, Acquir
 use Rattle.cpu.specs.Tower.Views.{TowerAnswer, TowerName, TowerOut}
 use Rattle.cpu.specs.Tower.Privates.{guest_at, guests_after, private_after, private_of, thread_from, tid, trace_after}
 use Rattle.cpu.specs.Tower.Composed.{IsLine, IsLined}
-use Rattle.cpu.proofs.Tower.Callers.{Caller, Runner, Site, at_next, awake, talk_at}
+use Rattle.cpu.proofs.Tower.Callers.{Caller, Runner, Site, at_next, awake, call_state_at}
 use Rattle.cpu.proofs.Tower.Numbered.{changed, goes, own_at, part_at, parts, threads_at}
-use Rattle.cpu.proofs.Tower.Lines.{HasHad, after, e, from, g, own, talk, threads, with_call, k}
+use Rattle.cpu.proofs.Tower.Lines.{HasHad, after, e, from, g, own, call_state, threads, with_call, k}
 use Rattle.cpu.proofs.Tower.Composition.{asks_line, asks_again_line, enters_line, tries_line, waits_line, signals_line, own_signals_line, releases_line}
 
 -- the plan of a poll of this call is a line of the table
@@ -47,75 +47,77 @@ pub put_same : {X : Type 0} (xs : List X) (n : ℕ) (x d : X) → get_or xs n d 
 put_same xs n x d is = sym (set-get_or xs n d) ∙ ap (slice_set xs n) is
 
 -- the part's private state, with its current thread in the place of its number
-module _ (runner : Runner) (hand : Option Tid) (kept : Option TowerOut) (trace : List Entry) where
-  open runner use {t, ready, ended, slept, waits, talks, guests}
+module _ (runner : Runner) (hand : Option Tid) (deferred : Option TowerOut) (trace : List Entry) where
+  open runner use {t, ready, ended, slept, waits, call_states, guests}
 
-  pub private_here : (talk : Talk) (s w : Option BufId) → talk_of talks t ≡ talk → slept_for slept t ≡ s → slept_for waits t ≡ w
-      → private_of (part_at runner hand kept) guests trace
-      ≡ parts (Some t) ready hand (slice_set (threads_at (part_at runner hand kept) guests) t.0
-      (thread_from talk s w (is_some kept) (is_in t ended) (guest_at guests t))) trace
-  private_here talk s w is is_s is_w =
-      (λ i. private_of (own_at (Some t) hand ready ended kept slept waits (put_same talks t.0 talk quiet is i))
+  pub private_here : (call_state : CallState) (s w : Option BufId) → call_state_of call_states t ≡ call_state → slept_for slept t ≡ s → slept_for waits t ≡ w
+      → private_of (part_at runner hand deferred) guests trace
+      ≡ parts (Some t) ready hand (slice_set (threads_at (part_at runner hand deferred) guests) t.0
+      (thread_from call_state s w (is_some deferred) (is_in t ended) (guest_at guests t))) trace
+  private_here call_state s w is is_s is_w =
+      (λ i. private_of (own_at (Some t) hand ready ended deferred slept waits (put_same call_states t.0 call_state no_call is i))
       (put_same guests t.0 (guest_at guests t) at_start refl i) trace)
-      ∙ goes runner hand kept hand ready kept talk (guest_at guests t) trace s w is_s is_w
+      ∙ goes runner hand deferred hand ready deferred call_state (guest_at guests t) trace s w is_s is_w
 
--- the plan of a poll, where the talk is this
-pub fifo_at : (setup : Setup) (c : CpuId) (t : Tid) (call : TowerCall) (own : Buffering) (talk : Talk) → talk_of own.talks t ≡ talk
-    → fifo_plan setup.homes c t call own ≡ plan_at setup.homes c t call (going talk call).stage (going talk call) own
-fifo_at setup c t call own talk is = ap (λ x. plan_at setup.homes c t call (going x call).stage (going x call) own) is
+-- the plan of a poll, where the call state is this
+pub fifo_at : (setup : Setup) (c : CpuId) (t : Tid) (call : TowerCall) (own : Buffering) (call_state : CallState) → call_state_of own.call_states t ≡ call_state
+    → fifo_plan setup.homes c t call own ≡ plan_at setup.homes c t call (going call_state call).stage (going call_state call) own
+fifo_at setup c t call own call_state is = ap (λ x. plan_at setup.homes c t call (going x call).stage (going x call) own) is
 
 -- a line of a begun call
 module _ (site : Site) (effect : Option Effect) (had : HasHad site effect) (stage : Stage)
-    (is : talk_of site.talks site.t ≡ talk site effect had stage) where
-  pub going_line : (at : CallStage) → thread_from (talk site effect had stage) None None false (e site effect had) (g site effect had)
+    (is : call_state_of site.call_states site.t ≡ call_state site effect had stage) where
+  pub going_line : (at : CallStage) → thread_from (call_state site effect had stage) None None false (e site effect had) (g site effect had)
       ≡ with_call site effect had (k site effect had at)
       → (plan : BufferPlan Reply)
-      → plan_at site.setup.homes site.c site.t site.call (going (talk site effect had stage) site.call).stage (going (talk site effect had stage) site.call)
+      → plan_at site.setup.homes site.c site.t site.call (going (call_state site effect had stage) site.call).stage (going
+      (call_state site effect had stage) site.call)
       (own site effect had) ≡ plan
       → IsLine site.setup site.c (from site effect had at) plan (after site effect had)
       → LineOf site.setup site.c site.t site.call (own site effect had) site.guests site.trace
   going_line at same plan is_plan line =
-      let here = private_here site.runner None None site.trace (talk site effect had stage) None None is site.is_slept site.is_waits
+      let here = private_here site.runner None None site.trace (call_state site effect had stage) None None is site.is_slept site.is_waits
       ∙ ap (λ x. parts (Some site.t) site.ready None (slice_set (threads site effect had) site.t.0 x) site.trace) same in
-      let way = fifo_at site.setup site.c site.t site.call (own site effect had) (talk site effect had stage) is ∙ is_plan in
+      let way = fifo_at site.setup site.c site.t site.call (own site effect had) (call_state site effect had stage) is ∙ is_plan in
       subst (λ x. x) (λ i. IsLine site.setup site.c (sym here i) (sym way i) (after site effect had)) line
 
 module _ (site : Site) where
-  open site use {caller, setup, c, t, talks, guests, trace, call}
+  open site use {caller, setup, c, t, call_states, guests, trace, call}
 
   abbrev pub SiteLine : Type 0
   SiteLine = LineOf setup c t call (part_at site.runner None None) guests trace
 
-  had_none : (stage : Stage) → (going (talk_at caller stage None) call).effect ≡ None → talk_of talks t ≡ talk_at caller stage None → HasHad site None
+  had_none : (stage : Stage) → (going (call_state_at caller stage None) call).effect ≡ None → call_state_of call_states t ≡ call_state_at caller stage None
+      → HasHad site None
   had_none stage so is = ap (λ x. (going x call).effect) is ∙ so
 
-  pub site_asks : talk_of talks t ≡ talk_at caller at.Acquires None → SiteLine
+  pub site_asks : call_state_of call_states t ≡ call_state_at caller at.Acquires None → SiteLine
   site_asks is = let had = had_none at.Acquires refl is in going_line site None had at.Acquires is Acquires refl _ refl (asks_line site had)
 
-  pub site_enters : talk_of talks t ≡ talk_at caller at.Enters None → SiteLine
+  pub site_enters : call_state_of call_states t ≡ call_state_at caller at.Enters None → SiteLine
   site_enters is = let had = had_none at.Enters refl is in going_line site None had at.Enters is Enters refl _ refl (enters_line site had)
 
-  pub site_tries : IsLined call → talk_of talks t ≡ talk_at caller at.Tries None → SiteLine
+  pub site_tries : IsLined call → call_state_of call_states t ≡ call_state_at caller at.Tries None → SiteLine
   site_tries lined is = let had = had_none at.Tries refl is in going_line site None had at.Tries is Tries refl _ refl (tries_line site had lined)
 
-  pub site_waits : talk_of talks t ≡ talk_at caller at.Waits None → SiteLine
+  pub site_waits : call_state_of call_states t ≡ call_state_at caller at.Waits None → SiteLine
   site_waits is = let had = had_none at.Waits refl is in going_line site None had at.Waits is Waits refl _ refl (waits_line site had)
 
-  pub site_asks_again : talk_of talks t ≡ talk_at caller at.AcquiresAgain None → SiteLine
+  pub site_asks_again : call_state_of call_states t ≡ call_state_at caller at.AcquiresAgain None → SiteLine
   site_asks_again is =
       let had = had_none at.AcquiresAgain refl is in going_line site None had at.AcquiresAgain is AcquiresAgain refl _ refl (asks_again_line site had)
 
-  pub site_signals : (f : Effect) → talk_of talks t ≡ talk_at caller at.Signals (Some f) → SiteLine
+  pub site_signals : (f : Effect) → call_state_of call_states t ≡ call_state_at caller at.Signals (Some f) → SiteLine
   site_signals f is =
       let had : HasHad site (Some f) = ap (λ x. (going x call).effect) is in
       going_line site (Some f) had at.Signals is Signals refl _ refl (signals_line site f had)
 
-  pub site_own_signals : (f : Effect) → talk_of talks t ≡ talk_at caller at.SignalsOwn (Some f) → SiteLine
+  pub site_own_signals : (f : Effect) → call_state_of call_states t ≡ call_state_at caller at.SignalsOwn (Some f) → SiteLine
   site_own_signals f is =
       let had : HasHad site (Some f) = ap (λ x. (going x call).effect) is in
       going_line site (Some f) had at.SignalsOwn is SignalsOwn refl _ refl (own_signals_line site f had)
 
-  pub site_releases : (f : Effect) → talk_of talks t ≡ talk_at caller at.Releases (Some f) → SiteLine
+  pub site_releases : (f : Effect) → call_state_of call_states t ≡ call_state_at caller at.Releases (Some f) → SiteLine
   site_releases f is =
       let had : HasHad site (Some f) = ap (λ x. (going x call).effect) is in
       going_line site (Some f) had at.Releases is Releases refl _ refl (releases_line site f had)
@@ -123,22 +125,22 @@ module _ (site : Site) where
 -- Chains: the thread slept for the lock and was handed it, or waited and was woken.
 
 module _ (caller : Caller) where
-  open caller use {runner, setup, c, t, ready, ended, slept, waits, talks, guests, trace, call, in_guests, in_talks, in_slept, in_waits}
+  open caller use {runner, setup, c, t, ready, ended, slept, waits, call_states, guests, trace, call, in_guests, in_call_states, in_slept, in_waits}
 
   abbrev was : Buffering
   was = part_at runner None None
 
-  abbrev so : Stage → Talk
-  so stage = talk_at caller stage None
+  abbrev so : Stage → CallState
+  so stage = call_state_at caller stage None
 
   abbrev then_own : List (Option BufId) → List (Option BufId) → Stage → Buffering
-  then_own slept2 waits2 stage = own_at (Some t) None ready ended None slept2 waits2 (slice_set talks t.0 (so stage))
+  then_own slept2 waits2 stage = own_at (Some t) None ready ended None slept2 waits2 (slice_set call_states t.0 (so stage))
 
-  now_talk : (stage : Stage) → talk_of (slice_set talks t.0 (so stage)) t ≡ so stage
-  now_talk stage = get_or-set_same talks t.0 (so stage) quiet in_talks
+  now_call_state : (stage : Stage) → call_state_of (slice_set call_states t.0 (so stage)) t ≡ so stage
+  now_call_state stage = get_or-set_same call_states t.0 (so stage) no_call in_call_states
 
   -- the private state is the same
-  same_private : (stage next : Stage) (slept2 waits2 : List (Option BufId)) (s w : Option BufId) → talk_of talks t ≡ so stage
+  same_private : (stage next : Stage) (slept2 waits2 : List (Option BufId)) (s w : Option BufId) → call_state_of call_states t ≡ so stage
       → slept_for slept t ≡ s → slept_for waits t ≡ w
       → ((j : ℕ) → j ≢ t.0 → slept_for slept2 (tid j) ≡ slept_for slept (tid j))
       → ((j : ℕ) → j ≢ t.0 → slept_for waits2 (tid j) ≡ slept_for waits (tid j)) → slept_for slept2 t ≡ None → slept_for waits2 t ≡ None
@@ -152,15 +154,15 @@ module _ (caller : Caller) where
       ∙ sym (private_here runner None None trace (so stage) s w is is_s is_w)))
 
   -- a line of the state to which the poll went on is one of the state from which it came
-  chained_line : (stage next : Stage) (own2 : Buffering) → talk_of talks t ≡ so stage → talk_of own2.talks t ≡ so next
+  chained_line : (stage next : Stage) (own2 : Buffering) → call_state_of call_states t ≡ so stage → call_state_of own2.call_states t ≡ so next
       → (going (so stage) call).effect ≡ None → (going (so next) call).effect ≡ None
       → private_of own2 guests trace ≡ private_of was guests trace → fifo_plan setup.homes c t call was ≡ fifo_plan setup.homes c t call own2
       → LineOf setup c t call own2 guests trace → LineOf setup c t call was guests trace
   chained_line stage next own2 is is2 none none2 private plan line =
-      let effects : (going (talk_of own2.talks t) call).effect ≡ (going (talk_of talks t) call).effect
+      let effects : (going (call_state_of own2.call_states t) call).effect ≡ (going (call_state_of call_states t) call).effect
       = (ap (λ x. (going x call).effect) is2 ∙ none2) ∙ sym (ap (λ x. (going x call).effect) is ∙ none) in
       subst (λ x. x) (λ i. IsLine setup c (private i) (sym plan i) (λ left. private_of left.own (guests_after setup t left.answer guests)
-      (trace_after c t (buffer_of call) (effects i) (talk_of left.own.talks t).effect trace))) line
+      (trace_after c t (buffer_of call) (effects i) (call_state_of left.own.call_states t).effect trace))) line
 
   abbrev beneath : CvCall BufferEdit → Plan TowerName TowerAnswer (Waiting BufferOut) TowerOut
   beneath s = cv_plan (lock_moves buffer_rules) setup.homes c (buffer_of call) s was.cv
@@ -187,64 +189,66 @@ module _ (caller : Caller) where
   waits_long = subst (λ n. t.0 < n) (sym (length-set waits t.0 None)) in_waits
 
   -- the plan of a thread that was handed the lock is that of its next section
-  pub handed_plan : (b : BufId) → talk_of talks t ≡ so at.Acquires → slept_for slept t ≡ Some b → slept_for waits t ≡ None
+  pub handed_plan : (b : BufId) → call_state_of call_states t ≡ so at.Acquires → slept_for slept t ≡ Some b → slept_for waits t ≡ None
       → fifo_plan setup.homes c t call was ≡ fifo_plan setup.homes c t call (then_own (slice_set slept t.0 None) waits at.Enters)
   handed_plan b is s w =
       let own2 = then_own (slice_set slept t.0 None) waits at.Enters in
       fifo_at setup c t call was (so at.Acquires) is
-      ∙ (ap (chained (λ left. plan_of setup.homes c t call at.Enters (talk_of left.talks t) left) (left_heard t call (so at.Acquires) talks at.Acquires))
+      ∙ (ap (chained (λ left. plan_of setup.homes c t call at.Enters (call_state_of left.call_states t) left) (left_recorded t call
+      (so at.Acquires) call_states at.Acquires))
       (handed_now b w s)
-      ∙ (ap (λ x. plan_of setup.homes c t call at.Enters x own2) (now_talk at.Enters)
-      ∙ sym (fifo_at setup c t call own2 (so at.Enters) (now_talk at.Enters))))
+      ∙ (ap (λ x. plan_of setup.homes c t call at.Enters x own2) (now_call_state at.Enters)
+      ∙ sym (fifo_at setup c t call own2 (so at.Enters) (now_call_state at.Enters))))
 
-  pub handed_line : (b : BufId) → talk_of talks t ≡ so at.Acquires → slept_for slept t ≡ Some b → slept_for waits t ≡ None
+  pub handed_line : (b : BufId) → call_state_of call_states t ≡ so at.Acquires → slept_for slept t ≡ Some b → slept_for waits t ≡ None
       → LineOf setup c t call was guests trace
   handed_line b is s w =
       let own2 = then_own (slice_set slept t.0 None) waits at.Enters in
-      chained_line at.Acquires at.Enters own2 is (now_talk at.Enters) refl refl
+      chained_line at.Acquires at.Enters own2 is (now_call_state at.Enters) refl refl
       (same_private at.Acquires at.Enters (slice_set slept t.0 None) waits (Some b) None is s w
       (λ j other. get_or-set_other slept t.0 j None None other) (λ j other. refl) slept_set w refl)
       (handed_plan b is s w)
-      (site_enters (awake (at_next caller (slice_set slept t.0 None) waits at.Enters slept_long in_waits) slept_set w) (now_talk at.Enters))
+      (site_enters (awake (at_next caller (slice_set slept t.0 None) waits at.Enters slept_long in_waits) slept_set w) (now_call_state at.Enters))
 
-  pub handed_again_plan : (b : BufId) → talk_of talks t ≡ so at.AcquiresAgain → slept_for slept t ≡ Some b → slept_for waits t ≡ None
+  pub handed_again_plan : (b : BufId) → call_state_of call_states t ≡ so at.AcquiresAgain → slept_for slept t ≡ Some b → slept_for waits t ≡ None
       → fifo_plan setup.homes c t call was ≡ fifo_plan setup.homes c t call (then_own (slice_set slept t.0 None) waits at.Tries)
   handed_again_plan b is s w =
       let own2 = then_own (slice_set slept t.0 None) waits at.Tries in
       fifo_at setup c t call was (so at.AcquiresAgain) is
-      ∙ (ap (chained (λ left. plan_of setup.homes c t call at.Tries (talk_of left.talks t) left)
-      (left_heard t call (so at.AcquiresAgain) talks at.AcquiresAgain)) (handed_now b w s)
-      ∙ (ap (λ x. plan_of setup.homes c t call at.Tries x own2) (now_talk at.Tries)
-      ∙ sym (fifo_at setup c t call own2 (so at.Tries) (now_talk at.Tries))))
+      ∙ (ap (chained (λ left. plan_of setup.homes c t call at.Tries (call_state_of left.call_states t) left)
+      (left_recorded t call (so at.AcquiresAgain) call_states at.AcquiresAgain)) (handed_now b w s)
+      ∙ (ap (λ x. plan_of setup.homes c t call at.Tries x own2) (now_call_state at.Tries)
+      ∙ sym (fifo_at setup c t call own2 (so at.Tries) (now_call_state at.Tries))))
 
-  pub handed_again_line : (b : BufId) → IsLined call → talk_of talks t ≡ so at.AcquiresAgain → slept_for slept t ≡ Some b → slept_for waits t ≡ None
+  pub handed_again_line : (b : BufId) → IsLined call → call_state_of call_states t ≡ so at.AcquiresAgain → slept_for slept t ≡ Some b → slept_for waits t ≡ None
       → LineOf setup c t call was guests trace
   handed_again_line b lined is s w =
       let own2 = then_own (slice_set slept t.0 None) waits at.Tries in
-      chained_line at.AcquiresAgain at.Tries own2 is (now_talk at.Tries) refl refl
+      chained_line at.AcquiresAgain at.Tries own2 is (now_call_state at.Tries) refl refl
       (same_private at.AcquiresAgain at.Tries (slice_set slept t.0 None) waits (Some b) None is s w
       (λ j other. get_or-set_other slept t.0 j None None other) (λ j other. refl) slept_set w refl)
       (handed_again_plan b is s w)
-      (site_tries (awake (at_next caller (slice_set slept t.0 None) waits at.Tries slept_long in_waits) slept_set w) lined (now_talk at.Tries))
+      (site_tries (awake (at_next caller (slice_set slept t.0 None) waits at.Tries slept_long in_waits) slept_set w) lined (now_call_state at.Tries))
 
   -- the plan of a thread that was woken is to ask for the lock again
-  pub woken_plan : (b : BufId) → talk_of talks t ≡ so at.Waits → slept_for slept t ≡ None → slept_for waits t ≡ Some b
+  pub woken_plan : (b : BufId) → call_state_of call_states t ≡ so at.Waits → slept_for slept t ≡ None → slept_for waits t ≡ Some b
       → fifo_plan setup.homes c t call was ≡ fifo_plan setup.homes c t call (then_own slept (slice_set waits t.0 None) at.AcquiresAgain)
   woken_plan b is s w =
       let own2 = then_own slept (slice_set waits t.0 None) at.AcquiresAgain in
       fifo_at setup c t call was (so at.Waits) is
-      ∙ (ap (chained (λ left. plan_on setup.homes c t call at.AcquiresAgain (plan_of setup.homes c t call at.Tries) (talk_of left.talks t) left)
-      (left_heard t call (so at.Waits) talks at.Waits))
+      ∙ (ap (chained (λ left. plan_on setup.homes c t call at.AcquiresAgain (plan_of setup.homes c t call at.Tries) (call_state_of left.call_states t) left)
+      (left_recorded t call (so at.Waits) call_states at.Waits))
       (ap (cv_plan_for (lock_moves buffer_rules) setup.homes c (buffer_of call) (Release (Wait t (tower_side call))) was.cv) w)
-      ∙ (ap (λ x. plan_on setup.homes c t call at.AcquiresAgain (plan_of setup.homes c t call at.Tries) x own2) (now_talk at.AcquiresAgain)
-      ∙ sym (fifo_at setup c t call own2 (so at.AcquiresAgain) (now_talk at.AcquiresAgain))))
+      ∙ (ap (λ x. plan_on setup.homes c t call at.AcquiresAgain (plan_of setup.homes c t call at.Tries) x own2) (now_call_state at.AcquiresAgain)
+      ∙ sym (fifo_at setup c t call own2 (so at.AcquiresAgain) (now_call_state at.AcquiresAgain))))
 
-  pub woken_line : (b : BufId) → talk_of talks t ≡ so at.Waits → slept_for slept t ≡ None → slept_for waits t ≡ Some b
+  pub woken_line : (b : BufId) → call_state_of call_states t ≡ so at.Waits → slept_for slept t ≡ None → slept_for waits t ≡ Some b
       → LineOf setup c t call was guests trace
   woken_line b is s w =
       let own2 = then_own slept (slice_set waits t.0 None) at.AcquiresAgain in
-      chained_line at.Waits at.AcquiresAgain own2 is (now_talk at.AcquiresAgain) refl refl
+      chained_line at.Waits at.AcquiresAgain own2 is (now_call_state at.AcquiresAgain) refl refl
       (same_private at.Waits at.AcquiresAgain slept (slice_set waits t.0 None) None (Some b) is s w
       (λ j other. refl) (λ j other. get_or-set_other waits t.0 j None None other) s waits_set refl)
       (woken_plan b is s w)
-      (site_asks_again (awake (at_next caller slept (slice_set waits t.0 None) at.AcquiresAgain in_slept waits_long) s waits_set) (now_talk at.AcquiresAgain))
+      (site_asks_again (awake (at_next caller slept (slice_set waits t.0 None) at.AcquiresAgain in_slept waits_long) s waits_set)
+      (now_call_state at.AcquiresAgain))

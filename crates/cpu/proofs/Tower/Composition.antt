@@ -18,16 +18,16 @@ use Rattle.layer_traits.specs.declared.conditions.CvOut.TheVariants as cv
 use Rattle.layer_traits.specs.declared.buffer_edits.BufferOut.{BufferOut}
 use Rattle.layer_traits.specs.declared.buffer_edits.BufferOut.TheVariants.{Entered, NotYet, Done, WasShut}
 use Rattle.layer_traits.specs.declared.queues.QueueAnswer.TheVariants as told
-use Rattle.layer_traits.specs.declared.talks.Stage.{Stage}
-use Rattle.layer_traits.specs.declared.talks.Stage.TheVariants as at
-use Rattle.layer_traits.specs.declared.talks.Talk.{Talk}
+use Rattle.layer_traits.specs.declared.call_states.Stage.{Stage}
+use Rattle.layer_traits.specs.declared.call_states.Stage.TheVariants as at
+use Rattle.layer_traits.specs.declared.call_states.CallState.{CallState}
 use Rattle.layer_traits.specs.BufferBlocks.{BufferState, buffer_answer}
 use Rattle.layer_traits.specs.BufferProtocol.{buffer_rules}
-use Rattle.layer_traits.specs.BufferLaw.{BufferPlan, Buffering, at_stage, chained, buffer_of, entry_of, plan_on, first_of, left_heard, other_side, plan_at}
-use Rattle.layer_traits.specs.BufferLaw.{plan_of, reply_of, side_of as tower_side, talk_of, try_of}
+use Rattle.layer_traits.specs.BufferLaw.{BufferPlan, Buffering, at_stage, chained, buffer_of, entry_of, plan_on, first_of, left_recorded, other_side, plan_at}
+use Rattle.layer_traits.specs.BufferLaw.{plan_of, reply_of, side_of as tower_side, call_state_of, try_of}
 use Rattle.layer_traits.specs.CvLaw.{Waiting}
 use Rattle.layer_traits.specs.LockLaw.{slept_for}
-use Rattle.layer_traits.specs.Locking.{LockState, line_asked, lock_answer, told_asker}
+use Rattle.layer_traits.specs.Locking.{LockState, wait_list_asked, lock_answer, asker_report}
 use Rattle.layer_traits.specs.Plans.{Left, Plan, raised}
 use Rattle.cpu.specs.Table.Blocks.{Position, effect_of}
 use Rattle.cpu.specs.Table.Setups.{Acquires, Enters, Tries, Waits, AcquiresAgain, Signals, SignalsOwn, Releases, Returns, Private, program_of}
@@ -37,14 +37,14 @@ use Rattle.cpu.specs.Tower.Privates.{asks_in, call_from, message_of}
 use Rattle.cpu.specs.Tower.Composed.{HandIsKnown, IsLine, IsLined}
 use Rattle.cpu.proofs.Tower.Numbered.{own_at, parts}
 use Rattle.cpu.proofs.Tower.Callers.{Site}
-use Rattle.cpu.proofs.Tower.Lines.{HasHad, IsShutting, Draws, Shuts, Tried, first_editor, first_name, first_answer, try_editor, try_name, try_answer}
-use Rattle.cpu.proofs.Tower.Lines.{wait_name, signal_name, own_signal_name, reply_guest, entry_heard, shut_heard, try_heard, effect_by, shut_effect}
-use Rattle.cpu.proofs.Tower.Lines.{own, g, e, threads, talk, k, from, after, runs_on, sleeps_now, waits_now}
+use Rattle.cpu.proofs.Tower.Lines.{HasHad, IsShutting, Draws, Shuts, Tried, thread_of_first, first_name, first_answer, thread_of_try, try_name, try_answer}
+use Rattle.cpu.proofs.Tower.Lines.{wait_name, signal_name, own_signal_name, reply_guest, entry_recorded, shut_recorded, try_recorded, effect_by, shut_effect}
+use Rattle.cpu.proofs.Tower.Lines.{own, g, e, threads, call_state, k, from, after, runs_on, sleeps_now, waits_now}
 use Rattle.cpu.proofs.Tower.Lines.{beneath_is, fresh, react, line, lift, waking, by_home, stands, by_table, stays_so, has_returned}
 
 -- what is answered to an Acquire, to an edit inside, to a signal, a leave and a wait
 abbrev pub asked_out : Option Tid → TowerOut
-asked_out o = record { out = told_asker o; slept = is_some (line_asked o); woke = None }
+asked_out o = record { out = asker_report o; slept = is_some (wait_list_asked o); woke = None }
 
 abbrev pub did_out : BufferOut → TowerOut
 did_out o = record { out = lock.Did (cv.Did o); slept = false; woke = None }
@@ -62,16 +62,16 @@ wait_out side o = record { out = lock.Released (cv.Waited side); slept = true; w
 
 module _ (site : Site) (had : HasHad site None) where
   abbrev pub plan : Stage → BufferPlan Reply
-  plan stage = plan_at site.setup.homes site.c site.t site.call stage (talk site None had stage) (own site None had)
+  plan stage = plan_at site.setup.homes site.c site.t site.call stage (call_state site None had stage) (own site None had)
 
   abbrev at_buf : Stage → (Buffering → BufferPlan Reply) → Plan TowerName TowerAnswer (Waiting BufferOut) TowerOut → BufferPlan Reply
-  at_buf stage next p = chained next (left_heard site.t site.call (talk site None had stage) site.talks stage) p
+  at_buf stage next p = chained next (left_recorded site.t site.call (call_state site None had stage) site.call_states stage) p
 
   -- it asks for the lock
   ask : (o : Option Tid) → after site None had (react site None had at.Acquires (Acquire site.t) (Some (told.Answer (asked_out o))))
       ≡ after_section site.setup site.c (from site None had Acquires) (answer_view (told.Answer (asked_out o)))
   ask None =
-      runs_on site None had None site.ready None (at_stage at.Enters (talk site None had at.Acquires)) None
+      runs_on site None had None site.ready None (at_stage at.Enters (call_state site None had at.Acquires)) None
       ∙ sym (by_table site None had Acquires (answer_view (told.Answer (asked_out None))) (k site None had Enters) site.trace refl
       ∙ stays_so site None had (k site None had Enters) site.ready site.trace (λ p. refl))
   ask (Some owner) =
@@ -80,19 +80,19 @@ module _ (site : Site) (had : HasHad site None) where
 
   pub asks_plan : plan at.Acquires ≡ fresh site None had at.Acquires (Acquire site.t)
   asks_plan =
-      ap (at_buf at.Acquires (λ l. plan_of site.setup.homes site.c site.t site.call at.Enters (talk_of l.talks site.t) l))
+      ap (at_buf at.Acquires (λ l. plan_of site.setup.homes site.c site.t site.call at.Enters (call_state_of l.call_states site.t) l))
       (beneath_is site None had (Acquire site.t) site.is_waits site.is_slept)
 
   pub asks_line : IsLine site.setup site.c (from site None had Acquires) (plan at.Acquires) (after site None had)
   asks_line =
       line site None had at.Acquires (Acquire site.t) Acquires (plan at.Acquires)
       asks_plan
-      refl (runs_on site None had None site.ready None (talk site None had at.Acquires) None) (λ x known. ask x.owner)
+      refl (runs_on site None had None site.ready None (call_state site None had at.Acquires) None) (λ x known. ask x.owner)
 
   ask_again : (o : Option Tid) → after site None had (react site None had at.AcquiresAgain (Acquire site.t) (Some (told.Answer (asked_out o))))
       ≡ after_section site.setup site.c (from site None had AcquiresAgain) (answer_view (told.Answer (asked_out o)))
   ask_again None =
-      runs_on site None had None site.ready None (at_stage at.Tries (talk site None had at.AcquiresAgain)) None
+      runs_on site None had None site.ready None (at_stage at.Tries (call_state site None had at.AcquiresAgain)) None
       ∙ sym (by_table site None had AcquiresAgain (answer_view (told.Answer (asked_out None))) (k site None had Tries) site.trace refl
       ∙ stays_so site None had (k site None had Tries) site.ready site.trace (λ p. refl))
   ask_again (Some owner) =
@@ -101,14 +101,14 @@ module _ (site : Site) (had : HasHad site None) where
 
   pub asks_again_plan : plan at.AcquiresAgain ≡ fresh site None had at.AcquiresAgain (Acquire site.t)
   asks_again_plan =
-      ap (at_buf at.AcquiresAgain (λ l. plan_of site.setup.homes site.c site.t site.call at.Tries (talk_of l.talks site.t) l))
+      ap (at_buf at.AcquiresAgain (λ l. plan_of site.setup.homes site.c site.t site.call at.Tries (call_state_of l.call_states site.t) l))
       (beneath_is site None had (Acquire site.t) site.is_waits site.is_slept)
 
   pub asks_again_line : IsLine site.setup site.c (from site None had AcquiresAgain) (plan at.AcquiresAgain) (after site None had)
   asks_again_line =
       line site None had at.AcquiresAgain (Acquire site.t) AcquiresAgain (plan at.AcquiresAgain)
       asks_again_plan
-      refl (runs_on site None had None site.ready None (talk site None had at.AcquiresAgain) None) (λ x known. ask_again x.owner)
+      refl (runs_on site None had None site.ready None (call_state site None had at.AcquiresAgain) None) (λ x known. ask_again x.owner)
 
   -- it enters its line, or closes the buffer
   abbrev first_fits : BufferOut → Type 0
@@ -119,14 +119,14 @@ module _ (site : Site) (had : HasHad site None) where
   enter pos lined =
       runs_on site None had None site.ready None (record { stage = at.Tries; call = Some site.call; position = pos; effect = None }) None
       ∙ sym (by_table site None had Enters (answer_view (told.Answer (did_out (Entered pos)))) (call_from site.call pos None Tries) site.trace
-      (entry_heard site.c (from site None had Enters) site.t (k site None had Enters) site.call (Position pos) lined)
+      (entry_recorded site.c (from site None had Enters) site.t (k site None had Enters) site.call (Position pos) lined)
       ∙ stays_so site None had (call_from site.call pos None Tries) site.ready site.trace (λ p. refl))
 
   -- what is left of a call whose effect came in this poll
   abbrev effects_so : Effect → Type 0
   effects_so f = after site None had (record {
     own = own_at (Some site.t) None site.ready site.ended None site.slept site.waits
-        (slice_set site.talks site.t.0 (record { stage = at.Signals; call = Some site.call; position = site.position; effect = Some f }));
+        (slice_set site.call_states site.t.0 (record { stage = at.Signals; call = Some site.call; position = site.position; effect = Some f }));
     answer = None;
   })
       ≡ stands site None had site.ready None (call_from site.call site.position (Some f) Signals)
@@ -148,7 +148,7 @@ module _ (site : Site) (had : HasHad site None) where
       effects f
       ∙ sym (by_table site None had Enters (answer_view (told.Answer (did_out (WasShut op pos)))) (call_from site.call site.position (Some f) Signals)
       (site.trace ++ entry_of site.c site.t (buffer_of site.call) f ∷ [])
-      (shut_heard site.c (from site None had Enters) site.t site.call site.position op pos shuts)
+      (shut_recorded site.c (from site None had Enters) site.t site.call site.position op pos shuts)
       ∙ signals_next f)
 
   first_by : (x : BufferState) → Draws site.t site.call x ⊎ Shuts site.t site.call x → first_fits (buffer_answer (first_of site.t site.call) x)
@@ -157,15 +157,16 @@ module _ (site : Site) (had : HasHad site None) where
 
   pub enters_plan : plan at.Enters ≡ fresh site None had at.Enters (Inside (Edit (first_of site.t site.call)))
   enters_plan =
-      ap (raised (left_heard site.t site.call (talk site None had at.Enters) site.talks at.Enters))
+      ap (raised (left_recorded site.t site.call (call_state site None had at.Enters) site.call_states at.Enters))
       (beneath_is site None had (Inside (Edit (first_of site.t site.call)))
-      (ap (slept_for site.waits) (first_editor site.t site.call) ∙ site.is_waits) (ap (slept_for site.slept) (first_editor site.t site.call) ∙ site.is_slept))
+      (ap (slept_for site.waits) (thread_of_first site.t site.call) ∙ site.is_waits) (ap (slept_for site.slept) (thread_of_first site.t site.call)
+      ∙ site.is_slept))
 
   pub enters_line : IsLine site.setup site.c (from site None had Enters) (plan at.Enters) (after site None had)
   enters_line =
       line site None had at.Enters (Inside (Edit (first_of site.t site.call))) Enters (plan at.Enters)
       enters_plan
-      (first_name site.t site.call) (runs_on site None had None site.ready None (talk site None had at.Enters) None)
+      (first_name site.t site.call) (runs_on site None had None site.ready None (call_state site None had at.Enters) None)
       (λ x known. first_by x.above (first_answer site.t site.call x.above))
 
   -- it tries
@@ -183,12 +184,12 @@ module _ (site : Site) (had : HasHad site None) where
       effects f
       ∙ sym (by_table site None had Tries (answer_view (told.Answer (did_out (Done (effect_of (asks_in site.call) closed) op m))))
       (call_from site.call site.position (Some f) Signals) (site.trace ++ entry_of site.c site.t (buffer_of site.call) f ∷ [])
-      (try_heard site.c (from site None had Tries) site.t site.call site.position op closed m lined same)
+      (try_recorded site.c (from site None had Tries) site.t site.call site.position op closed m lined same)
       ∙ signals_next f)
 
   tries_vain : try_fits NotYet
   tries_vain =
-      runs_on site None had None site.ready None (talk site None had at.Waits) None
+      runs_on site None had None site.ready None (call_state site None had at.Waits) None
       ∙ sym (by_table site None had Tries (answer_view (told.Answer (did_out NotYet))) (k site None had Waits) site.trace refl
       ∙ stays_so site None had (k site None had Waits) site.ready site.trace (λ p. refl))
 
@@ -199,15 +200,15 @@ module _ (site : Site) (had : HasHad site None) where
 
   pub tries_plan : plan at.Tries ≡ fresh site None had at.Tries (Inside (Edit (try_of site.t site.call)))
   tries_plan =
-      ap (raised (left_heard site.t site.call (talk site None had at.Tries) site.talks at.Tries))
+      ap (raised (left_recorded site.t site.call (call_state site None had at.Tries) site.call_states at.Tries))
       (beneath_is site None had (Inside (Edit (try_of site.t site.call)))
-      (ap (slept_for site.waits) (try_editor site.t site.call) ∙ site.is_waits) (ap (slept_for site.slept) (try_editor site.t site.call) ∙ site.is_slept))
+      (ap (slept_for site.waits) (thread_of_try site.t site.call) ∙ site.is_waits) (ap (slept_for site.slept) (thread_of_try site.t site.call) ∙ site.is_slept))
 
   pub tries_line : IsLined site.call → IsLine site.setup site.c (from site None had Tries) (plan at.Tries) (after site None had)
   tries_line lined =
       line site None had at.Tries (Inside (Edit (try_of site.t site.call))) Tries (plan at.Tries)
       tries_plan
-      (try_name site.t site.call site.position lined) (runs_on site None had None site.ready None (talk site None had at.Tries) None)
+      (try_name site.t site.call site.position lined) (runs_on site None had None site.ready None (call_state site None had at.Tries) None)
       (λ x known. tries_by x.above lined (try_answer site.t site.call x.above lined))
 
   -- it waits
@@ -255,37 +256,37 @@ module _ (site : Site) (had : HasHad site None) where
   pub waits_plan : plan at.Waits ≡ fresh site None had at.Waits (Release (Wait site.t (tower_side site.call)))
   waits_plan =
       ap (at_buf at.Waits (λ l. plan_on site.setup.homes site.c site.t site.call at.AcquiresAgain
-      (plan_of site.setup.homes site.c site.t site.call at.Tries) (talk_of l.talks site.t) l))
+      (plan_of site.setup.homes site.c site.t site.call at.Tries) (call_state_of l.call_states site.t) l))
       (beneath_is site None had (Release (Wait site.t (tower_side site.call))) site.is_waits site.is_slept)
 
   pub waits_line : IsLine site.setup site.c (from site None had Waits) (plan at.Waits) (after site None had)
   waits_line =
       line site None had at.Waits (Release (Wait site.t (tower_side site.call))) Waits (plan at.Waits)
       waits_plan
-      (wait_name site.t site.call site.position) (runs_on site None had None site.ready None (talk site None had at.Waits) None)
+      (wait_name site.t site.call site.position) (runs_on site None had None site.ready None (call_state site None had at.Waits) None)
       (λ x known. waits_at (tower_side site.call) x known)
 
 -- After the effect.
 
 module _ (site : Site) (f : Effect) (had : HasHad site (Some f)) where
   abbrev pub plan_to : Stage → BufferPlan Reply
-  plan_to stage = plan_at site.setup.homes site.c site.t site.call stage (talk site (Some f) had stage) (own site (Some f) had)
+  plan_to stage = plan_at site.setup.homes site.c site.t site.call stage (call_state site (Some f) had stage) (own site (Some f) had)
 
   signal_by : (v : CvOut BufferOut) (u : Tid) (b : Bool)
       → after site (Some f) had (lift site (Some f) had at.Signals (signal_out v (Some u)) (waking site (Some f) had (Some site.t) u b))
       ≡ settled site.setup (if b then stands site (Some f) had (site.ready ++ u ∷ []) None (k site (Some f) had SignalsOwn) site.trace
       else stands site (Some f) had site.ready (Some u) (k site (Some f) had SignalsOwn) site.trace)
   signal_by v u true =
-      runs_on site (Some f) had None (site.ready ++ u ∷ []) None (at_stage at.SignalsOwn (talk site (Some f) had at.Signals)) None
+      runs_on site (Some f) had None (site.ready ++ u ∷ []) None (at_stage at.SignalsOwn (call_state site (Some f) had at.Signals)) None
       ∙ sym (stays_so site (Some f) had (k site (Some f) had SignalsOwn) (site.ready ++ u ∷ []) site.trace (λ p. refl))
-  signal_by v u false = runs_on site (Some f) had (Some u) site.ready (Some (signal_out v (Some u))) (talk site (Some f) had at.Signals) None
+  signal_by v u false = runs_on site (Some f) had (Some u) site.ready (Some (signal_out v (Some u))) (call_state site (Some f) had at.Signals) None
 
   signal : (side : Side) (v : CvOut BufferOut) (o : Option Tid)
       → HandIsKnown site.setup (react site (Some f) had at.Signals (Inside (SignalFront site.t side)) (Some (told.Answer (signal_out v o)))).own
       → after site (Some f) had (react site (Some f) had at.Signals (Inside (SignalFront site.t side)) (Some (told.Answer (signal_out v o))))
       ≡ after_section site.setup site.c (from site (Some f) had Signals) (answer_view (told.Answer (signal_out v o)))
   signal side v None known =
-      runs_on site (Some f) had None site.ready None (at_stage at.SignalsOwn (talk site (Some f) had at.Signals)) None
+      runs_on site (Some f) had None site.ready None (at_stage at.SignalsOwn (call_state site (Some f) had at.Signals)) None
       ∙ sym (by_table site (Some f) had Signals (answer_view (told.Answer (signal_out v None))) (k site (Some f) had SignalsOwn) site.trace refl
       ∙ stays_so site (Some f) had (k site (Some f) had SignalsOwn) site.ready site.trace (λ p. refl))
   signal side v (Some u) known =
@@ -297,14 +298,14 @@ module _ (site : Site) (f : Effect) (had : HasHad site (Some f)) where
 
   pub signals_plan : plan_to at.Signals ≡ fresh site (Some f) had at.Signals (Inside (SignalFront site.t (other_side site.call)))
   signals_plan =
-      ap (raised (left_heard site.t site.call (talk site (Some f) had at.Signals) site.talks at.Signals))
+      ap (raised (left_recorded site.t site.call (call_state site (Some f) had at.Signals) site.call_states at.Signals))
       (beneath_is site (Some f) had (Inside (SignalFront site.t (other_side site.call))) site.is_waits site.is_slept)
 
   pub signals_line : IsLine site.setup site.c (from site (Some f) had Signals) (plan_to at.Signals) (after site (Some f) had)
   signals_line =
       line site (Some f) had at.Signals (Inside (SignalFront site.t (other_side site.call))) Signals (plan_to at.Signals)
       signals_plan
-      (signal_name site.t site.call site.position f) (runs_on site (Some f) had None site.ready None (talk site (Some f) had at.Signals) None)
+      (signal_name site.t site.call site.position f) (runs_on site (Some f) had None site.ready None (call_state site (Some f) had at.Signals) None)
       (λ x known. signal (other_side site.call) _ _ known)
 
   own_signal_by : (v : CvOut BufferOut) (u : Tid) (b : Bool)
@@ -312,16 +313,16 @@ module _ (site : Site) (f : Effect) (had : HasHad site (Some f)) where
       ≡ settled site.setup (if b then stands site (Some f) had (site.ready ++ u ∷ []) None (k site (Some f) had Releases) site.trace
       else stands site (Some f) had site.ready (Some u) (k site (Some f) had Releases) site.trace)
   own_signal_by v u true =
-      runs_on site (Some f) had None (site.ready ++ u ∷ []) None (at_stage at.Releases (talk site (Some f) had at.SignalsOwn)) None
+      runs_on site (Some f) had None (site.ready ++ u ∷ []) None (at_stage at.Releases (call_state site (Some f) had at.SignalsOwn)) None
       ∙ sym (stays_so site (Some f) had (k site (Some f) had Releases) (site.ready ++ u ∷ []) site.trace (λ p. refl))
-  own_signal_by v u false = runs_on site (Some f) had (Some u) site.ready (Some (signal_out v (Some u))) (talk site (Some f) had at.SignalsOwn) None
+  own_signal_by v u false = runs_on site (Some f) had (Some u) site.ready (Some (signal_out v (Some u))) (call_state site (Some f) had at.SignalsOwn) None
 
   own_signal : (side : Side) (v : CvOut BufferOut) (o : Option Tid)
       → HandIsKnown site.setup (react site (Some f) had at.SignalsOwn (Inside (SignalFront site.t side)) (Some (told.Answer (signal_out v o)))).own
       → after site (Some f) had (react site (Some f) had at.SignalsOwn (Inside (SignalFront site.t side)) (Some (told.Answer (signal_out v o))))
       ≡ after_section site.setup site.c (from site (Some f) had SignalsOwn) (answer_view (told.Answer (signal_out v o)))
   own_signal side v None known =
-      runs_on site (Some f) had None site.ready None (at_stage at.Releases (talk site (Some f) had at.SignalsOwn)) None
+      runs_on site (Some f) had None site.ready None (at_stage at.Releases (call_state site (Some f) had at.SignalsOwn)) None
       ∙ sym (by_table site (Some f) had SignalsOwn (answer_view (told.Answer (signal_out v None))) (k site (Some f) had Releases) site.trace refl
       ∙ stays_so site (Some f) had (k site (Some f) had Releases) site.ready site.trace (λ p. refl))
   own_signal side v (Some u) known =
@@ -333,23 +334,23 @@ module _ (site : Site) (f : Effect) (had : HasHad site (Some f)) where
 
   pub own_signals_plan : plan_to at.SignalsOwn ≡ fresh site (Some f) had at.SignalsOwn (Inside (SignalFront site.t (tower_side site.call)))
   own_signals_plan =
-      ap (raised (left_heard site.t site.call (talk site (Some f) had at.SignalsOwn) site.talks at.SignalsOwn))
+      ap (raised (left_recorded site.t site.call (call_state site (Some f) had at.SignalsOwn) site.call_states at.SignalsOwn))
       (beneath_is site (Some f) had (Inside (SignalFront site.t (tower_side site.call))) site.is_waits site.is_slept)
 
   pub own_signals_line : IsLine site.setup site.c (from site (Some f) had SignalsOwn) (plan_to at.SignalsOwn) (after site (Some f) had)
   own_signals_line =
       line site (Some f) had at.SignalsOwn (Inside (SignalFront site.t (tower_side site.call))) SignalsOwn (plan_to at.SignalsOwn)
       own_signals_plan
-      (own_signal_name site.t site.call site.position f) (runs_on site (Some f) had None site.ready None (talk site (Some f) had at.SignalsOwn) None)
+      (own_signal_name site.t site.call site.position f) (runs_on site (Some f) had None site.ready None (call_state site (Some f) had at.SignalsOwn) None)
       (λ x known. own_signal (tower_side site.call) _ _ known)
 
   -- it releases the lock, and its call returns
-  abbrev pub over : Talk
-  over = record { stage = at.Between; call = None; position = site.position; effect = Some f }
+  abbrev pub over : CallState
+  over = record { stage = at.Idle; call = None; position = site.position; effect = Some f }
 
   returned_so : (ready2 : List Tid)
       → after site (Some f) had (record {
-        own = own_at (Some site.t) None ready2 site.ended None site.slept site.waits (slice_set site.talks site.t.0 over);
+        own = own_at (Some site.t) None ready2 site.ended None site.slept site.waits (slice_set site.call_states site.t.0 over);
         answer = Some (reply_of site.call f);
       })
       ≡ settled site.setup (stands site (Some f) had ready2 None (k site (Some f) had Returns) site.trace)
@@ -365,7 +366,7 @@ module _ (site : Site) (f : Effect) (had : HasHad site (Some f)) where
       ≡ settled site.setup (if b then stands site (Some f) had (site.ready ++ u ∷ []) None (k site (Some f) had Returns) site.trace
       else stands site (Some f) had site.ready (Some u) (k site (Some f) had Returns) site.trace)
   release_by u true = returned_so (site.ready ++ u ∷ [])
-  release_by u false = runs_on site (Some f) had (Some u) site.ready (Some (left_out (Some u))) (talk site (Some f) had at.Releases) None
+  release_by u false = runs_on site (Some f) had (Some u) site.ready (Some (left_out (Some u))) (call_state site (Some f) had at.Releases) None
 
   release : (o : Option Tid)
       → HandIsKnown site.setup (react site (Some f) had at.Releases (Release (Leave site.t)) (Some (told.Answer (left_out o)))).own
@@ -383,12 +384,12 @@ module _ (site : Site) (f : Effect) (had : HasHad site (Some f)) where
 
   pub releases_plan : plan_to at.Releases ≡ fresh site (Some f) had at.Releases (Release (Leave site.t))
   releases_plan =
-      ap (raised (left_heard site.t site.call (talk site (Some f) had at.Releases) site.talks at.Releases))
+      ap (raised (left_recorded site.t site.call (call_state site (Some f) had at.Releases) site.call_states at.Releases))
       (beneath_is site (Some f) had (Release (Leave site.t)) site.is_waits site.is_slept)
 
   pub releases_line : IsLine site.setup site.c (from site (Some f) had Releases) (plan_to at.Releases) (after site (Some f) had)
   releases_line =
       line site (Some f) had at.Releases (Release (Leave site.t)) Releases (plan_to at.Releases)
       releases_plan
-      refl (runs_on site (Some f) had None site.ready None (talk site (Some f) had at.Releases) None)
+      refl (runs_on site (Some f) had None site.ready None (call_state site (Some f) had at.Releases) None)
       (λ x known. release (first x.sleepers) known)

@@ -31,13 +31,13 @@ use Rattle.layer_traits.specs.declared.buffer_edits.BufferOut.TheVariants.{Enter
 use Rattle.layer_traits.specs.declared.queue_edits.QueueBlock.TheVariants as block
 use Rattle.layer_traits.specs.declared.queue_edits.QueueEdit.TheVariants as queue
 use Rattle.layer_traits.specs.declared.queues.QueueAnswer.TheVariants as told
-use Rattle.layer_traits.specs.declared.talks.Stage.{Stage}
-use Rattle.layer_traits.specs.declared.talks.Talk.{Talk}
-use Rattle.layer_traits.specs.BufferBlocks.{BufferState, buffer_answer, editor, is_next}
+use Rattle.layer_traits.specs.declared.call_states.Stage.{Stage}
+use Rattle.layer_traits.specs.declared.call_states.CallState.{CallState}
+use Rattle.layer_traits.specs.BufferBlocks.{BufferState, buffer_answer, thread_of_edit, is_next}
 use Rattle.layer_traits.specs.BufferProtocol.{buffer_rules}
-use Rattle.layer_traits.specs.BufferLaw.{BufferPlan, Buffering, buffer_of, entry_of, first_of, going, left_heard, other_side, quiet, reply_by, reply_of}
+use Rattle.layer_traits.specs.BufferLaw.{BufferPlan, Buffering, buffer_of, entry_of, first_of, going, left_recorded, other_side, no_call, reply_by, reply_of}
 use Rattle.layer_traits.specs.BufferLaw.{side_of as tower_side}
-use Rattle.layer_traits.specs.BufferLaw.{talk_of, try_of}
+use Rattle.layer_traits.specs.BufferLaw.{call_state_of, try_of}
 use Rattle.layer_traits.specs.Conditions.{CvCall}
 use Rattle.layer_traits.specs.CvLaw.{Waiting, cv_plan, cv_plan_for, left_waiting}
 use Rattle.layer_traits.specs.LockLaw.{Locking, left_after, plan_for, slept_for}
@@ -47,25 +47,25 @@ use Rattle.layer_traits.specs.Plans.{Left, Plan, Now, Act, raised}
 use Rattle.layer_traits.specs.SleepLaw.{Sleeping, left_done, sleep_plan}
 use Rattle.layer_traits.specs.Passes.{or_else}
 use Rattle.cpu.specs.Guests.{after_answer}
-use Rattle.cpu.specs.Table.Blocks.{Answer, DidShut, Told, effect_of}
+use Rattle.cpu.specs.Table.Blocks.{Answer, DidShut, Reported, effect_of}
 use Rattle.cpu.specs.Table.Setups.{Enters, Tries, Waits, Signals, SignalsOwn, Returns, CallStage, Call, Thread, Private, home_of, program_of, thread_at}
-use Rattle.cpu.specs.Table.Choice.{after_section, at_buffer, first_section, guest_after, heard, heard_entry, heard_position, heard_try, returned_at}
+use Rattle.cpu.specs.Table.Choice.{after_section, at_buffer, first_section, guest_after, recorded, recorded_entry, recorded_position, recorded_try, returned_at}
 use Rattle.cpu.specs.Table.Choice.{section_at}
 use Rattle.cpu.specs.Table.Choice.{settled, slept_if, with_call as call_put, woken}
-use Rattle.cpu.specs.Tower.Views.{TowerAnswer, TowerBlock, TowerName, TowerOut, answer_view, name_of, told_of, tower}
+use Rattle.cpu.specs.Tower.Views.{TowerAnswer, TowerBlock, TowerName, TowerOut, answer_view, name_of, report_of, tower}
 use Rattle.cpu.specs.Tower.Privates.{asks_in, call_from, closed_by, guest_at, guests_after, message_of, private_after, private_of}
 use Rattle.cpu.specs.Tower.Privates.{thread_from, trace_after}
 use Rattle.cpu.specs.Tower.Composed.{HandIsKnown, IsKind, IsLine, IsLined}
 use Rattle.cpu.proofs.Tower.Callers.{Site}
 use Rattle.cpu.proofs.Tower.Numbered.{goes, gone, numbered_long, own_at, part_at, parts, threads_at}
-use Rattle.cpu.proofs.Tower.Settled.{asks_for, calling, done_with, from_t, goes_on, heard_is, put, returns}
+use Rattle.cpu.proofs.Tower.Settled.{asks_for, calling, done_with, from_t, goes_on, recorded_is, put, returns}
 
 -- What a call's sections are, by what it asks.
 
-pub first_editor : (t : Tid) (call : TowerCall) → editor (first_of t call) ≡ t
-first_editor t (Send b m) = refl
-first_editor t (Recv b) = refl
-first_editor t (Close b) = refl
+pub thread_of_first : (t : Tid) (call : TowerCall) → thread_of_edit (first_of t call) ≡ t
+thread_of_first t (Send b m) = refl
+thread_of_first t (Recv b) = refl
+thread_of_first t (Close b) = refl
 
 pub first_name : (t : Tid) (call : TowerCall) → first_section t (asks_in call) ≡ name_of (queue.Above (Inside (Edit (first_of t call))))
 first_name t (Send b m) = refl
@@ -95,10 +95,10 @@ first_answer t (Send b m) x = inl (record { lined = tt; pos = x.sends; is = refl
 first_answer t (Recv b) x = inl (record { lined = tt; pos = x.receives; is = refl })
 first_answer t (Close b) x = inr (record { shuts = tt; op = x.effects; pos = x.closes; is = refl })
 
-pub try_editor : (t : Tid) (call : TowerCall) → editor (try_of t call) ≡ t
-try_editor t (Send b m) = refl
-try_editor t (Recv b) = refl
-try_editor t (Close b) = refl
+pub thread_of_try : (t : Tid) (call : TowerCall) → thread_of_edit (try_of t call) ≡ t
+thread_of_try t (Send b m) = refl
+thread_of_try t (Recv b) = refl
+thread_of_try t (Close b) = refl
 
 pub try_name : (t : Tid) (call : TowerCall) (position : ℕ) → IsLined call
     → section_at t (call_from call position None Tries) Tries ≡ name_of (queue.Above (Inside (Edit (try_of t call))))
@@ -188,33 +188,33 @@ effect_by call closed op m pos = record { kind = effect_of (asks_in call) closed
 abbrev pub shut_effect : (op pos : ℕ) → Effect
 shut_effect op pos = record { kind = kind.Close; value = no_message; op = op; pos = pos }
 
-pub entry_heard : (c : CpuId) (p : Private) (t : Tid) (k : Call) (call : TowerCall) (told : Told) → IsLined call
-    → heard_entry c p t k (asks_in call) told ≡ heard_position p t k told
-entry_heard c p t k (Send b m) told lined = refl
-entry_heard c p t k (Recv b) told lined = refl
-entry_heard c p t k (Close b) told lined = absurd lined
+pub entry_recorded : (c : CpuId) (p : Private) (t : Tid) (k : Call) (call : TowerCall) (told : Reported) → IsLined call
+    → recorded_entry c p t k (asks_in call) told ≡ recorded_position p t k told
+entry_recorded c p t k (Send b m) told lined = refl
+entry_recorded c p t k (Recv b) told lined = refl
+entry_recorded c p t k (Close b) told lined = absurd lined
 
-pub shut_heard : (c : CpuId) (p : Private) (t : Tid) (call : TowerCall) (position op pos : ℕ) → IsShutting call
-    → heard_entry c p t (call_from call position None Enters) (asks_in call) (DidShut op pos)
+pub shut_recorded : (c : CpuId) (p : Private) (t : Tid) (call : TowerCall) (position op pos : ℕ) → IsShutting call
+    → recorded_entry c p t (call_from call position None Enters) (asks_in call) (DidShut op pos)
     ≡ effected_so p t (call_from call position (Some (shut_effect op pos)) Signals) (entry_of c t (buffer_of call) (shut_effect op pos))
-shut_heard c p t (Send b m) position op pos shuts = absurd shuts
-shut_heard c p t (Recv b) position op pos shuts = absurd shuts
-shut_heard c p t (Close b) position op pos shuts = refl
+shut_recorded c p t (Send b m) position op pos shuts = absurd shuts
+shut_recorded c p t (Recv b) position op pos shuts = absurd shuts
+shut_recorded c p t (Close b) position op pos shuts = refl
 
-pub try_heard : (c : CpuId) (p : Private) (t : Tid) (call : TowerCall) (position op : ℕ) (closed : Bool) (m : Message) → IsLined call
+pub try_recorded : (c : CpuId) (p : Private) (t : Tid) (call : TowerCall) (position op : ℕ) (closed : Bool) (m : Message) → IsLined call
     → (closed ≡ true → m ≡ message_of call None)
-    → heard_try c p t (call_from call position None Tries) (told_of (effect_of (asks_in call) closed) op m)
+    → recorded_try c p t (call_from call position None Tries) (report_of (effect_of (asks_in call) closed) op m)
     ≡ effected_so p t (call_from call position (Some (effect_by call closed op m position)) Signals)
     (entry_of c t (buffer_of call) (effect_by call closed op m position))
-try_heard c p t (Send b n) position op false m lined same = refl
-try_heard c p t (Send b n) position op true m lined same =
+try_recorded c p t (Send b n) position op false m lined same = refl
+try_recorded c p t (Send b n) position op true m lined same =
     ap (λ x. effected_so p t (call_from (Send b n) position (Some (effect_by (Send b n) true op x position)) Signals)
     (entry_of c t b (effect_by (Send b n) true op x position))) (sym (same refl))
-try_heard c p t (Recv b) position op false m lined same = refl
-try_heard c p t (Recv b) position op true m lined same =
+try_recorded c p t (Recv b) position op false m lined same = refl
+try_recorded c p t (Recv b) position op true m lined same =
     ap (λ x. effected_so p t (call_from (Recv b) position (Some (effect_by (Recv b) true op x position)) Signals)
     (entry_of c t b (effect_by (Recv b) true op x position))) (sym (same refl))
-try_heard c p t (Close b) position op closed m lined same = absurd lined
+try_recorded c p t (Close b) position op closed m lined same = absurd lined
 
 -- whether a woken thread is at home here: the table and the layers test the same, where it has a home
 same_home : (c : CpuId) (o : Option CpuId) → (is_cpu c o ≡ false → IsSome o) → is_cpu c o ≡ same_cpu (or_else (record { 0 = 0 }) o) c
@@ -227,7 +227,7 @@ react_in (Act lock name react) = react
 
 -- the effect that the call has had
 abbrev pub HasHad : Site → Option Effect → Type 0
-HasHad site effect = (going (talk_of site.talks site.t) site.call).effect ≡ effect
+HasHad site effect = (going (call_state_of site.call_states site.t) site.call).effect ≡ effect
 
 module _ (site : Site) (effect : Option Effect) (is_effect : HasHad site effect) where
   abbrev pub own : Buffering
@@ -248,8 +248,8 @@ module _ (site : Site) (effect : Option Effect) (is_effect : HasHad site effect)
   abbrev pub buf : BufId
   buf = buffer_of site.call
 
-  abbrev pub talk : Stage → Talk
-  talk stage = record { stage = stage; call = Some site.call; position = site.position; effect = effect }
+  abbrev pub call_state : Stage → CallState
+  call_state stage = record { stage = stage; call = Some site.call; position = site.position; effect = effect }
 
   abbrev pub k : CallStage → Call
   k stage = call_from site.call site.position effect stage
@@ -270,33 +270,35 @@ module _ (site : Site) (effect : Option Effect) (is_effect : HasHad site effect)
   guests_by (Some reply) = refl
 
   -- what a poll leaves after which thread t runs on
-  pub runs_on : (hand2 : Option Tid) (ready2 : List Tid) (kept2 : Option TowerOut) (talk2 : Talk) (answer : Option Reply)
+  pub runs_on : (hand2 : Option Tid) (ready2 : List Tid) (deferred2 : Option TowerOut) (talk2 : CallState) (answer : Option Reply)
       → after (record {
-        own = own_at (Some site.t) hand2 ready2 site.ended kept2 site.slept site.waits (slice_set site.talks site.t.0 talk2);
+        own = own_at (Some site.t) hand2 ready2 site.ended deferred2 site.slept site.waits (slice_set site.call_states site.t.0 talk2);
         answer = answer;
       })
-      ≡ parts (Some site.t) ready2 hand2 (slice_set threads site.t.0 (thread_from talk2 None None (is_some kept2) e (guest_by answer)))
+      ≡ parts (Some site.t) ready2 hand2 (slice_set threads site.t.0 (thread_from talk2 None None (is_some deferred2) e (guest_by answer)))
       (trace_after site.c site.t buf effect talk2.effect site.trace)
-  runs_on hand2 ready2 kept2 talk2 answer =
-      (λ i. private_of (own_at (Some site.t) hand2 ready2 site.ended kept2 site.slept site.waits (slice_set site.talks site.t.0 talk2)) (guests_by answer i)
-      (trace_after site.c site.t buf (is_effect i) (get_or-set_same site.talks site.t.0 talk2 quiet site.in_talks i).effect site.trace))
-      ∙ goes site.runner None None hand2 ready2 kept2 talk2 (guest_by answer)
+  runs_on hand2 ready2 deferred2 talk2 answer =
+      (λ i. private_of (own_at (Some site.t) hand2 ready2 site.ended deferred2 site.slept site.waits (slice_set site.call_states site.t.0 talk2))
+      (guests_by answer i)
+      (trace_after site.c site.t buf (is_effect i) (get_or-set_same site.call_states site.t.0 talk2 no_call site.in_call_states i).effect site.trace))
+      ∙ goes site.runner None None hand2 ready2 deferred2 talk2 (guest_by answer)
       (trace_after site.c site.t buf effect talk2.effect site.trace) None None site.is_slept site.is_waits
 
   -- what a poll leaves after which thread t sleeps for the lock, or waits
   pub sleeps_now : (stage : Stage) → after (record {
     own = own_at None None site.ready site.ended None
-        (slice_set site.slept site.t.0 (Some buf)) site.waits (slice_set site.talks site.t.0 (talk stage));
+        (slice_set site.slept site.t.0 (Some buf)) site.waits (slice_set site.call_states site.t.0 (call_state stage));
     answer = None;
   })
-      ≡ parts None site.ready None (slice_set threads site.t.0 (thread_from (talk stage) (Some buf) None false e g))
+      ≡ parts None site.ready None (slice_set threads site.t.0 (thread_from (call_state stage) (Some buf) None false e g))
       (trace_after site.c site.t buf effect effect site.trace)
   sleeps_now stage =
       (λ i. private_of (own_at None None site.ready site.ended None (slice_set site.slept site.t.0 (Some buf)) site.waits
-      (slice_set site.talks site.t.0 (talk stage))) (guests_by None i)
-      (trace_after site.c site.t buf (is_effect i) (get_or-set_same site.talks site.t.0 (talk stage) quiet site.in_talks i).effect site.trace))
+      (slice_set site.call_states site.t.0 (call_state stage))) (guests_by None i)
+      (trace_after site.c site.t buf (is_effect i) (get_or-set_same site.call_states site.t.0
+      (call_state stage) no_call site.in_call_states i).effect site.trace))
       ∙ gone site.runner None None None site.ready
-      (slice_set site.slept site.t.0 (Some buf)) site.waits (talk stage) g
+      (slice_set site.slept site.t.0 (Some buf)) site.waits (call_state stage) g
       (trace_after site.c site.t buf effect effect site.trace) (Some buf) None (λ j other. get_or-set_other site.slept site.t.0 j (Some buf) None other)
       (λ j other. refl)
       (get_or-set_same site.slept site.t.0 (Some buf) None site.in_slept) site.is_waits
@@ -304,17 +306,18 @@ module _ (site : Site) (effect : Option Effect) (is_effect : HasHad site effect)
   pub waits_now : (hand2 : Option Tid) (ready2 : List Tid) (stage : Stage)
       → after (record {
         own = own_at None hand2 ready2 site.ended None site.slept (slice_set site.waits site.t.0 (Some buf))
-            (slice_set site.talks site.t.0 (talk stage));
+            (slice_set site.call_states site.t.0 (call_state stage));
         answer = None;
       })
-      ≡ parts None ready2 hand2 (slice_set threads site.t.0 (thread_from (talk stage) None (Some buf) false e g))
+      ≡ parts None ready2 hand2 (slice_set threads site.t.0 (thread_from (call_state stage) None (Some buf) false e g))
       (trace_after site.c site.t buf effect effect site.trace)
   waits_now hand2 ready2 stage =
       (λ i. private_of (own_at None hand2 ready2 site.ended None site.slept (slice_set site.waits site.t.0 (Some buf))
-      (slice_set site.talks site.t.0 (talk stage))) (guests_by None i)
-      (trace_after site.c site.t buf (is_effect i) (get_or-set_same site.talks site.t.0 (talk stage) quiet site.in_talks i).effect site.trace))
+      (slice_set site.call_states site.t.0 (call_state stage))) (guests_by None i)
+      (trace_after site.c site.t buf (is_effect i) (get_or-set_same site.call_states site.t.0
+      (call_state stage) no_call site.in_call_states i).effect site.trace))
       ∙ gone site.runner None None hand2 ready2 site.slept
-      (slice_set site.waits site.t.0 (Some buf)) (talk stage) g
+      (slice_set site.waits site.t.0 (Some buf)) (call_state stage) g
       (trace_after site.c site.t buf effect effect site.trace) None (Some buf) (λ j other. refl)
       (λ j other. get_or-set_other site.waits site.t.0 j (Some buf) None other)
       site.is_slept (get_or-set_same site.waits site.t.0 (Some buf) None site.in_waits)
@@ -337,7 +340,7 @@ module _ (site : Site) (effect : Option Effect) (is_effect : HasHad site effect)
       (plan_for (lock_moves buffer_rules) site.setup.homes site.c buf s own.cv.lock o)) n
 
   abbrev pub fresh : Stage → CvCall BufferEdit → BufferPlan Reply
-  fresh stage s = raised (left_heard site.t site.call (talk stage) site.talks stage) (beneath s)
+  fresh stage s = raised (left_recorded site.t site.call (call_state stage) site.call_states stage) (beneath s)
 
   abbrev pub react : Stage → CvCall BufferEdit → Option TowerAnswer → Left Buffering Reply
   react stage s = react_in (fresh stage s)
@@ -373,7 +376,7 @@ module _ (site : Site) (effect : Option Effect) (is_effect : HasHad site effect)
 
   -- what the part leaves after a section with this outcome, where the threads are now these
   abbrev pub lift : Stage → TowerOut → Threads → Left Buffering Reply
-  lift stage outcome own2 = left_heard site.t site.call (talk stage) site.talks stage (waiting (locked (left_done outcome own2)))
+  lift stage outcome own2 = left_recorded site.t site.call (call_state stage) site.call_states stage (waiting (locked (left_done outcome own2)))
 
   -- with a thread woken that is at home here, or is not
   abbrev pub waking : Option Tid → Tid → Bool → Threads
@@ -404,10 +407,10 @@ module _ (site : Site) (effect : Option Effect) (is_effect : HasHad site effect)
   putting now next trace2 x = put site.setup site.c site.ready threads site.trace site.t g e within now next trace2 x
 
   pub by_table : (stage : CallStage) (a : Answer) (next : Call) (trace2 : List Entry)
-      → heard site.c (from stage) site.t (k stage) (k stage).stage a.told ≡ putting (k stage) next trace2 (thread_at (from stage) site.t)
+      → recorded site.c (from stage) site.t (k stage) (k stage).stage a.told ≡ putting (k stage) next trace2 (thread_at (from stage) site.t)
       → after_section site.setup site.c (from stage) a
       ≡ settled site.setup (woken site.setup site.c a.woke (slept_if a.slept (stands site.ready None next trace2)))
-  by_table stage a next trace2 is = heard_is site.setup site.c site.ready threads site.trace site.t g e within (k stage) a next trace2 is
+  by_table stage a next trace2 is = recorded_is site.setup site.c site.ready threads site.trace site.t g e within (k stage) a next trace2 is
 
   pub stays_so : (next : Call) (ready2 : List Tid) (trace2 : List Entry) → ((p : Private) → returned_at site.setup p site.t next next.stage ≡ p)
       → settled site.setup (stands ready2 None next trace2) ≡ stands ready2 None next trace2

@@ -9,10 +9,10 @@ use Rattle.event_log.specs.declared.ids.Tid.{Tid}
 use Rattle.guest.specs.State.{State}
 use Rattle.thread_blocks.specs.Queues.{is_in}
 use Rattle.thread_blocks.proofs.Members.{same_tid_self}
-use Rattle.layer_traits.specs.declared.talks.Talk.{Talk}
+use Rattle.layer_traits.specs.declared.call_states.CallState.{CallState}
 use Rattle.layer_traits.specs.LockLaw.{slept_for}
 use Rattle.layer_traits.specs.Places.{is_thread}
-use Rattle.layer_traits.specs.BufferLaw.{Buffering, quiet}
+use Rattle.layer_traits.specs.BufferLaw.{Buffering, no_call}
 use Rattle.cpu.specs.Table.Setups.{Private, Thread}
 use Rattle.cpu.specs.Tower.Views.{TowerOut}
 use Rattle.cpu.specs.Tower.Privates.{numbered, private_of, thread_from, thread_of, tid}
@@ -56,17 +56,18 @@ numbered_changed f g n (suc k) m (x ∷ guests) s is other within =
     λ i. here i ∷ more i
 
 -- a part's own state by its pieces
-abbrev pub own_at : (current hand : Option Tid) (ready ended : List Tid) (kept : Option TowerOut) (slept waits : List (Option BufId)) (talks : List Talk)
+abbrev pub own_at : (current hand : Option Tid) (ready ended : List Tid) (deferred : Option TowerOut) (slept waits : List (Option BufId))
+    (call_states : List CallState)
     → Buffering
-own_at current hand ready ended kept slept waits talks = record {
+own_at current hand ready ended deferred slept waits call_states = record {
   cv = record {
     lock = record {
-      sleep = record { threads = record { current = current; hand = hand; ready = ready; ended = ended }; kept = kept };
+      sleep = record { threads = record { current = current; hand = hand; ready = ready; ended = ended }; deferred = deferred };
       slept = slept;
     };
     waits = waits;
   };
-  talks = talks;
+  call_states = call_states;
 }
 
 -- a private state by its parts
@@ -77,51 +78,52 @@ abbrev pub threads_at : Buffering → List State → List Thread
 threads_at own guests = numbered (λ n. thread_of own (tid n)) 0 guests
 
 -- the part of a thread that runs
-abbrev pub part_at : Runner → (hand : Option Tid) (kept : Option TowerOut) → Buffering
-part_at runner hand kept = own_at (Some runner.t) hand runner.ready runner.ended kept runner.slept runner.waits runner.talks
+abbrev pub part_at : Runner → (hand : Option Tid) (deferred : Option TowerOut) → Buffering
+part_at runner hand deferred = own_at (Some runner.t) hand runner.ready runner.ended deferred runner.slept runner.waits runner.call_states
 
-module _ (runner : Runner) (hand : Option Tid) (kept : Option TowerOut) where
-  open runner use {t, ended, slept, waits, talks, guests, in_guests, in_talks}
+module _ (runner : Runner) (hand : Option Tid) (deferred : Option TowerOut) where
+  open runner use {t, ended, slept, waits, call_states, guests, in_guests, in_call_states}
 
   abbrev before : Buffering
-  before = part_at runner hand kept
+  before = part_at runner hand deferred
 
-  -- thread t runs or nobody does: its talk, guest and where it sleeps or waits changed
-  pub changed : (current2 hand2 : Option Tid) (ready2 : List Tid) (kept2 : Option TowerOut) (slept2 waits2 : List (Option BufId)) (talk : Talk)
+  -- thread t runs or nobody does: its call state, guest and where it sleeps or waits changed
+  pub changed : (current2 hand2 : Option Tid) (ready2 : List Tid) (deferred2 : Option TowerOut) (slept2 waits2 : List (Option BufId)) (call_state : CallState)
       (guest : State)
       (trace : List Entry) (s w : Option BufId) (k : Bool)
-      → ((j : ℕ) → j ≢ t.0 → (is_thread (tid j) current2 && is_some kept2) ≡ false)
+      → ((j : ℕ) → j ≢ t.0 → (is_thread (tid j) current2 && is_some deferred2) ≡ false)
       → ((j : ℕ) → j ≢ t.0 → slept_for slept2 (tid j) ≡ slept_for slept (tid j))
       → ((j : ℕ) → j ≢ t.0 → slept_for waits2 (tid j) ≡ slept_for waits (tid j))
-      → slept_for slept2 t ≡ s → slept_for waits2 t ≡ w → (is_thread t current2 && is_some kept2) ≡ k
-      → private_of (own_at current2 hand2 ready2 ended kept2 slept2 waits2 (slice_set talks t.0 talk)) (slice_set guests t.0 guest) trace
-      ≡ parts current2 ready2 hand2 (slice_set (threads_at before guests) t.0 (thread_from talk s w k (is_in t ended) guest)) trace
-  changed current2 hand2 ready2 kept2 slept2 waits2 talk guest trace s w k none slept_same waits_same is_s is_w is_k =
-      let after : Buffering = own_at current2 hand2 ready2 ended kept2 slept2 waits2 (slice_set talks t.0 talk) in
+      → slept_for slept2 t ≡ s → slept_for waits2 t ≡ w → (is_thread t current2 && is_some deferred2) ≡ k
+      → private_of (own_at current2 hand2 ready2 ended deferred2 slept2 waits2 (slice_set call_states t.0 call_state)) (slice_set guests t.0 guest) trace
+      ≡ parts current2 ready2 hand2 (slice_set (threads_at before guests) t.0 (thread_from call_state s w k (is_in t ended) guest)) trace
+  changed current2 hand2 ready2 deferred2 slept2 waits2 call_state guest trace s w k none slept_same waits_same is_s is_w is_k =
+      let after : Buffering = own_at current2 hand2 ready2 ended deferred2 slept2 waits2 (slice_set call_states t.0 call_state) in
       let zero_plus : t.0 ≡ 0 + t.0 = omega arith in
       ap (λ l. parts current2 ready2 hand2 l trace)
       (numbered_changed (λ n. thread_of before (tid n)) (λ n. thread_of after (tid n)) 0 t.0 t.0 guests guest zero_plus
-      (λ j x other. λ i. thread_from (get_or-set_other talks t.0 j talk quiet other i) (slept_same j other i) (waits_same j other i)
-      ((none j other ∙ sym (ap (λ b. b && is_some kept) (ne_eqb t.0 j (λ e. other (sym e))))) i) (is_in (tid j) ended) x) in_guests
+      (λ j x other. λ i. thread_from (get_or-set_other call_states t.0 j call_state no_call other i) (slept_same j other i) (waits_same j other i)
+      ((none j other ∙ sym (ap (λ b. b && is_some deferred) (ne_eqb t.0 j (λ e. other (sym e))))) i) (is_in (tid j) ended) x) in_guests
       ∙ ap (λ x. slice_set (threads_at before guests) t.0 x)
-      (λ i. thread_from (get_or-set_same talks t.0 talk quiet in_talks i) (is_s i) (is_w i) (is_k i) (is_in t ended) guest))
+      (λ i. thread_from (get_or-set_same call_states t.0 call_state no_call in_call_states i) (is_s i) (is_w i) (is_k i) (is_in t ended) guest))
 
   -- thread t runs on
-  pub goes : (hand2 : Option Tid) (ready2 : List Tid) (kept2 : Option TowerOut) (talk : Talk) (guest : State) (trace : List Entry) (s w : Option BufId)
+  pub goes : (hand2 : Option Tid) (ready2 : List Tid) (deferred2 : Option TowerOut) (call_state : CallState) (guest : State) (trace : List Entry)
+      (s w : Option BufId)
       → slept_for slept t ≡ s → slept_for waits t ≡ w
-      → private_of (own_at (Some t) hand2 ready2 ended kept2 slept waits (slice_set talks t.0 talk)) (slice_set guests t.0 guest) trace
-      ≡ parts (Some t) ready2 hand2 (slice_set (threads_at before guests) t.0 (thread_from talk s w (is_some kept2) (is_in t ended) guest)) trace
-  goes hand2 ready2 kept2 talk guest trace s w is_s is_w =
-      changed (Some t) hand2 ready2 kept2 slept waits talk guest trace s w (is_some kept2)
-      (λ j other. ap (λ b. b && is_some kept2) (ne_eqb t.0 j (λ e. other (sym e)))) (λ j other. refl) (λ j other. refl) is_s is_w
-      (ap (λ b. b && is_some kept2) (same_tid_self t))
+      → private_of (own_at (Some t) hand2 ready2 ended deferred2 slept waits (slice_set call_states t.0 call_state)) (slice_set guests t.0 guest) trace
+      ≡ parts (Some t) ready2 hand2 (slice_set (threads_at before guests) t.0 (thread_from call_state s w (is_some deferred2) (is_in t ended) guest)) trace
+  goes hand2 ready2 deferred2 call_state guest trace s w is_s is_w =
+      changed (Some t) hand2 ready2 deferred2 slept waits call_state guest trace s w (is_some deferred2)
+      (λ j other. ap (λ b. b && is_some deferred2) (ne_eqb t.0 j (λ e. other (sym e)))) (λ j other. refl) (λ j other. refl) is_s is_w
+      (ap (λ b. b && is_some deferred2) (same_tid_self t))
 
   -- thread t sleeps or waits
-  pub gone : (hand2 : Option Tid) (ready2 : List Tid) (slept2 waits2 : List (Option BufId)) (talk : Talk) (guest : State) (trace : List Entry)
+  pub gone : (hand2 : Option Tid) (ready2 : List Tid) (slept2 waits2 : List (Option BufId)) (call_state : CallState) (guest : State) (trace : List Entry)
       (s w : Option BufId)
       → ((j : ℕ) → j ≢ t.0 → slept_for slept2 (tid j) ≡ slept_for slept (tid j))
       → ((j : ℕ) → j ≢ t.0 → slept_for waits2 (tid j) ≡ slept_for waits (tid j)) → slept_for slept2 t ≡ s → slept_for waits2 t ≡ w
-      → private_of (own_at None hand2 ready2 ended None slept2 waits2 (slice_set talks t.0 talk)) (slice_set guests t.0 guest) trace
-      ≡ parts None ready2 hand2 (slice_set (threads_at before guests) t.0 (thread_from talk s w false (is_in t ended) guest)) trace
-  gone hand2 ready2 slept2 waits2 talk guest trace s w slept_same waits_same is_s is_w =
-      changed None hand2 ready2 None slept2 waits2 talk guest trace s w false (λ j other. refl) slept_same waits_same is_s is_w refl
+      → private_of (own_at None hand2 ready2 ended None slept2 waits2 (slice_set call_states t.0 call_state)) (slice_set guests t.0 guest) trace
+      ≡ parts None ready2 hand2 (slice_set (threads_at before guests) t.0 (thread_from call_state s w false (is_in t ended) guest)) trace
+  gone hand2 ready2 slept2 waits2 call_state guest trace s w slept_same waits_same is_s is_w =
+      changed None hand2 ready2 None slept2 waits2 call_state guest trace s w false (λ j other. refl) slept_same waits_same is_s is_w refl

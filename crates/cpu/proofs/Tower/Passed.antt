@@ -12,28 +12,28 @@ use Rattle.event_log.proofs.ListLemmas.{alike_at}
 use Rattle.layer_traits.specs.declared.calls.Effect.{Effect}
 use Rattle.layer_traits.specs.declared.passes.Pass.{Pass}
 use Rattle.layer_traits.specs.declared.passes.Pass.TheVariants as pass
-use Rattle.layer_traits.specs.declared.talks.Stage.{Stage}
-use Rattle.layer_traits.specs.declared.talks.Stage.TheVariants as at
-use Rattle.layer_traits.specs.declared.talks.Talk.{Talk}
+use Rattle.layer_traits.specs.declared.call_states.Stage.{Stage}
+use Rattle.layer_traits.specs.declared.call_states.Stage.TheVariants as at
+use Rattle.layer_traits.specs.declared.call_states.CallState.{CallState}
 use Rattle.layer_traits.specs.LockLaw.{slept_for}
 use Rattle.layer_traits.specs.Passes.{pass_after}
 use Rattle.layer_traits.specs.Places.{Threads, is_thread}
 use Rattle.layer_traits.specs.Plans.{Left, Follows}
-use Rattle.layer_traits.specs.BufferLaw.{Buffering, buffering_at_start, fifo_pass_plan, quiet, talk_of}
+use Rattle.layer_traits.specs.BufferLaw.{Buffering, buffering_at_start, fifo_pass_plan, no_call, call_state_of}
 use Rattle.cpu.specs.Tower.Views.{TowerBlock, TowerName, TowerOut, tower}
 use Rattle.cpu.specs.Tower.Privates.{threads_in, tid}
 use Rattle.cpu.specs.Tower.Composed.{FitsStage, Stands, asks, was_handed, enters, tries, waits, was_woken, asks_again, was_handed_again}
 use Rattle.cpu.specs.Tower.Composed.{signals, signals_own, releases, has_signalled, has_signalled_own, has_released}
-use Rattle.cpu.specs.Tower.Standing.{IsPart, MayStand, inside, outside}
+use Rattle.cpu.specs.Tower.Positions.{IsPart, MayStand, inside, outside}
 
 -- the part with other threads
 abbrev pub with_threads : Buffering → Threads → Buffering
 with_threads own threads = record {
   cv = record {
-    lock = record { sleep = record { threads = threads; kept = own.cv.lock.sleep.kept }; slept = own.cv.lock.slept };
+    lock = record { sleep = record { threads = threads; deferred = own.cv.lock.sleep.deferred }; slept = own.cv.lock.slept };
     waits = own.cv.waits;
   };
-  talks = own.talks;
+  call_states = own.call_states;
 }
 
 -- a pass changes the threads alone
@@ -53,63 +53,67 @@ pass_rest ActsFor opening homes c (pass.MakeReady u) own old new left follows =
 
 -- A thread with nobody in the hand has no answer kept.
 
-stands_none : (stage : Stage) (hand : Option Tid) (kept : Option TowerOut) (s w : Option BufId) (effect : Option Effect) → Stands stage hand kept s w effect
-    → hand ≡ None → kept ≡ None
-stands_none stage hand kept s w effect asks is = refl
-stands_none stage hand kept s w effect (was_handed b) is = refl
-stands_none stage hand kept s w effect enters is = refl
-stands_none stage hand kept s w effect tries is = refl
-stands_none stage hand kept s w effect waits is = refl
-stands_none stage hand kept s w effect (was_woken b) is = refl
-stands_none stage hand kept s w effect asks_again is = refl
-stands_none stage hand kept s w effect (was_handed_again b) is = refl
-stands_none stage hand kept s w effect (signals f) is = refl
-stands_none stage hand kept s w effect (signals_own f) is = refl
-stands_none stage hand kept s w effect (releases f) is = refl
-stands_none stage hand kept s w effect (has_signalled u v f) is = absurd (cc is)
-stands_none stage hand kept s w effect (has_signalled_own u v f) is = absurd (cc is)
-stands_none stage hand kept s w effect (has_released u f) is = absurd (cc is)
+stands_none : (stage : Stage) (hand : Option Tid) (deferred : Option TowerOut) (s w : Option BufId) (effect : Option Effect)
+    → Stands stage hand deferred s w effect
+    → hand ≡ None → deferred ≡ None
+stands_none stage hand deferred s w effect asks is = refl
+stands_none stage hand deferred s w effect (was_handed b) is = refl
+stands_none stage hand deferred s w effect enters is = refl
+stands_none stage hand deferred s w effect tries is = refl
+stands_none stage hand deferred s w effect waits is = refl
+stands_none stage hand deferred s w effect (was_woken b) is = refl
+stands_none stage hand deferred s w effect asks_again is = refl
+stands_none stage hand deferred s w effect (was_handed_again b) is = refl
+stands_none stage hand deferred s w effect (signals f) is = refl
+stands_none stage hand deferred s w effect (signals_own f) is = refl
+stands_none stage hand deferred s w effect (releases f) is = refl
+stands_none stage hand deferred s w effect (has_signalled u v f) is = absurd (cc is)
+stands_none stage hand deferred s w effect (has_signalled_own u v f) is = absurd (cc is)
+stands_none stage hand deferred s w effect (has_released u f) is = absurd (cc is)
 
-pub kept_none : (stage : Stage) (hand : Option Tid) (kept : Option TowerOut) (s w : Option BufId) (effect : Option Effect)
-    → MayStand stage hand kept s w effect
-    → hand ≡ None → kept ≡ None
-kept_none stage hand kept s w effect (outside f) is = refl
-kept_none stage hand kept s w effect (inside st h k x y f stands) is = stands_none st h k x y f stands is
+pub deferred_none : (stage : Stage) (hand : Option Tid) (deferred : Option TowerOut) (s w : Option BufId) (effect : Option Effect)
+    → MayStand stage hand deferred s w effect
+    → hand ≡ None → deferred ≡ None
+deferred_none stage hand deferred s w effect (outside f) is = refl
+deferred_none stage hand deferred s w effect (inside st h k x y f stands) is = stands_none st h k x y f stands is
 
-stands_calls : (stage : Stage) (hand : Option Tid) (kept : Option TowerOut) (s w : Option BufId) (effect : Option Effect) → Stands stage hand kept s w effect
-    → stage ≡ at.Between → ⊥
-stands_calls stage hand kept s w effect asks is = absurd (cc is)
-stands_calls stage hand kept s w effect (was_handed b) is = absurd (cc is)
-stands_calls stage hand kept s w effect enters is = absurd (cc is)
-stands_calls stage hand kept s w effect tries is = absurd (cc is)
-stands_calls stage hand kept s w effect waits is = absurd (cc is)
-stands_calls stage hand kept s w effect (was_woken b) is = absurd (cc is)
-stands_calls stage hand kept s w effect asks_again is = absurd (cc is)
-stands_calls stage hand kept s w effect (was_handed_again b) is = absurd (cc is)
-stands_calls stage hand kept s w effect (signals f) is = absurd (cc is)
-stands_calls stage hand kept s w effect (signals_own f) is = absurd (cc is)
-stands_calls stage hand kept s w effect (releases f) is = absurd (cc is)
-stands_calls stage hand kept s w effect (has_signalled u v f) is = absurd (cc is)
-stands_calls stage hand kept s w effect (has_signalled_own u v f) is = absurd (cc is)
-stands_calls stage hand kept s w effect (has_released u f) is = absurd (cc is)
+stands_calls : (stage : Stage) (hand : Option Tid) (deferred : Option TowerOut) (s w : Option BufId) (effect : Option Effect)
+    → Stands stage hand deferred s w effect
+    → stage ≡ at.Idle → ⊥
+stands_calls stage hand deferred s w effect asks is = absurd (cc is)
+stands_calls stage hand deferred s w effect (was_handed b) is = absurd (cc is)
+stands_calls stage hand deferred s w effect enters is = absurd (cc is)
+stands_calls stage hand deferred s w effect tries is = absurd (cc is)
+stands_calls stage hand deferred s w effect waits is = absurd (cc is)
+stands_calls stage hand deferred s w effect (was_woken b) is = absurd (cc is)
+stands_calls stage hand deferred s w effect asks_again is = absurd (cc is)
+stands_calls stage hand deferred s w effect (was_handed_again b) is = absurd (cc is)
+stands_calls stage hand deferred s w effect (signals f) is = absurd (cc is)
+stands_calls stage hand deferred s w effect (signals_own f) is = absurd (cc is)
+stands_calls stage hand deferred s w effect (releases f) is = absurd (cc is)
+stands_calls stage hand deferred s w effect (has_signalled u v f) is = absurd (cc is)
+stands_calls stage hand deferred s w effect (has_signalled_own u v f) is = absurd (cc is)
+stands_calls stage hand deferred s w effect (has_released u f) is = absurd (cc is)
 
 -- a thread in no call neither sleeps nor waits, and nobody is in the hand
 pub record AtRest (h : Option Tid) (k : Option TowerOut) (s w : Option BufId) : Type 0 where
   pub hand : h ≡ None
-  pub kept : k ≡ None
+  pub deferred : k ≡ None
   pub slept : s ≡ None
   pub waits : w ≡ None
 
-pub at_rest : (stage : Stage) (hand : Option Tid) (kept : Option TowerOut) (s w : Option BufId) (effect : Option Effect) → MayStand stage hand kept s w effect
-    → stage ≡ at.Between → AtRest hand kept s w
-at_rest stage hand kept s w effect (outside f) is = record { hand = refl; kept = refl; slept = refl; waits = refl }
-at_rest stage hand kept s w effect (inside st h k x y f stands) is = absurd (stands_calls st h k x y f stands is)
+pub at_rest : (stage : Stage) (hand : Option Tid) (deferred : Option TowerOut) (s w : Option BufId) (effect : Option Effect)
+    → MayStand stage hand deferred s w effect
+    → stage ≡ at.Idle → AtRest hand deferred s w
+at_rest stage hand deferred s w effect (outside f) is = record { hand = refl; deferred = refl; slept = refl; waits = refl }
+at_rest stage hand deferred s w effect (inside st h k x y f stands) is = absurd (stands_calls st h k x y f stands is)
 
 -- a thread in a call stands as a begun call may
-pub in_call : (stage : Stage) (hand : Option Tid) (kept : Option TowerOut) (s w : Option BufId) (effect : Option Effect) → MayStand stage hand kept s w effect
-    → (stage ≡ at.Between → ⊥) → Stands stage hand kept s w effect
-in_call stage hand kept s w effect (outside f) calls = absurd (calls refl)
-in_call stage hand kept s w effect (inside st h k x y f stands) calls = stands
+pub in_call : (stage : Stage) (hand : Option Tid) (deferred : Option TowerOut) (s w : Option BufId) (effect : Option Effect)
+    → MayStand stage hand deferred s w effect
+    → (stage ≡ at.Idle → ⊥) → Stands stage hand deferred s w effect
+in_call stage hand deferred s w effect (outside f) calls = absurd (calls refl)
+in_call stage hand deferred s w effect (inside st h k x y f stands) calls = stands
 
 -- The passes.
 
@@ -129,7 +133,7 @@ module _ (own : Buffering) (part : IsPart own) where
     other = λ u off. part.other u (ap (is_thread u) nobody);
     idle = λ idle. part.idle nobody;
     fits = part.fits;
-    talks = part.talks;
+    call_states = part.call_states;
     slept = part.slept;
     waits = part.waits;
   }
@@ -140,38 +144,42 @@ module _ (own : Buffering) (part : IsPart own) where
   stopped_part t threads runs empty none = record {
     mine = λ u now. let no : Some u ≡ None = sym now ∙ none in absurd (cc no);
     other = λ u off. by_same u (cases_eq u.0 t.0);
-    idle = λ idle. kept;
+    idle = λ idle. deferred;
     fits = part.fits;
-    talks = part.talks;
+    call_states = part.call_states;
     slept = part.slept;
     waits = part.waits;
   }
     where
-      kept : own.cv.lock.sleep.kept ≡ None
-      kept = kept_none _ _ _ _ _ _ (part.mine t runs) empty
+      deferred : own.cv.lock.sleep.deferred ≡ None
+      deferred = deferred_none _ _ _ _ _ _ (part.mine t runs) empty
 
-      here : MayStand (talk_of own.talks t).stage None None (slept_for own.cv.lock.slept t) (slept_for own.cv.waits t) (talk_of own.talks t).effect
+      here : MayStand (call_state_of own.call_states t).stage None None (slept_for own.cv.lock.slept t) (slept_for own.cv.waits t)
+          (call_state_of own.call_states t).effect
       here =
-          subst (λ x. x) (λ i. MayStand (talk_of own.talks t).stage (empty i) (kept i) (slept_for own.cv.lock.slept t) (slept_for own.cv.waits t)
-          (talk_of own.talks t).effect) (part.mine t runs)
+          subst (λ x. x) (λ i. MayStand (call_state_of own.call_states t).stage (empty i) (deferred i) (slept_for own.cv.lock.slept t)
+          (slept_for own.cv.waits t)
+          (call_state_of own.call_states t).effect) (part.mine t runs)
 
       by_same : (u : Tid) → (u.0 ≡ t.0) ⊎ (u.0 ≡ t.0 → ⊥)
-          → MayStand (talk_of own.talks u).stage None None (slept_for own.cv.lock.slept u) (slept_for own.cv.waits u) (talk_of own.talks u).effect
+          → MayStand (call_state_of own.call_states u).stage None None (slept_for own.cv.lock.slept u) (slept_for own.cv.waits u)
+          (call_state_of own.call_states u).effect
       by_same u (inl same) =
           let is : t ≡ u = ap tid (sym same) in
-          subst (λ (x : Tid). MayStand (talk_of own.talks x).stage None None (slept_for own.cv.lock.slept x) (slept_for own.cv.waits x)
-          (talk_of own.talks x).effect) is here
+          subst (λ (x : Tid). MayStand (call_state_of own.call_states x).stage None None (slept_for own.cv.lock.slept x) (slept_for own.cv.waits x)
+          (call_state_of own.call_states x).effect) is here
       by_same u (inr other) = part.other u (ap (is_thread u) runs ∙ ne_eqb t.0 u.0 (λ e. other (sym e)))
 
   -- a thread runs where nobody did
   started_part : (threads : Threads) → (threads_in own).current ≡ None → threads.hand ≡ None → IsPart (with_threads own threads)
   started_part threads nobody empty = record {
-    mine = λ u runs. subst (λ x. x) (λ i. MayStand (talk_of own.talks u).stage (sym empty i) (sym (part.idle nobody) i) (slept_for own.cv.lock.slept u)
-        (slept_for own.cv.waits u) (talk_of own.talks u).effect) (part.other u (ap (is_thread u) nobody));
+    mine = λ u runs. subst (λ x. x) (λ i. MayStand (call_state_of own.call_states u).stage (sym empty i) (sym (part.idle nobody) i)
+        (slept_for own.cv.lock.slept u)
+        (slept_for own.cv.waits u) (call_state_of own.call_states u).effect) (part.other u (ap (is_thread u) nobody));
     other = λ u off. part.other u (ap (is_thread u) nobody);
     idle = λ idle. part.idle nobody;
     fits = part.fits;
-    talks = part.talks;
+    call_states = part.call_states;
     slept = part.slept;
     waits = part.waits;
   }
@@ -195,11 +203,11 @@ no_buffer = None
 pub boots_part : (homes : List CpuId) (c : CpuId) → IsPart (buffering_at_start homes c)
 boots_part homes c = record {
   mine = λ t runs. absurd (cc runs);
-  other = λ t off. subst (λ x. x) (λ i. MayStand (sym (alike_at THREADS t.0 quiet) i).stage None None (sym (alike_at THREADS t.0 no_buffer) i)
-      (sym (alike_at THREADS t.0 no_buffer) i) (sym (alike_at THREADS t.0 quiet) i).effect) (outside None);
+  other = λ t off. subst (λ x. x) (λ i. MayStand (sym (alike_at THREADS t.0 no_call) i).stage None None (sym (alike_at THREADS t.0 no_buffer) i)
+      (sym (alike_at THREADS t.0 no_buffer) i) (sym (alike_at THREADS t.0 no_call) i).effect) (outside None);
   idle = λ nobody. refl;
-  fits = λ t. subst (λ (x : Talk). FitsStage x.stage x.call) (sym (alike_at THREADS t.0 quiet)) tt;
-  talks = alike_long THREADS quiet;
+  fits = λ t. subst (λ (x : CallState). FitsStage x.stage x.call) (sym (alike_at THREADS t.0 no_call)) tt;
+  call_states = alike_long THREADS no_call;
   slept = alike_long THREADS no_buffer;
   waits = alike_long THREADS no_buffer;
 }

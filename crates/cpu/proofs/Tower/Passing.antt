@@ -18,13 +18,13 @@ use Rattle.layer_traits.specs.declared.passes.Pass.TheVariants as pass
 use Rattle.layer_traits.specs.declared.queue_edits.QueueBlock.TheVariants as block
 use Rattle.layer_traits.specs.declared.queue_edits.QueueEdit.TheVariants as queue
 use Rattle.layer_traits.specs.declared.queues.QueueAnswer.TheVariants as told
-use Rattle.layer_traits.specs.declared.talks.Stage.TheVariants as at
-use Rattle.layer_traits.specs.declared.talks.Talk.{Talk}
+use Rattle.layer_traits.specs.declared.call_states.Stage.TheVariants as at
+use Rattle.layer_traits.specs.declared.call_states.CallState.{CallState}
 use Rattle.layer_traits.specs.LockLaw.{slept_for}
 use Rattle.layer_traits.specs.Passes.{queue_for}
 use Rattle.layer_traits.specs.Places.{is_thread}
 use Rattle.layer_traits.specs.Plans.{Left}
-use Rattle.layer_traits.specs.BufferLaw.{Buffering, fifo_pass_plan, quiet, talk_of}
+use Rattle.layer_traits.specs.BufferLaw.{Buffering, fifo_pass_plan, no_call, call_state_of}
 use Rattle.cpu.specs.Table.Blocks.{Pend}
 use Rattle.cpu.specs.Table.Setups.{Setup, Private, Thread, program_of, thread_at}
 use Rattle.cpu.specs.Table.Choice.{after_by, after_section, asked_by, at_pending, ends, with_guest}
@@ -52,10 +52,10 @@ and_false true = refl
 and_false false = refl
 
 module _ (setup : Setup) (c : CpuId) (guests : List State) (trace : List Entry) (ended : List Tid) (slept waits : List (Option BufId))
-    (talks : List Talk) where
+    (call_states : List CallState) where
   -- nobody runs or is ready: the pending are taken
   abbrev idle_with : List Tid → Buffering
-  idle_with ready = own_at None None ready ended None slept waits talks
+  idle_with ready = own_at None None ready ended None slept waits call_states
 
   pub drain_line : PassLine setup c pass.Drain (idle_with []) guests trace
   drain_line = record {
@@ -79,7 +79,7 @@ module _ (setup : Setup) (c : CpuId) (guests : List State) (trace : List Entry) 
 
   -- the thread in the hand is put among its home's pending
   abbrev holding : Tid → List Tid → Buffering
-  holding u ready = own_at None (Some u) ready ended None slept waits talks
+  holding u ready = own_at None (Some u) ready ended None slept waits call_states
 
   pub make_ready_line : (u : Tid) (ready : List Tid) → IsSome (slice_get setup.homes u.0) → PassLine setup c (pass.MakeReady u) (holding u ready) guests trace
   make_ready_line u ready known = record {
@@ -95,8 +95,8 @@ module _ (setup : Setup) (c : CpuId) (guests : List State) (trace : List Entry) 
 
   -- The thread that runs is in no call.
 
-  module _ (t : Tid) (ready : List Tid) (between : (talk_of talks t).stage ≡ at.Between) (in_guests : t.0 < length guests)
-      (in_talks : t.0 < length talks) where
+  module _ (t : Tid) (ready : List Tid) (at_idle : (call_state_of call_states t).stage ≡ at.Idle) (in_guests : t.0 < length guests)
+      (in_call_states : t.0 < length call_states) where
     abbrev runner : Runner
     runner = record {
       t = t;
@@ -104,10 +104,10 @@ module _ (setup : Setup) (c : CpuId) (guests : List State) (trace : List Entry) 
       ended = ended;
       slept = slept;
       waits = waits;
-      talks = talks;
+      call_states = call_states;
       guests = guests;
       in_guests = in_guests;
-      in_talks = in_talks;
+      in_call_states = in_call_states;
     }
 
     abbrev pub running : Buffering
@@ -123,9 +123,9 @@ module _ (setup : Setup) (c : CpuId) (guests : List State) (trace : List Entry) 
     free guest = record { guest = guest; call = None; ended = is_in t ended }
 
     thread_free : (k : Bool) (guest : State)
-        → thread_from (talk_of talks t) (slept_for slept t) (slept_for waits t) k (is_in t ended) guest ≡ free guest
+        → thread_from (call_state_of call_states t) (slept_for slept t) (slept_for waits t) k (is_in t ended) guest ≡ free guest
     thread_free k guest =
-        ap (λ s. thread_from (record (talk_of talks t) { stage = s }) (slept_for slept t) (slept_for waits t) k (is_in t ended) guest) between
+        ap (λ s. thread_from (record (call_state_of call_states t) { stage = s }) (slept_for slept t) (slept_for waits t) k (is_in t ended) guest) at_idle
 
     pub there_free : thread_at p t ≡ free g
     there_free = thread_here running guests trace t in_guests ∙ thread_free (is_thread t (Some t) && false) g
@@ -140,9 +140,9 @@ module _ (setup : Setup) (c : CpuId) (guests : List State) (trace : List Entry) 
     yielded pending =
         let guest : State = after_yield (next_of (program_of setup t) g) g in
         let ready2 : List Tid = (ready ++ pending) ++ t ∷ [] in
-        (λ i. private_of (own_at None None ready2 ended None slept waits (put_same talks t.0 (talk_of talks t) quiet refl i))
+        (λ i. private_of (own_at None None ready2 ended None slept waits (put_same call_states t.0 (call_state_of call_states t) no_call refl i))
         (slice_set guests t.0 guest) trace)
-        ∙ (changed runner None None None None ready2 None slept waits (talk_of talks t) guest trace
+        ∙ (changed runner None None None None ready2 None slept waits (call_state_of call_states t) guest trace
         (slept_for slept t) (slept_for waits t) false (λ j other. refl) (λ j other. refl) (λ j other. refl) refl refl refl
         ∙ (ap (λ x. parts None ready2 None (slice_set (threads_at running guests) t.0 x) trace) (thread_free false guest)
         ∙ sym (ap (λ x. after_by setup c p t x.call (answer_view (told.Taken pending))) there_free
@@ -169,14 +169,14 @@ module _ (setup : Setup) (c : CpuId) (guests : List State) (trace : List Entry) 
         by_block (block.Queue threads homes) kind known = yielded threads
 
     -- it ends
-    pub ended_now : private_of (own_at None None ready (ended ++ t ∷ []) None slept waits talks) guests trace ≡ ends p t
+    pub ended_now : private_of (own_at None None ready (ended ++ t ∷ []) None slept waits call_states) guests trace ≡ ends p t
     ended_now =
-        let after : Buffering = own_at None None ready (ended ++ t ∷ []) None slept waits talks in
+        let after : Buffering = own_at None None ready (ended ++ t ∷ []) None slept waits call_states in
         let zero_plus : t.0 ≡ 0 + t.0 = omega arith in
         ap (λ l. parts None ready None l trace)
         (ap (λ l. threads_at after l) (put_same guests t.0 g at_start refl)
         ∙ (numbered_changed (λ n. thread_of running (tid n)) (λ n. thread_of after (tid n)) 0 t.0 t.0 guests g zero_plus
-        (λ j x other. λ i. thread_from (talk_of talks (tid j)) (slept_for slept (tid j)) (slept_for waits (tid j))
+        (λ j x other. λ i. thread_from (call_state_of call_states (tid j)) (slept_for slept (tid j)) (slept_for waits (tid j))
         (sym (ap (λ b. b && false) (ne_eqb t.0 j (λ e. other (sym e)))) i) (not_new j other i) x) in_guests
         ∙ (ap (λ x. slice_set (threads_at running guests) t.0 x) here
         ∙ ap (λ x. slice_set (threads_at running guests) t.0 (record x { ended = true })) (sym there_free))))
@@ -186,9 +186,10 @@ module _ (setup : Setup) (c : CpuId) (guests : List State) (trace : List Entry) 
             pushed_in (tid j) t ended
             ∙ (ap (λ b. is_in (tid j) ended || (b || false)) (ne_eqb j t.0 other) ∙ or_false (is_in (tid j) ended))
 
-        here : thread_of (own_at None None ready (ended ++ t ∷ []) None slept waits talks) t g ≡ record { guest = g; call = None; ended = true }
+        here : thread_of (own_at None None ready (ended ++ t ∷ []) None slept waits call_states) t g ≡ record { guest = g; call = None; ended = true }
         here =
-            ap (λ s. thread_from (record (talk_of talks t) { stage = s }) (slept_for slept t) (slept_for waits t) false (is_in t (ended ++ t ∷ [])) g) between
+            ap (λ s. thread_from (record (call_state_of call_states t) { stage = s }) (slept_for slept t) (slept_for waits t) false (is_in t
+            (ended ++ t ∷ [])) g) at_idle
             ∙ ap (λ b. record { guest = g; call = None; ended = b })
             (pushed_in t t ended ∙ (ap (λ b. is_in t ended || (b || false)) (same_tid_self t) ∙ or-true (is_in t ended)))
 
@@ -203,11 +204,11 @@ module _ (setup : Setup) (c : CpuId) (guests : List State) (trace : List Entry) 
 
   -- the first that is ready runs
   pub switched_now : (t : Tid) (ready : List Tid)
-      → private_of (own_at (Some t) None ready ended None slept waits talks) guests trace
+      → private_of (own_at (Some t) None ready ended None slept waits call_states) guests trace
       ≡ record (private_of (idle_with (t ∷ ready)) guests trace) { current = Some t; ready = ready }
   switched_now t ready =
       ap (λ l. parts (Some t) ready None l trace)
       (numbered_same (λ n. thread_of (idle_with (t ∷ ready)) (tid n))
-      (λ n. thread_of (own_at (Some t) None ready ended None slept waits talks) (tid n)) 0 guests
-      (λ j x below. ap (λ k. thread_from (talk_of talks (tid j)) (slept_for slept (tid j)) (slept_for waits (tid j)) k (is_in (tid j) ended) x)
+      (λ n. thread_of (own_at (Some t) None ready ended None slept waits call_states) (tid n)) 0 guests
+      (λ j x below. ap (λ k. thread_from (call_state_of call_states (tid j)) (slept_for slept (tid j)) (slept_for waits (tid j)) k (is_in (tid j) ended) x)
       (and_false (same_tid t (tid j)))))

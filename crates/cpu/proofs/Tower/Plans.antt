@@ -3,69 +3,70 @@ use Rattle.std.proofs.Common.{◌≡◌, slice_get, Option, Some, IsSome, refl, 
 use Rattle.event_log.specs.declared.ids.BufId.{BufId}
 use Rattle.event_log.specs.declared.ids.Tid.{Tid}
 use Rattle.layer_traits.specs.declared.calls.Effect.{Effect}
-use Rattle.layer_traits.specs.declared.talks.Stage.{Stage}
-use Rattle.layer_traits.specs.declared.talks.Talk.{Talk}
+use Rattle.layer_traits.specs.declared.call_states.Stage.{Stage}
+use Rattle.layer_traits.specs.declared.call_states.CallState.{CallState}
 use Rattle.layer_traits.specs.LockLaw.{slept_for}
-use Rattle.layer_traits.specs.BufferLaw.{talk_of}
+use Rattle.layer_traits.specs.BufferLaw.{call_state_of}
 use Rattle.cpu.specs.Tower.Views.{TowerOut}
 use Rattle.cpu.specs.Tower.Privates.{threads_in}
 use Rattle.cpu.specs.Tower.Composed.{FitsStage, PlansAreLines, Stands, asks, was_handed, enters, tries, waits, was_woken, asks_again}
 use Rattle.cpu.specs.Tower.Composed.{was_handed_again, signals}
 use Rattle.cpu.specs.Tower.Composed.{signals_own, releases, has_signalled, has_signalled_own, has_released}
-use Rattle.cpu.proofs.Tower.Callers.{Caller, HasRoom, awake, caller_in, talk_at}
+use Rattle.cpu.proofs.Tower.Callers.{Caller, HasRoom, awake, caller_in, call_state_at}
 use Rattle.cpu.proofs.Tower.Numbered.{own_at}
 use Rattle.cpu.proofs.Tower.Chains.{LineOf, site_asks, site_enters, site_tries, site_waits, site_asks_again, site_signals, site_own_signals, site_releases}
 use Rattle.cpu.proofs.Tower.Chains.{handed_line, handed_again_line, woken_line}
 use Rattle.cpu.proofs.Tower.Sends.{has_signalled_line, has_signalled_own_line, has_released_line}
 
 module _ (caller : Caller) where
-  open caller use {setup, c, t, ready, ended, slept, waits as waiting, talks, guests, trace, call}
+  open caller use {setup, c, t, ready, ended, slept, waits as waiting, call_states, guests, trace, call}
 
-  by_stands : (stage : Stage) (hand : Option Tid) (kept : Option TowerOut) (s w : Option BufId) (effect : Option Effect) → Stands stage hand kept s w effect
-      → FitsStage stage (Some call) → talk_of talks t ≡ talk_at caller stage effect → slept_for slept t ≡ s → slept_for waiting t ≡ w
+  by_stands : (stage : Stage) (hand : Option Tid) (deferred : Option TowerOut) (s w : Option BufId) (effect : Option Effect)
+      → Stands stage hand deferred s w effect
+      → FitsStage stage (Some call) → call_state_of call_states t ≡ call_state_at caller stage effect → slept_for slept t ≡ s → slept_for waiting t ≡ w
       → ((u : Tid) → hand ≡ Some u → IsSome (slice_get setup.homes u.0))
-      → LineOf setup c t call (own_at (Some t) hand ready ended kept slept waiting talks) guests trace
-  by_stands stage hand kept s w effect asks fits is is_s is_w known =
+      → LineOf setup c t call (own_at (Some t) hand ready ended deferred slept waiting call_states) guests trace
+  by_stands stage hand deferred s w effect asks fits is is_s is_w known =
       site_asks (awake caller is_s is_w) is
-  by_stands stage hand kept s w effect enters fits is is_s is_w known =
+  by_stands stage hand deferred s w effect enters fits is is_s is_w known =
       site_enters (awake caller is_s is_w) is
-  by_stands stage hand kept s w effect tries fits is is_s is_w known =
+  by_stands stage hand deferred s w effect tries fits is is_s is_w known =
       site_tries (awake caller is_s is_w) fits is
-  by_stands stage hand kept s w effect waits fits is is_s is_w known =
+  by_stands stage hand deferred s w effect waits fits is is_s is_w known =
       site_waits (awake caller is_s is_w) is
-  by_stands stage hand kept s w effect asks_again fits is is_s is_w known =
+  by_stands stage hand deferred s w effect asks_again fits is is_s is_w known =
       site_asks_again (awake caller is_s is_w) is
-  by_stands stage hand kept s w effect (signals f) fits is is_s is_w known =
+  by_stands stage hand deferred s w effect (signals f) fits is is_s is_w known =
       site_signals (awake caller is_s is_w) f is
-  by_stands stage hand kept s w effect (signals_own f) fits is is_s is_w known =
+  by_stands stage hand deferred s w effect (signals_own f) fits is is_s is_w known =
       site_own_signals (awake caller is_s is_w) f is
-  by_stands stage hand kept s w effect (releases f) fits is is_s is_w known =
+  by_stands stage hand deferred s w effect (releases f) fits is is_s is_w known =
       site_releases (awake caller is_s is_w) f is
-  by_stands stage hand kept s w effect (was_handed b) fits is is_s is_w known =
+  by_stands stage hand deferred s w effect (was_handed b) fits is is_s is_w known =
       handed_line caller b is is_s is_w
-  by_stands stage hand kept s w effect (was_handed_again b) fits is is_s is_w known =
+  by_stands stage hand deferred s w effect (was_handed_again b) fits is is_s is_w known =
       handed_again_line caller b fits is is_s is_w
-  by_stands stage hand kept s w effect (was_woken b) fits is is_s is_w known =
+  by_stands stage hand deferred s w effect (was_woken b) fits is is_s is_w known =
       woken_line caller b is is_s is_w
-  by_stands stage hand kept s w effect (has_signalled u v f) fits is is_s is_w known =
+  by_stands stage hand deferred s w effect (has_signalled u v f) fits is is_s is_w known =
       has_signalled_line (awake caller is_s is_w) u f (known u refl) v is
-  by_stands stage hand kept s w effect (has_signalled_own u v f) fits is is_s is_w known =
+  by_stands stage hand deferred s w effect (has_signalled_own u v f) fits is is_s is_w known =
       has_signalled_own_line (awake caller is_s is_w) u f (known u refl) v is
-  by_stands stage hand kept s w effect (has_released u f) fits is is_s is_w known =
+  by_stands stage hand deferred s w effect (has_released u f) fits is is_s is_w known =
       has_released_line (awake caller is_s is_w) u f (known u refl) is
 
 pub plans_are_lines : PlansAreLines
 plans_are_lines setup c own guests trace t call going known =
-    let talk_now : Talk = talk_of own.talks t in
+    let call_state_now : CallState = call_state_of own.call_states t in
     let room : HasRoom own guests t = record {
       in_guests = going.in_guests;
-      in_talks = going.in_talks;
+      in_call_states = going.in_call_states;
       in_slept = going.in_slept;
       in_waits = going.in_waits;
     } in
-    let line = by_stands (caller_in setup c own guests t room trace call talk_now.position) talk_now.stage (threads_in own).hand
-    own.cv.lock.sleep.kept (slept_for own.cv.lock.slept t) (slept_for own.cv.waits t) talk_now.effect going.stands
-    (subst (FitsStage talk_now.stage) going.begun going.fits)
-    (λ i. record { stage = talk_now.stage; call = going.begun i; position = talk_now.position; effect = talk_now.effect }) refl refl known in
-    subst (λ o. LineOf setup c t call (own_at o (threads_in own).hand (threads_in own).ready (threads_in own).ended own.cv.lock.sleep.kept own.cv.lock.slept
-    own.cv.waits own.talks) guests trace) (sym going.current) line
+    let line = by_stands (caller_in setup c own guests t room trace call call_state_now.position) call_state_now.stage (threads_in own).hand
+    own.cv.lock.sleep.deferred (slept_for own.cv.lock.slept t) (slept_for own.cv.waits t) call_state_now.effect going.stands
+    (subst (FitsStage call_state_now.stage) going.begun going.fits)
+    (λ i. record { stage = call_state_now.stage; call = going.begun i; position = call_state_now.position; effect = call_state_now.effect }) refl refl known in
+    subst (λ o. LineOf setup c t call (own_at o (threads_in own).hand (threads_in own).ready (threads_in own).ended own.cv.lock.sleep.deferred own.cv.lock.slept
+    own.cv.waits own.call_states) guests trace) (sym going.current) line

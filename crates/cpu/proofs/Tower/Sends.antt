@@ -18,12 +18,12 @@ use Rattle.layer_traits.specs.declared.buffer_edits.BufferEdit.{BufferEdit}
 use Rattle.layer_traits.specs.declared.buffer_edits.BufferOut.{BufferOut}
 use Rattle.layer_traits.specs.declared.queue_edits.QueueEdit.TheVariants as queue
 use Rattle.layer_traits.specs.declared.queues.QueueAnswer.TheVariants as told
-use Rattle.layer_traits.specs.declared.talks.Stage.{Stage}
-use Rattle.layer_traits.specs.declared.talks.Stage.TheVariants as at
-use Rattle.layer_traits.specs.declared.talks.Talk.{Talk}
+use Rattle.layer_traits.specs.declared.call_states.Stage.{Stage}
+use Rattle.layer_traits.specs.declared.call_states.Stage.TheVariants as at
+use Rattle.layer_traits.specs.declared.call_states.CallState.{CallState}
 use Rattle.layer_traits.specs.BufferProtocol.{buffer_rules}
-use Rattle.layer_traits.specs.BufferLaw.{BufferPlan, Buffering, at_stage, buffer_of, going, left_heard, other_side, plan_at, quiet, reply_of}
-use Rattle.layer_traits.specs.BufferLaw.{side_of as tower_side, talk_of}
+use Rattle.layer_traits.specs.BufferLaw.{BufferPlan, Buffering, at_stage, buffer_of, going, left_recorded, other_side, plan_at, no_call, reply_of}
+use Rattle.layer_traits.specs.BufferLaw.{side_of as tower_side, call_state_of}
 use Rattle.layer_traits.specs.Conditions.{CvCall}
 use Rattle.layer_traits.specs.CvLaw.{Waiting, cv_plan, cv_plan_for, left_waiting}
 use Rattle.layer_traits.specs.LockLaw.{left_after, plan_for, slept_for}
@@ -35,7 +35,7 @@ use Rattle.cpu.specs.Table.Setups.{SignalsOwn, Releases, Returns, Call, Thread, 
 use Rattle.cpu.specs.Table.Choice.{settled, at_pending}
 use Rattle.cpu.specs.Tower.Views.{TowerAnswer, TowerName, TowerOut}
 use Rattle.cpu.specs.Tower.Privates.{call_from, guest_at, guests_after, private_after, private_of, thread_from, trace_after}
-use Rattle.cpu.proofs.Tower.Callers.{Site, talk_at}
+use Rattle.cpu.proofs.Tower.Callers.{Site, call_state_at}
 use Rattle.cpu.proofs.Tower.Numbered.{goes, numbered_long, own_at, part_at, parts, threads_at}
 use Rattle.cpu.proofs.Tower.Settled.{calling, goes_on, returns}
 use Rattle.layer_traits.specs.Passes.{or_else, queue_for}
@@ -50,13 +50,13 @@ queue_is c None there = absurd (cc there)
 queue_is c (Some d) there = refl
 
 module _ (site : Site) (u : Tid) (f : Effect) (known : IsSome (slice_get site.setup.homes u.0)) where
-  open site use {setup, c, runner, t, ready, ended, slept, waits, talks, guests, trace, call, position, in_guests, is_slept, is_waits}
+  open site use {setup, c, runner, t, ready, ended, slept, waits, call_states, guests, trace, call, position, in_guests, is_slept, is_waits}
 
   abbrev pub own_with : TowerOut → Buffering
   own_with outcome = part_at runner (Some u) (Some outcome)
 
-  abbrev pub here : Stage → Talk
-  here stage = talk_at site.caller stage (Some f)
+  abbrev pub here : Stage → CallState
+  here stage = call_state_at site.caller stage (Some f)
 
   abbrev g : State
   g = guest_at guests t
@@ -84,7 +84,7 @@ module _ (site : Site) (u : Tid) (f : Effect) (known : IsSome (slice_get site.se
       (plan_for (lock_moves buffer_rules) setup.homes c (buffer_of call) s (own_with outcome).cv.lock o)) n
 
   abbrev pub sends : TowerOut → Stage → CvCall BufferEdit → BufferPlan Reply
-  sends outcome stage s = raised (left_heard t call (here stage) talks stage) (beneath outcome s)
+  sends outcome stage s = raised (left_recorded t call (here stage) call_states stage) (beneath outcome s)
 
   abbrev after : TowerOut → Left Buffering Reply → Private
   after outcome left = private_after setup c t call (own_with outcome) guests trace left
@@ -97,27 +97,27 @@ module _ (site : Site) (u : Tid) (f : Effect) (known : IsSome (slice_get site.se
   guests_by None = sym (set-get_or guests t.0 at_start)
   guests_by (Some reply) = refl
 
-  module _ (outcome : TowerOut) (stage : Stage) (is : talk_of talks t ≡ here stage)
+  module _ (outcome : TowerOut) (stage : Stage) (is : call_state_of call_states t ≡ here stage)
       (had : (going (here stage) call).effect ≡ Some f) where
-    abbrev effect_is : (going (talk_of talks t) call).effect ≡ Some f
+    abbrev effect_is : (going (call_state_of call_states t) call).effect ≡ Some f
     effect_is = ap (λ x. (going x call).effect) is ∙ had
 
     -- the poll leaves all as it is
     waits_still : (left : Left Buffering Reply)
-        → left ≡ record { own = own_at (Some t) (Some u) ready ended (Some outcome) slept waits (slice_set talks t.0 (here stage)); answer = None }
+        → left ≡ record { own = own_at (Some t) (Some u) ready ended (Some outcome) slept waits (slice_set call_states t.0 (here stage)); answer = None }
         → after outcome left ≡ private_of (own_with outcome) guests trace
     waits_still left at =
         ap (after outcome) at
-        ∙ (λ i. private_of (own_at (Some t) (Some u) ready ended (Some outcome) slept waits (sym (put_same talks t.0 (here stage) quiet is) i)) guests
-        (trace_after c t (buffer_of call) (effect_is i) (talk_of (slice_set talks t.0 (here stage)) t).effect trace))
+        ∙ (λ i. private_of (own_at (Some t) (Some u) ready ended (Some outcome) slept waits (sym (put_same call_states t.0 (here stage) no_call is) i)) guests
+        (trace_after c t (buffer_of call) (effect_is i) (call_state_of (slice_set call_states t.0 (here stage)) t).effect trace))
 
     -- the poll leaves the hand empty, and the call goes on or returns
-    sent : (talk2 : Talk) (answer : Option Reply)
-        → after outcome (record { own = own_at (Some t) None ready ended None slept waits (slice_set talks t.0 talk2); answer = answer })
+    sent : (talk2 : CallState) (answer : Option Reply)
+        → after outcome (record { own = own_at (Some t) None ready ended None slept waits (slice_set call_states t.0 talk2); answer = answer })
         ≡ parts (Some t) ready None (slice_set (threads outcome) t.0 (thread_from talk2 None None false e (guest_by answer))) trace
     sent talk2 answer =
-        (λ i. private_of (own_at (Some t) None ready ended None slept waits (slice_set talks t.0 talk2)) (guests_by answer i)
-        (trace_after c t (buffer_of call) (effect_is i) (talk_of (slice_set talks t.0 talk2) t).effect trace))
+        (λ i. private_of (own_at (Some t) None ready ended None slept waits (slice_set call_states t.0 talk2)) (guests_by answer i)
+        (trace_after c t (buffer_of call) (effect_is i) (call_state_of (slice_set call_states t.0 talk2) t).effect trace))
         ∙ goes runner (Some u) (Some outcome) None ready None talk2 (guest_by answer) trace None None is_slept is_waits
 
     -- the thread as the table has it: its section is done
@@ -130,7 +130,7 @@ module _ (site : Site) (u : Tid) (f : Effect) (known : IsSome (slice_get site.se
         → plan_at setup.homes c t call (going (here stage) call).stage (going (here stage) call) (own_with outcome) ≡ sends outcome stage s
         → react_in (sends outcome stage s) None ≡ record {
           own = own_at (Some t) (Some u) ready ended (Some outcome) slept waits
-              (slice_set talks t.0 (here stage));
+              (slice_set call_states t.0 (here stage));
           answer = None;
         }
         → react_in (sends outcome stage s) (Some told.Done) ≡ left
@@ -147,40 +147,42 @@ module _ (site : Site) (u : Tid) (f : Effect) (known : IsSome (slice_get site.se
       gives = λ x kind hand. ap (after outcome) done ∙ gives;
     }
 
-  pub has_signalled_line : (v : CvOut BufferOut) → talk_of talks t ≡ here at.Signals
+  pub has_signalled_line : (v : CvOut BufferOut) → call_state_of call_states t ≡ here at.Signals
       → LineOf setup c t call (own_with (outcome_of (lock.Did v) u)) guests trace
   has_signalled_line v is =
       let out : TowerOut = outcome_of (lock.Did v) u in
       let next : Call = call_from call position (Some f) SignalsOwn in
       line out at.Signals is refl (Inside (SignalFront t (other_side call))) _
-      (ap (raised (left_heard t call (here at.Signals) talks at.Signals)) (beneath_is out (Inside (SignalFront t (other_side call))) is_waits is_slept))
+      (ap (raised (left_recorded t call (here at.Signals) call_states at.Signals)) (beneath_is out (Inside (SignalFront t
+      (other_side call))) is_waits is_slept))
       refl refl
       (sent out at.Signals is refl (at_stage at.SignalsOwn (here at.Signals)) None
       ∙ sym (ap (λ l. settled setup (parts (Some t) ready None l trace))
       (threads_are out at.Signals is refl (calling setup c ready (threads out) trace t g e (long out) next) refl)
       ∙ goes_on setup c ready (threads out) trace t g e (long out) next ready trace (λ p. refl)))
 
-  pub has_signalled_own_line : (v : CvOut BufferOut) → talk_of talks t ≡ here at.SignalsOwn
+  pub has_signalled_own_line : (v : CvOut BufferOut) → call_state_of call_states t ≡ here at.SignalsOwn
       → LineOf setup c t call (own_with (outcome_of (lock.Did v) u)) guests trace
   has_signalled_own_line v is =
       let out : TowerOut = outcome_of (lock.Did v) u in
       let next : Call = call_from call position (Some f) Releases in
       line out at.SignalsOwn is refl (Inside (SignalFront t (tower_side call))) _
-      (ap (raised (left_heard t call (here at.SignalsOwn) talks at.SignalsOwn)) (beneath_is out (Inside (SignalFront t (tower_side call))) is_waits is_slept))
+      (ap (raised (left_recorded t call (here at.SignalsOwn) call_states at.SignalsOwn)) (beneath_is out (Inside (SignalFront t
+      (tower_side call))) is_waits is_slept))
       refl refl
       (sent out at.SignalsOwn is refl (at_stage at.Releases (here at.SignalsOwn)) None
       ∙ sym (ap (λ l. settled setup (parts (Some t) ready None l trace))
       (threads_are out at.SignalsOwn is refl (calling setup c ready (threads out) trace t g e (long out) next) refl)
       ∙ goes_on setup c ready (threads out) trace t g e (long out) next ready trace (λ p. refl)))
 
-  pub has_released_line : talk_of talks t ≡ here at.Releases → LineOf setup c t call (own_with (outcome_of (lock.Released cv.Left) u)) guests trace
+  pub has_released_line : call_state_of call_states t ≡ here at.Releases → LineOf setup c t call (own_with (outcome_of (lock.Released cv.Left) u)) guests trace
   has_released_line is =
       let out : TowerOut = outcome_of (lock.Released cv.Left) u in
       let now : Call = call_from call position (Some f) Releases in
       line out at.Releases is refl (Release (Leave t)) _
-      (ap (raised (left_heard t call (here at.Releases) talks at.Releases)) (beneath_is out (Release (Leave t)) is_waits is_slept))
+      (ap (raised (left_recorded t call (here at.Releases) call_states at.Releases)) (beneath_is out (Release (Leave t)) is_waits is_slept))
       refl refl
-      (sent out at.Releases is refl (record { stage = at.Between; call = None; position = position; effect = Some f }) (Some (reply_of call f))
+      (sent out at.Releases is refl (record { stage = at.Idle; call = None; position = position; effect = Some f }) (Some (reply_of call f))
       ∙ (ap (λ x. parts (Some t) ready None (slice_set (threads out) t.0 (record { guest = x; call = None; ended = e })) trace)
       (reply_guest call f (next_of (program_of setup t) g) g)
       ∙ sym (ap (λ l. settled setup (parts (Some t) ready None l trace))

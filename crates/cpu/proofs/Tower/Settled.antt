@@ -8,7 +8,7 @@ use Rattle.guest.specs.State.{State, next_of}
 use Rattle.cpu.specs.Table.Blocks.{Answer}
 use Rattle.cpu.specs.Table.Setups.{Setup, Returns, Call, Thread, Private, new_thread, program_of, thread_at}
 use Rattle.cpu.specs.Table.Choice.{after_by, after_section, asked, asked_by, at_buffer, guest_after}
-use Rattle.cpu.specs.Table.Choice.{heard, returned_at, returned_by, section_at, settled, slept_if, woken}
+use Rattle.cpu.specs.Table.Choice.{recorded, returned_at, returned_by, section_at, settled, slept_if, woken}
 use Rattle.cpu.proofs.Tower.Numbered.{parts}
 
 module _ (setup : Setup) (c : CpuId) (ready : List Tid) (threads : List Thread) (trace : List Entry) (t : Tid) (g : State) (e : Bool)
@@ -37,10 +37,10 @@ module _ (setup : Setup) (c : CpuId) (ready : List Tid) (threads : List Thread) 
   abbrev pub put : Call → Call → List Entry → Thread → Private
   put call next trace2 x = parts (Some t) ready None (slice_set (slice_set threads t.0 (calling call)) t.0 (record x { call = Some next })) trace2
 
-  pub heard_is : (call : Call) (a : Answer) (next : Call) (trace2 : List Entry)
-      → heard c (from_t call) t call call.stage a.told ≡ put call next trace2 (thread_at (from_t call) t)
+  pub recorded_is : (call : Call) (a : Answer) (next : Call) (trace2 : List Entry)
+      → recorded c (from_t call) t call call.stage a.told ≡ put call next trace2 (thread_at (from_t call) t)
       → after_section setup c (from_t call) a ≡ settled setup (woken setup c a.woke (slept_if a.slept (with_t ready None (calling next) trace2)))
-  heard_is call a next trace2 is =
+  recorded_is call a next trace2 is =
       ap (λ x. after_by setup c (from_t call) t x.call a) (there (calling call) ready None trace)
       ∙ ap (λ r. settled setup (woken setup c a.woke (slept_if a.slept r)))
       (is ∙ (ap (put call next trace2) (there (calling call) ready None trace)

@@ -19,11 +19,11 @@ use Rattle.layer_traits.specs.declared.queue_edits.QueueBlock.TheVariants as blo
 use Rattle.layer_traits.specs.declared.queue_edits.QueueEdit.TheVariants as queue
 use Rattle.layer_traits.specs.BufferBlocks.{BufferState, entered as tower_entered, first_item, is_next, may_go, may_join, put_in, taken_out}
 use Rattle.layer_traits.specs.Conditions.{CvCall, signal_to}
-use Rattle.layer_traits.specs.Locking.{LockState, asked, line_asked, signalled, told_asker, waiting_without}
+use Rattle.layer_traits.specs.Locking.{LockState, asked, wait_list_asked, signalled, asker_report, waiting_without}
 use Rattle.cpu.specs.Table.Blocks.{Buffer, OfBuffer, OfPending, Name, AcqQ, Enter, TryPut, TryTake, Shut, WaitOn}
 use Rattle.cpu.specs.Table.Blocks.{SigRecv, SigSend, RelQ, Pend, TakeAll, Nothing, NotYet, front_stands_in}
-use Rattle.cpu.specs.Table.Edits.{acquired, answer, answer_of_acquire, edited, entered, put, taken, tells, told_put, told_take, wakes, without_any}
-use Rattle.cpu.specs.Tower.Views.{TablesAgree, TowerBlock, TowerName, answer_view, buffer_view, code, name_of, told_above, told_of, told_in, tower, view}
+use Rattle.cpu.specs.Table.Edits.{acquired, answer, answer_of_acquire, edited, entered, put, taken, reports, report_of_put, report_of_take, wakes, without_any}
+use Rattle.cpu.specs.Tower.Views.{TablesAgree, TowerBlock, TowerName, answer_view, buffer_view, code, name_of, report_above, report_of, report_in, tower, view}
 
 names : (n : Name) → name_of (code n) ≡ n
 names (AcqQ t) = refl
@@ -169,36 +169,36 @@ module _ (state : LockState BufferState) where
 
   -- The answers.
 
-  asked_view : (o : Option Tid) → record { told = told_in (told_asker {O = CvOut BufferOut} o); slept = is_some (line_asked o); woke = None }
+  asked_view : (o : Option Tid) → record { told = report_in (asker_report {O = CvOut BufferOut} o); slept = is_some (wait_list_asked o); woke = None }
       ≡ answer_of_acquire o
   asked_view None = refl
   asked_view (Some owner) = refl
 
-  put_told : (b closed : Bool) (m : Message)
-      → tells (told_above (if b then out.Done (if closed then SendClosed else Send) state.above.effects m else out.NotYet))
-      ≡ tells (if b then told_put closed state.above.effects m else NotYet)
-  put_told true true m = refl
-  put_told true false m = refl
-  put_told false closed m = refl
+  put_reported : (b closed : Bool) (m : Message)
+      → reports (report_above (if b then out.Done (if closed then SendClosed else Send) state.above.effects m else out.NotYet))
+      ≡ reports (if b then report_of_put closed state.above.effects m else NotYet)
+  put_reported true true m = refl
+  put_reported true false m = refl
+  put_reported false closed m = refl
 
   some_left : (m : Message) (items : List Message) → nat_lt 0 (length (m ∷ items)) ≡ true
   some_left m items = lt-ltb 0 (length (m ∷ items)) (omega arith)
 
-  taken_told : (b : Bool) (items : List Message)
-      → tells (told_above (if b then out.Done (if nat_lt 0 (length items) then Recv else RecvClosed) state.above.effects (first_item items)
+  taken_reported : (b : Bool) (items : List Message)
+      → reports (report_above (if b then out.Done (if nat_lt 0 (length items) then Recv else RecvClosed) state.above.effects (first_item items)
       else out.NotYet))
-      ≡ tells (if b then told_take items state.above.effects else NotYet)
-  taken_told true [] = refl
-  taken_told true (m ∷ items) = ap (λ b. tells (told_of (if b then Recv else RecvClosed) state.above.effects m)) (some_left m items)
-  taken_told false items = refl
+      ≡ reports (if b then report_of_take items state.above.effects else NotYet)
+  taken_reported true [] = refl
+  taken_reported true (m ∷ items) = ap (λ b. reports (report_of (if b then Recv else RecvClosed) state.above.effects m)) (some_left m items)
+  taken_reported false items = refl
 
   answers_above : (e : CvCall BufferEdit)
       → answer_view (tower.answer (queue.Above e) (block.Above state)) ≡ answer (name_of (queue.Above e)) (view (block.Above state))
   answers_above (Acquire t) = asked_view state.owner
   answers_above (Inside (Edit (edit.Enter t Senders))) = refl
   answers_above (Inside (Edit (edit.Enter t Receivers))) = refl
-  answers_above (Inside (Edit (edit.TryPut t m))) = put_told (is_next Senders t state.above) state.above.closed m
-  answers_above (Inside (Edit (edit.TryTake t))) = taken_told (is_next Receivers t state.above) state.above.items
+  answers_above (Inside (Edit (edit.TryPut t m))) = put_reported (is_next Senders t state.above) state.above.closed m
+  answers_above (Inside (Edit (edit.TryTake t))) = taken_reported (is_next Receivers t state.above) state.above.items
   answers_above (Inside (Edit (edit.Shut t))) = refl
   answers_above (Inside (SignalFront t Receivers)) =
       ap wakes (woke_receiver state.above.receive_line state.receivers state.senders (may_go Receivers state.above))
@@ -235,7 +235,7 @@ answers queue.TakeAll (block.Above state) = refl
 answers (queue.Above e) (block.Above state) = answers_above state e
 answers (queue.Above e) (block.Queue threads homes) = go e
   where
-    go : (f : CvCall BufferEdit) → tells Nothing ≡ answer (name_of (queue.Above f)) (OfPending threads)
+    go : (f : CvCall BufferEdit) → reports Nothing ≡ answer (name_of (queue.Above f)) (OfPending threads)
     go (Acquire t) = refl
     go (Inside (Edit (edit.Enter t side))) = refl
     go (Inside (Edit (edit.TryPut t m))) = refl

@@ -20,11 +20,11 @@ use Rattle.cpu.specs.Table.Setups.{Setup, CallStage, Acquires, Enters, Tries, Wa
 use Rattle.cpu.specs.Table.Setups.{Releases, Returns, Call, Thread, Private, new_thread, thread_at, with_thread, home_of}
 use Rattle.cpu.specs.Table.Choice.{slept_if, woken}
 use Rattle.cpu.proofs.Wakeups.Lists.{refuted}
-use Rattle.cpu.proofs.Wakeups.Posts.{Post, Home, InHand, IsPending, AtLock, AtWait, Doing, GotIt, Trying, Failed, Waiting, Owing, Visit, Outside, In}
+use Rattle.cpu.proofs.Wakeups.Posts.{Post, Home, InHand, IsPending, AtLock, AtWait, CallPhase, GotIt, Trying, Failed, Waiting, Owing, Visit, Outside, In}
 use Rattle.cpu.proofs.Wakeups.Posts.{is_home, is_hand, post_by, post_woken, is_local}
 
 -- once the other side is signalled, the own side is owed its signal
-abbrev pub owing_own : Side → Doing
+abbrev pub owing_own : Side → CallPhase
 owing_own Senders = Owing false true
 owing_own Receivers = Owing true false
 

@@ -26,7 +26,7 @@ use Rattle.cpu.proofs.Wakeups.Awake.{IsAwake}
 use Rattle.cpu.proofs.Wakeups.Ordered.{same_buffer, buffer_awake}
 use Rattle.cpu.proofs.Wakeups.Posts.{Post, Home, InHand, IsPending, AtLock, AtWait, Outside}
 use Rattle.cpu.proofs.Wakeups.Posts.{is_buffer, is_home, is_pending, is_lock, is_wait, is_moved, is_side}
-use Rattle.cpu.proofs.Wakeups.Posts.{caller_in, is_caller, bed, post_by, post_woken, post_moved, post_drained, post_pending, post_buffer, post}
+use Rattle.cpu.proofs.Wakeups.Posts.{caller_in, is_caller, waiters_of, post_by, post_woken, post_moved, post_drained, post_pending, post_buffer, post}
 use Rattle.cpu.proofs.Wakeups.Posts.{next_visit, visit_moved, visit_buffer, visit, IsCallers, MayComeBy, MayComeTo, MayComeAt, MayCome, marked}
 use Rattle.cpu.proofs.Wakeups.Pairs.{Pair, marked_none, grown_list, buffer_true, sleeps_at, woken_sleeps}
 use Rattle.cpu.proofs.Wakeups.Pairs.{woken_no_lock, woken_no_wait, other_pair, thread_some, other_joined}
@@ -83,7 +83,7 @@ good_none setup = record {
 -- after a section of CPU c at buffer d a thread was woken there, has gone to sleep there as the section's caller, or is where it was
 pub data Moves (setup : Setup) (c : CpuId) (d : BufId) (u : Tid) (name : Name) (post now : Post) : Type 0 where
   was_woken : nat_lt u.0 THREADS ≡ true → sleeps_at d post ≡ true → now ≡ post_woken setup c u → Moves setup c d u name post now
-  has_slept : post ≡ Home → is_caller u name ≡ true → now ≡ bed d name → Moves setup c d u name post now
+  has_slept : post ≡ Home → is_caller u name ≡ true → now ≡ waiters_of d name → Moves setup c d u name post now
   stays : now ≡ post → Moves setup c d u name post now
 
 -- the caller of a section is at home, and its section is due
@@ -105,7 +105,7 @@ moves_buffer setup past c d name u k g callers pair =
     by_test (is_thread u (answer_of_buffer name k).woke) refl (answer_of_buffer name k).slept (is_caller u name) refl
   where
     by_test : (w : Bool) → is_thread u (answer_of_buffer name k).woke ≡ w → (slept : Bool) (mine : Bool) → is_caller u name ≡ mine
-        → Moves setup c d u name (post setup u past) (if w then post_woken setup c u else (if slept && mine then bed d name else post setup u past))
+        → Moves setup c d u name (post setup u past) (if w then post_woken setup c u else (if slept && mine then waiters_of d name else post setup u past))
     by_test true is slept mine own =
         let at = woken_sleeps d u k g (visit setup u past) (post setup u past) pair name is in
         was_woken at.0 at.1 refl
@@ -138,21 +138,21 @@ sleeps_no_wait b d side Home off on = refl
 sleeps_no_wait b d side (InHand c) off on = refl
 sleeps_no_wait b d side IsPending off on = refl
 
-bed_no_lock : (b d : BufId) (name : Name) → is_buffer b d ≡ false → is_lock b (bed d name) ≡ false
-bed_no_lock b d (WaitOn t side) off = refl
-bed_no_lock b d name off = off
+waiter_no_lock : (b d : BufId) (name : Name) → is_buffer b d ≡ false → is_lock b (waiters_of d name) ≡ false
+waiter_no_lock b d (WaitOn t side) off = refl
+waiter_no_lock b d name off = off
 
-bed_no_wait : (b d : BufId) (side : Side) (name : Name) → is_buffer b d ≡ false → is_wait b side (bed d name) ≡ false
-bed_no_wait b d side (WaitOn t other) off = and_left (is_buffer b d) (is_side side other) off
-bed_no_wait b d side name off = refl
+waiter_no_wait : (b d : BufId) (side : Side) (name : Name) → is_buffer b d ≡ false → is_wait b side (waiters_of d name) ≡ false
+waiter_no_wait b d side (WaitOn t other) off = and_left (is_buffer b d) (is_side side other) off
+waiter_no_wait b d side name off = refl
 
-pub bed_not_pending : (d : BufId) (name : Name) → is_pending (bed d name) ≡ false
-bed_not_pending d (WaitOn t side) = refl
-bed_not_pending d name = refl
+pub waiter_not_pending : (d : BufId) (name : Name) → is_pending (waiters_of d name) ≡ false
+waiter_not_pending d (WaitOn t side) = refl
+waiter_not_pending d name = refl
 
-pub bed_not_moved : (d : BufId) (name : Name) → is_moved (bed d name) ≡ false
-bed_not_moved d (WaitOn t side) = refl
-bed_not_moved d name = refl
+pub waiter_not_moved : (d : BufId) (name : Name) → is_moved (waiters_of d name) ≡ false
+waiter_not_moved d (WaitOn t side) = refl
+waiter_not_moved d name = refl
 
 pub woken_not_pending : (here : Bool) (c : CpuId) → is_pending (post_by here c) ≡ false
 woken_not_pending true c = refl
@@ -176,23 +176,23 @@ module _ (setup : Setup) (c : CpuId) (d : BufId) (u : Tid) (name : Name) (x now 
   no_lock_moves : (b : BufId) → is_buffer b d ≡ false → Moves setup c d u name x now → is_lock b now ≡ is_lock b x
   no_lock_moves b off (was_woken small sleeps is) =
       ap (is_lock b) is ∙ woken_no_lock b (same_cpu (home_of setup u) c) c ∙ sym (sleeps_no_lock b d x off sleeps)
-  no_lock_moves b off (has_slept home own is) = ap (is_lock b) is ∙ bed_no_lock b d name off ∙ ap (is_lock b) (sym home)
+  no_lock_moves b off (has_slept home own is) = ap (is_lock b) is ∙ waiter_no_lock b d name off ∙ ap (is_lock b) (sym home)
   no_lock_moves b off (stays is) = ap (is_lock b) is
 
   no_wait_moves : (b : BufId) (side : Side) → is_buffer b d ≡ false → Moves setup c d u name x now → is_wait b side now ≡ is_wait b side x
   no_wait_moves b side off (was_woken small sleeps is) =
       ap (is_wait b side) is ∙ woken_no_wait b side (same_cpu (home_of setup u) c) c ∙ sym (sleeps_no_wait b d side x off sleeps)
-  no_wait_moves b side off (has_slept home own is) = ap (is_wait b side) is ∙ bed_no_wait b d side name off ∙ ap (is_wait b side) (sym home)
+  no_wait_moves b side off (has_slept home own is) = ap (is_wait b side) is ∙ waiter_no_wait b d side name off ∙ ap (is_wait b side) (sym home)
   no_wait_moves b side off (stays is) = ap (is_wait b side) is
 
   no_pending_moves : Moves setup c d u name x now → is_pending now ≡ is_pending x
   no_pending_moves (was_woken small sleeps is) = ap is_pending is ∙ woken_not_pending (same_cpu (home_of setup u) c) c ∙ sym (sleeps_not_pending d x sleeps)
-  no_pending_moves (has_slept home own is) = ap is_pending is ∙ bed_not_pending d name ∙ ap is_pending (sym home)
+  no_pending_moves (has_slept home own is) = ap is_pending is ∙ waiter_not_pending d name ∙ ap is_pending (sym home)
   no_pending_moves (stays is) = ap is_pending is
 
   small_moves : Moves setup c d u name x now → (is_moved x ≡ true → nat_lt u.0 THREADS ≡ true) → is_moved now ≡ true → nat_lt u.0 THREADS ≡ true
   small_moves (was_woken small sleeps is) before on = small
-  small_moves (has_slept home own is) before on = refuted (ap is_moved is ∙ bed_not_moved d name) on
+  small_moves (has_slept home own is) before on = refuted (ap is_moved is ∙ waiter_not_moved d name) on
   small_moves (stays is) before on = before (ap is_moved (sym is) ∙ on)
 
   known_moves : Moves setup c d u name x now → (is_caller u name ≡ true → nat_lt u.0 (length setup.homes) ≡ true)

@@ -34,7 +34,7 @@ use Rattle.cpu.proofs.Wakeups.Posts.{IsDue, is_local, IsCallers, MayComeBy, MayC
 use Rattle.cpu.proofs.Wakeups.Pairs.{sleeps_at, woken_sleeps}
 use Rattle.cpu.proofs.Wakeups.Called.{Good, Moves, was_woken, has_slept, stays, moves_at, CallersAre, callers_are, is_the_caller, sleeps_not_home}
 use Rattle.cpu.proofs.Wakeups.Agreement.{owing_own, visit_of_stage, visit_of_call, is_last, is_done, Agrees, IsSettled, runs, home_is, hand_is, within}
-use Rattle.cpu.proofs.Wakeups.Sits.{IsCalling, section_caller, bed_not_hand, agrees_call, agrees_pended, agrees_drained}
+use Rattle.cpu.proofs.Wakeups.Sits.{IsCalling, section_caller, waiter_not_hand, agrees_call, agrees_pended, agrees_drained}
 use Rattle.cpu.proofs.Wakeups.Sits.{agrees_yielded, guest_calls, agrees_foreign, drained_hand}
 
 -- The locks' blocks are of their kinds.
@@ -96,7 +96,7 @@ module _ (setup : Setup) (past : List (Section Name)) (good : Good setup past) (
       not_here : (b : Bool) → is_hand c (post_by b e) ≡ false
       not_here true = refl
       not_here false = off
-  hands_moved d name u x now (has_slept home own is) = ap (is_hand c) is ∙ bed_not_hand c d name ∙ ap (is_hand c) (sym home)
+  hands_moved d name u x now (has_slept home own is) = ap (is_hand c) is ∙ waiter_not_hand c d name ∙ ap (is_hand c) (sym home)
   hands_moved d name u x now (stays is) = ap (is_hand c) is
 
   turns_moved : (d : BufId) (name : Name) (u : Tid) (o : Option Block)

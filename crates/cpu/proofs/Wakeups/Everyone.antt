@@ -33,7 +33,7 @@ use Rattle.cpu.proofs.Wakeups.Placed.{IsPlaced, buffer_there}
 use Rattle.cpu.proofs.Wakeups.Agreement.{seat}
 use Rattle.cpu.proofs.Wakeups.CpuStep.{pending_there}
 use Rattle.cpu.proofs.Wakeups.Reaching.{fair_good}
-use Rattle.cpu.proofs.Wakeups.Kept.{Kept, reached_kept, cpu_there}
+use Rattle.cpu.proofs.Wakeups.SystemInv.{SystemInv, reached_inv, cpu_there}
 
 -- Sums of the numbers below n.
 
@@ -41,7 +41,7 @@ count_all : (t : Tid) (f : ℕ → List Tid) (n : ℕ) → count_in t (all_of f 
 count_all t f zero = refl
 count_all t f (suc n) = count_append t (all_of f n) (f n) ∙ ap (λ m. m + count_in t (f n)) (count_all t f n)
 
-module _ (setup : Setup) (s : Whole) (homes : HomesExist setup) (kept : Kept setup s) (u : Tid) where
+module _ (setup : Setup) (s : Whole) (homes : HomesExist setup) (kept : SystemInv setup s) (u : Tid) where
   abbrev past : List (Section Name)
   past = sections_in s.log
 
@@ -298,4 +298,4 @@ module _ (setup : Setup) (s : Whole) (homes : HomesExist setup) (kept : Kept set
       by_known false off = unknown off
 
 pub stand_in_one_place : StandInOnePlace
-stand_in_one_place setup room s homes reached t = one_place setup s homes (reached_kept setup room s reached) t
+stand_in_one_place setup room s homes reached t = one_place setup s homes (reached_inv setup room s reached) t

@@ -12,12 +12,12 @@ use Rattle.guest.specs.declared.instructions.Instruction.{Instruction}
 use Rattle.guest.specs.declared.instructions.Instruction.TheVariants.{Set, Add, Sub, Jnz, Send, Recv, Close, Yield as YieldLine, Exit}
 use Rattle.layer_traits.specs.declared.steps.Reason.TheVariants.{AllEnded, TraceFull}
 use Rattle.layer_traits.specs.Plans.{is_in_section, reply}
-use Rattle.cpu.specs.Table.Blocks.{Name, Told, Nothing, Position, Done, WasClosed, DidShut, NotYet, Drained, Answer}
+use Rattle.cpu.specs.Table.Blocks.{Name, Reported, Nothing, Position, Done, WasClosed, DidShut, NotYet, Drained, Answer}
 use Rattle.cpu.specs.Table.Edits.{kernel}
 use Rattle.cpu.specs.Table.Setups.{Setup, CallStage, Acquires, Enters, Tries, Waits, AcquiresAgain, Signals, SignalsOwn, Releases, Returns}
 use Rattle.cpu.specs.Table.Setups.{Call, Private, thread_at, home_of, at_boot, opening, stands_at, home_threads, open_calls, have_ended}
 use Rattle.cpu.specs.Table.Choice.{asked, Choice, Halts, Alone, Goes, with_call, at_instruction, at_call, at_ready, at_current, at_hand, choice}
-use Rattle.cpu.specs.Table.Choice.{heard, heard_entry, heard_position, heard_shut, slept_if, woken, returned_at, returned_by}
+use Rattle.cpu.specs.Table.Choice.{recorded, recorded_entry, recorded_position, recorded_shut, slept_if, woken, returned_at, returned_by}
 use Rattle.cpu.specs.Table.Choice.{returned_in, settled, after_by, after_at, after_in, after_section}
 use Rattle.cpu.specs.Table.Steps.{after_reply, acting, chosen, step_in, cpu_step, Whole, cpu_numbered, system_step, IsReached, boots, steps}
 use Rattle.cpu.proofs.Wakeups.Lists.{refuted}
@@ -25,7 +25,7 @@ use Rattle.cpu.proofs.Wakeups.Agreement.{at_same, within, runs}
 use Rattle.cpu.proofs.Wakeups.Posts.{post, visit}
 use Rattle.cpu.proofs.Wakeups.Chosen.{ChoiceOk, choice_ok}
 use Rattle.cpu.proofs.Wakeups.Reaching.{Ok, get_set, get_set_other, boots_at, reached_sound, Sound}
-use Rattle.cpu.proofs.Wakeups.Kept.{NextIs, same, went, next_is}
+use Rattle.cpu.proofs.Wakeups.SystemInv.{NextIs, same, went, next_is}
 
 abbrev pub IsFilled : Private → Type 0
 IsFilled p = (t : Tid) → is_some p.hand ≡ true → p.current ≡ Some t → is_some (thread_at p t).call ≡ true
@@ -49,36 +49,36 @@ module _ (setup : Setup) (c : CpuId) where
       by_call (Some call) = by_stage call call.stage
 
   -- the call of a thread that has heard is there, and it runs with the hand as it was
-  record HeardSome (p q : Private) (t : Tid) : Type 0 where
+  record RecordedSome (p q : Private) (t : Tid) : Type 0 where
     pub hand : q.hand ≡ p.hand
     pub current : q.current ≡ p.current
     pub some : is_some (thread_at q t).call ≡ true
 
-  called : (p : Private) (t : Tid) (call : Call) → t.0 < length p.threads → HeardSome p (with_call p t (Some call)) t
+  called : (p : Private) (t : Tid) (call : Call) → t.0 < length p.threads → RecordedSome p (with_call p t (Some call)) t
   called p t call known = record {
     hand = refl;
     current = refl;
     some = ap (λ y. is_some y.call) (at_same p t (record (thread_at p t) { call = Some call }) known);
   }
 
-  heard_some : (p : Private) (t : Tid) (call : Call) → t.0 < length p.threads → (thread_at p t).call ≡ Some call
-      → (stage : CallStage) (told : Told) → HeardSome p (heard c p t call stage told) t
-  heard_some p t call known is Acquires told = called p t _ known
-  heard_some p t call known is Enters told = by_asks call.asks told
+  recorded_some : (p : Private) (t : Tid) (call : Call) → t.0 < length p.threads → (thread_at p t).call ≡ Some call
+      → (stage : CallStage) (told : Reported) → RecordedSome p (recorded c p t call stage told) t
+  recorded_some p t call known is Acquires told = called p t _ known
+  recorded_some p t call known is Enters told = by_asks call.asks told
     where
-      stays : HeardSome p p t
+      stays : RecordedSome p p t
       stays = record { hand = refl; current = refl; some = ap is_some is }
 
-      by_told : (told : Told) → HeardSome p (heard_position p t call told) t
-      by_told (Position pos) = called p t _ known
-      by_told Nothing = stays
-      by_told (Done op m) = stays
-      by_told (WasClosed op) = stays
-      by_told (DidShut op pos) = stays
-      by_told NotYet = stays
-      by_told (Drained threads) = stays
+      by_report : (told : Reported) → RecordedSome p (recorded_position p t call told) t
+      by_report (Position pos) = called p t _ known
+      by_report Nothing = stays
+      by_report (Done op m) = stays
+      by_report (WasClosed op) = stays
+      by_report (DidShut op pos) = stays
+      by_report NotYet = stays
+      by_report (Drained threads) = stays
 
-      by_shut : (told : Told) → HeardSome p (heard_shut c p t call told) t
+      by_shut : (told : Reported) → RecordedSome p (recorded_shut c p t call told) t
       by_shut (DidShut op pos) =
           let now = called p t (record call { position = pos; effect = Some op; stage = Signals }) known in
           record { hand = now.hand; current = now.current; some = now.some }
@@ -89,29 +89,29 @@ module _ (setup : Setup) (c : CpuId) where
       by_shut NotYet = stays
       by_shut (Drained threads) = stays
 
-      by_asks : (asks : Group) (told : Told) → HeardSome p (heard_entry c p t call asks told) t
-      by_asks Sends told = by_told told
-      by_asks Receives told = by_told told
+      by_asks : (asks : Group) (told : Reported) → RecordedSome p (recorded_entry c p t call asks told) t
+      by_asks Sends told = by_report told
+      by_asks Receives told = by_report told
       by_asks Closes told = by_shut told
-  heard_some p t call known is Tries (Done op m) =
+  recorded_some p t call known is Tries (Done op m) =
       let now = called p t (record call { message = m; effect = Some op; stage = Signals }) known in
       record { hand = now.hand; current = now.current; some = now.some }
-  heard_some p t call known is Tries (WasClosed op) =
+  recorded_some p t call known is Tries (WasClosed op) =
       let now = called p t (record call { closed = true; effect = Some op; stage = Signals }) known in
       record { hand = now.hand; current = now.current; some = now.some }
-  heard_some p t call known is Tries NotYet = called p t _ known
-  heard_some p t call known is Tries Nothing = record { hand = refl; current = refl; some = ap is_some is }
-  heard_some p t call known is Tries (Position pos) = record { hand = refl; current = refl; some = ap is_some is }
-  heard_some p t call known is Tries (DidShut op pos) = record { hand = refl; current = refl; some = ap is_some is }
-  heard_some p t call known is Tries (Drained threads) = record { hand = refl; current = refl; some = ap is_some is }
-  heard_some p t call known is Waits told = called p t _ known
-  heard_some p t call known is AcquiresAgain told = called p t _ known
-  heard_some p t call known is Signals told = called p t _ known
-  heard_some p t call known is SignalsOwn told = called p t _ known
-  heard_some p t call known is Releases told = called p t _ known
-  heard_some p t call known is Returns told = record { hand = refl; current = refl; some = ap is_some is }
+  recorded_some p t call known is Tries NotYet = called p t _ known
+  recorded_some p t call known is Tries Nothing = record { hand = refl; current = refl; some = ap is_some is }
+  recorded_some p t call known is Tries (Position pos) = record { hand = refl; current = refl; some = ap is_some is }
+  recorded_some p t call known is Tries (DidShut op pos) = record { hand = refl; current = refl; some = ap is_some is }
+  recorded_some p t call known is Tries (Drained threads) = record { hand = refl; current = refl; some = ap is_some is }
+  recorded_some p t call known is Waits told = called p t _ known
+  recorded_some p t call known is AcquiresAgain told = called p t _ known
+  recorded_some p t call known is Signals told = called p t _ known
+  recorded_some p t call known is SignalsOwn told = called p t _ known
+  recorded_some p t call known is Releases told = called p t _ known
+  recorded_some p t call known is Returns told = record { hand = refl; current = refl; some = ap is_some is }
 
-  some_inside : (p q : Private) (t : Tid) → p.current ≡ Some t → HeardSome p q t → (slept : Bool) → (u : Tid)
+  some_inside : (p q : Private) (t : Tid) → p.current ≡ Some t → RecordedSome p q t → (slept : Bool) → (u : Tid)
       → (slept_if slept q).current ≡ Some u → is_some (thread_at (slept_if slept q) u).call ≡ true
   some_inside p q t runs_now now true u at = none_some at
     where
@@ -145,10 +145,10 @@ module _ (setup : Setup) (c : CpuId) where
       by_call : p.hand ≡ None → (t : Tid) → p.current ≡ Some t → (call : Option Call) → (thread_at p t).call ≡ call → IsFilled (after_by setup c p t call a)
       by_call empty t runs_now None is = empty_filled (after_by setup c p t None a) empty
       by_call empty t runs_now (Some call) is =
-          let now = heard_some p t call (known t runs_now) is call.stage a.told in
-          filled_woken a.woke (slept_if a.slept (heard c p t call call.stage a.told))
-          (slept_hand a.slept (heard c p t call call.stage a.told) (now.hand ∙ empty))
-          (some_inside p (heard c p t call call.stage a.told) t runs_now now a.slept)
+          let now = recorded_some p t call (known t runs_now) is call.stage a.told in
+          filled_woken a.woke (slept_if a.slept (recorded c p t call call.stage a.told))
+          (slept_hand a.slept (recorded c p t call call.stage a.told) (now.hand ∙ empty))
+          (some_inside p (recorded c p t call call.stage a.told) t runs_now now a.slept)
 
       by_current : p.hand ≡ None → (current : Option Tid) → p.current ≡ current → IsFilled (after_at setup c p current a)
       by_current empty None idle = empty_filled (after_at setup c p None a) empty

@@ -24,18 +24,19 @@ use Rattle.cpu.specs.Table.Setups.{Setup}
 use Rattle.cpu.specs.Wakeups.Order.{Progress, Begins, HasEntered, WasRefused, Owes, progress_after}
 use Rattle.cpu.specs.Wakeups.Order.{receivers_signalled, senders_signalled, MayTry, IsOwing, MayEdit}
 use Rattle.cpu.proofs.Wakeups.Lists.{refuted, first_is}
-use Rattle.cpu.proofs.Wakeups.Posts.{Post, Home, AtLock, AtWait, Doing, GotIt, Trying, Failed, Waiting, Owing, Visit, Outside, In}
+use Rattle.cpu.proofs.Wakeups.Posts.{Post, Home, AtLock, AtWait, CallPhase, GotIt, Trying, Failed, Waiting, Owing, Visit, Outside, In}
 use Rattle.cpu.proofs.Wakeups.Posts.{is_buffer, is_lock, is_wait, names, goes_on, is_inside, starts_here, stands, is_lined, InStep}
-use Rattle.cpu.proofs.Wakeups.Posts.{caller_in, is_caller, bed, post_woken, post_slept, post_moved, acquired_visit, next_visit, visit_moved, IsDue, marked}
+use Rattle.cpu.proofs.Wakeups.Posts.{caller_in, is_caller, waiters_of, post_woken, post_slept}
+use Rattle.cpu.proofs.Wakeups.Posts.{post_moved, acquired_visit, next_visit, visit_moved, IsDue, marked}
 use Rattle.cpu.proofs.Wakeups.Pairs.{Pair, marked_none, marked_most, buffer_self, grown_list, first_left, signal_left, front_counted, woken_sleeps}
 
 -- where the section that is due to a thread may come, it is in order
-inside_owns : (b : BufId) (t : Tid) (k : Buffer) (g : Progress) (d : BufId) (doing : Doing)
-    → goes_on (In b doing) ≡ true → d ≡ b → Pair b t k g (In d doing) Home
-    → (k.busy ≡ Some t) × InStep (In b doing) g
-inside_owns b t k g d doing goes same pair =
-    let now : Pair b t k g (In b doing) Home = subst (λ x. Pair b t k g (In x doing) Home) same pair in
-    let owner : k.busy ≡ Some t = now.inside (and_from (is_buffer b b) (goes_on (In b doing)) (buffer_self b) goes) refl in
+inside_owns : (b : BufId) (t : Tid) (k : Buffer) (g : Progress) (d : BufId) (call_phase : CallPhase)
+    → goes_on (In b call_phase) ≡ true → d ≡ b → Pair b t k g (In d call_phase) Home
+    → (k.busy ≡ Some t) × InStep (In b call_phase) g
+inside_owns b t k g d call_phase goes same pair =
+    let now : Pair b t k g (In b call_phase) Home = subst (λ x. Pair b t k g (In x call_phase) Home) same pair in
+    let owner : k.busy ≡ Some t = now.inside (and_from (is_buffer b b) (goes_on (In b call_phase)) (buffer_self b) goes) refl in
     (owner, (now.owner owner).1)
 
 not_outside : (b : BufId) (t : Tid) (k : Buffer) (g : Progress) (visit : Visit) → goes_on visit ≡ false → Pair b t k g visit Home → k.busy ≢ Some t
@@ -133,13 +134,13 @@ module _ (b : BufId) (u : Tid) where
   own_acquire k g o visit is idle due pair = absurd due
 
   -- the pair of a thread that has the lock and goes on, from its places in the two lines
-  at_work : (k : Buffer) (g h : Progress) (before doing : Doing) (sends receives : List Tid)
-      → k.busy ≡ Some u → goes_on (In b doing) ≡ true → InStep (In b doing) h
+  at_work : (k : Buffer) (g h : Progress) (before call_phase : CallPhase) (sends receives : List Tid)
+      → k.busy ≡ Some u → goes_on (In b call_phase) ≡ true → InStep (In b call_phase) h
       → Pair b u k g (In b before) Home
-      → count_in u sends ≡ marked u (is_lined b Senders (In b doing)) → count_in u receives ≡ marked u (is_lined b Receivers (In b doing))
-      → Pair b u (record k { send_line = sends; receive_line = receives }) h (In b doing) Home
-  at_work k g h before doing sends receives owner goes step pair in_sends in_receives = record {
-    owner = λ e. (and_from (is_buffer b b) (goes_on (In b doing)) (buffer_self b) goes, step, refl);
+      → count_in u sends ≡ marked u (is_lined b Senders (In b call_phase)) → count_in u receives ≡ marked u (is_lined b Receivers (In b call_phase))
+      → Pair b u (record k { send_line = sends; receive_line = receives }) h (In b call_phase) Home
+  at_work k g h before call_phase sends receives owner goes step pair in_sends in_receives = record {
+    owner = λ e. (and_from (is_buffer b b) (goes_on (In b call_phase)) (buffer_self b) goes, step, refl);
     inside = λ ins awake. owner;
     starts = λ on. absurd (cc on);
     sleepers = pair.sleepers;
@@ -162,11 +163,11 @@ module _ (b : BufId) (u : Tid) where
     receive_line = pair.receive_line;
   }
 
-  unlined : (doing : Doing) (side : Side) → stands side (In b doing) ≡ false → marked u (is_lined b side (In b doing)) ≡ 0
-  unlined doing side off = marked_none u (is_buffer b b && stands side (In b doing)) (and_right (is_buffer b b) (stands side (In b doing)) off)
+  unlined : (call_phase : CallPhase) (side : Side) → stands side (In b call_phase) ≡ false → marked u (is_lined b side (In b call_phase)) ≡ 0
+  unlined call_phase side off = marked_none u (is_buffer b b && stands side (In b call_phase)) (and_right (is_buffer b b) (stands side (In b call_phase)) off)
 
-  lined : (doing : Doing) (side : Side) → stands side (In b doing) ≡ true → marked u (is_lined b side (In b doing)) ≡ marked u true
-  lined doing side on = ap (marked u) (and_from (is_buffer b b) (stands side (In b doing)) (buffer_self b) on)
+  lined : (call_phase : CallPhase) (side : Side) → stands side (In b call_phase) ≡ true → marked u (is_lined b side (In b call_phase)) ≡ marked u true
+  lined call_phase side on = ap (marked u) (and_from (is_buffer b b) (stands side (In b call_phase)) (buffer_self b) on)
 
   -- a line that the thread enters, or may not enter since it is no thread's number
   entered_list : (line : List Tid) (joins : Bool) → may_join u line ≡ joins → count_in u line ≡ 0
@@ -318,7 +319,8 @@ module _ (b : BufId) (u : Tid) where
   own_at : (name : Name) (k : Buffer) (g : Progress) (visit : Visit) → caller_in name ≡ Some u
       → (k.busy ≡ None → g ≡ Begins) → MayEdit name k g → IsDue b name visit
       → Pair b u k g visit Home
-      → Pair b u (edited_buffer name k) (progress_after name k g) (next_visit b name k visit) (if (answer_of_buffer name k).slept then bed b name else Home)
+      → Pair b u (edited_buffer name k) (progress_after name k g) (next_visit b name k visit) (if
+      (answer_of_buffer name k).slept then waiters_of b name else Home)
   own_at (AcqQ t) k g visit is idle may due pair =
       subst (λ v. IsDue b (AcqQ v) visit → Pair b u (acquired v k.busy k) g (acquired_visit b visit)
       (if (answer_of_acquire k.busy).slept then AtLock b else Home))
@@ -382,11 +384,11 @@ module _ (b : BufId) (u : Tid) where
       let calls : is_caller u name ≡ true = ap (is_thread u) is ∙ same_tid_self u in
       let at_visit : visit_moved b u name k visit ≡ next_visit b name k visit = ap (λ d. if d then next_visit b name k visit else visit) calls in
       let slept = (answer_of_buffer name k).slept in
-      let at_post : post_moved setup c b u name slept (answer_of_buffer name k).woke post ≡ (if slept then bed b name else Home) =
+      let at_post : post_moved setup c b u name slept (answer_of_buffer name k).woke post ≡ (if slept then waiters_of b name else Home) =
       ap (λ w. if w then post_woken setup c u else post_slept b u name slept post) (not_woken name k g visit pair)
-      ∙ ap (λ d. if slept && d then bed b name else post) calls
-      ∙ ap (λ d. if d then bed b name else post) (and-true slept)
-      ∙ ap (λ x. if slept then bed b name else x) here in
+      ∙ ap (λ d. if slept && d then waiters_of b name else post) calls
+      ∙ ap (λ d. if d then waiters_of b name else post) (and-true slept)
+      ∙ ap (λ x. if slept then waiters_of b name else x) here in
       subst (λ z. Pair b u (edited_buffer name k) (progress_after name k g) z (post_moved setup c b u name slept (answer_of_buffer name k).woke post))
       (sym at_visit)
       (subst (λ x. Pair b u (edited_buffer name k) (progress_after name k g) (next_visit b name k visit) x)

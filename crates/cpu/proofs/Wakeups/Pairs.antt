@@ -28,7 +28,7 @@ use Rattle.cpu.specs.Wakeups.Order.{Progress, Begins, HasEntered, WasRefused, Ow
 use Rattle.cpu.proofs.Wakeups.Lists.{refuted, none_is_not, first_is}
 use Rattle.cpu.proofs.Wakeups.Posts.{Post, Home, InHand, IsPending, AtLock, AtWait, GotIt, Trying, Failed, Waiting, Owing, Visit, Outside, In}
 use Rattle.cpu.proofs.Wakeups.Posts.{is_buffer, is_side, is_lock, is_wait, is_asleep, is_inside, is_starting, is_lined, InStep}
-use Rattle.cpu.proofs.Wakeups.Posts.{is_caller, bed, post_by, post_woken, post_moved, next_visit, visit_moved, marked}
+use Rattle.cpu.proofs.Wakeups.Posts.{is_caller, waiters_of, post_by, post_woken, post_moved, next_visit, visit_moved, marked}
 
 pub record Pair (b : BufId) (u : Tid) (k : Buffer) (g : Progress) (visit : Visit) (post : Post) : Type 0 where
   -- who owns the lock is inside and awake, and the owner's progress is what its visit says
@@ -513,7 +513,7 @@ other_section setup c b u TakeAll k g visit post other may pair = absurd may
 post_of_other : (setup : Setup) (c : CpuId) (b : BufId) (u : Tid) (name : Name) (slept : Bool) (woke : Option Tid) (x : Post) → is_caller u name ≡ false
     → post_moved setup c b u name slept woke x ≡ (if is_thread u woke then post_woken setup c u else x)
 post_of_other setup c b u name slept woke x other =
-    ap (λ d. if is_thread u woke then post_woken setup c u else (if d then bed b name else x)) (and_right slept (is_caller u name) other)
+    ap (λ d. if is_thread u woke then post_woken setup c u else (if d then waiters_of b name else x)) (and_right slept (is_caller u name) other)
 
 -- a section of another thread on the buffer keeps the pair
 pub other_pair : (setup : Setup) (c : CpuId) (b : BufId) (u : Tid) (name : Name) (k : Buffer) (g : Progress) (visit : Visit) (post : Post)

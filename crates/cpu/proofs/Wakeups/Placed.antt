@@ -18,7 +18,7 @@ use Rattle.cpu.specs.Table.Edits.{edited, answer_of_buffer}
 use Rattle.cpu.specs.Table.Setups.{Setup, home_of, opening_buffer}
 use Rattle.cpu.specs.Wakeups.Order.{block_of}
 use Rattle.cpu.proofs.Wakeups.Posts.{Post, Home, InHand, IsPending, AtLock, AtWait, Waiting, Visit, Outside, In}
-use Rattle.cpu.proofs.Wakeups.Posts.{is_caller, bed, post_by, post_woken, post_drained, post_pending, post_buffer, post, next_visit, visit_buffer, visit}
+use Rattle.cpu.proofs.Wakeups.Posts.{is_caller, waiters_of, post_by, post_woken, post_drained, post_pending, post_buffer, post, next_visit, visit_buffer, visit}
 use Rattle.cpu.proofs.Wakeups.Posts.{MayComeTo, MayComeAt}
 use Rattle.cpu.proofs.Wakeups.Called.{CallersAre, callers_are, is_the_caller}
 
@@ -33,7 +33,7 @@ IsPlaced setup visit (AtWait b side) = (b.0 < length setup.caps) × (visit ≡ I
 -- who is inside a call has a home
 abbrev pub HasHome : Setup → Tid → Visit → Type 0
 HasHome setup u Outside = Unit {0}
-HasHome setup u (In b doing) = nat_lt u.0 (length setup.homes) ≡ true
+HasHome setup u (In b call_phase) = nat_lt u.0 (length setup.homes) ≡ true
 
 pub record Placed (setup : Setup) (past : List (Section Name)) : Type 0 where
   pub posts : (u : Tid) → IsPlaced setup (visit setup u past) (post setup u past)
@@ -77,23 +77,23 @@ placed_by setup visit true c within = tt
 placed_by setup visit false c within = within
 
 -- only those that ask for the lock or wait are put to sleep
-placed_bed : (setup : Setup) (d : BufId) (name : Name) (k : Buffer) (visit : Visit) → d.0 < length setup.caps
-    → IsPlaced setup (next_visit d name k visit) (bed d name)
-placed_bed setup d (AcqQ t) k visit within = within
-placed_bed setup d (Enter t side) k visit within = within
-placed_bed setup d (TryPut t m) k visit within = within
-placed_bed setup d (TryTake t) k visit within = within
-placed_bed setup d (Shut t) k visit within = within
-placed_bed setup d (WaitOn t side) k visit within = (within, refl)
-placed_bed setup d (SigRecv t) k visit within = within
-placed_bed setup d (SigSend t) k visit within = within
-placed_bed setup d (RelQ t) k visit within = within
-placed_bed setup d (Pend s) k visit within = within
-placed_bed setup d TakeAll k visit within = within
+placed_waiters : (setup : Setup) (d : BufId) (name : Name) (k : Buffer) (visit : Visit) → d.0 < length setup.caps
+    → IsPlaced setup (next_visit d name k visit) (waiters_of d name)
+placed_waiters setup d (AcqQ t) k visit within = within
+placed_waiters setup d (Enter t side) k visit within = within
+placed_waiters setup d (TryPut t m) k visit within = within
+placed_waiters setup d (TryTake t) k visit within = within
+placed_waiters setup d (Shut t) k visit within = within
+placed_waiters setup d (WaitOn t side) k visit within = (within, refl)
+placed_waiters setup d (SigRecv t) k visit within = within
+placed_waiters setup d (SigSend t) k visit within = within
+placed_waiters setup d (RelQ t) k visit within = within
+placed_waiters setup d (Pend s) k visit within = within
+placed_waiters setup d TakeAll k visit within = within
 
 has_home : (setup : Setup) (u : Tid) (visit : Visit) → nat_lt u.0 (length setup.homes) ≡ true → HasHome setup u visit
 has_home setup u Outside known = tt
-has_home setup u (In b doing) known = known
+has_home setup u (In b call_phase) known = known
 
 module _ (setup : Setup) (past : List (Section Name)) (placed : Placed setup past) (c : CpuId) (within : c.0 < setup.cpus)
     (d : BufId) (name : Name) (callers : CallersAre setup past c d name) where
@@ -108,9 +108,9 @@ module _ (setup : Setup) (past : List (Section Name)) (placed : Placed setup pas
     where
       by_test : (w slept mine : Bool) → is_caller u name ≡ mine
           → IsPlaced setup (if mine then next_visit d name k (visit setup u past) else visit setup u past)
-          (if w then post_woken setup c u else (if slept && mine then bed d name else post setup u past))
+          (if w then post_woken setup c u else (if slept && mine then waiters_of d name else post setup u past))
       by_test true slept mine own = placed_by setup _ (same_cpu (home_of setup u) c) c within
-      by_test false true true own = placed_bed setup d name k (visit setup u past) (buffer_within setup d past k is)
+      by_test false true true own = placed_waiters setup d name k (visit setup u past) (buffer_within setup d past k is)
       by_test false false true own =
           subst (IsPlaced setup (next_visit d name k (visit setup u past))) (sym (callers u (is_the_caller u name own)).here) tt
       by_test false true false own = placed.posts u

@@ -27,17 +27,17 @@ pub data Post : Type 0 where
   AtWait : (buffer : BufId) (side : Side) → Post
 
 -- what a thread does inside a call: it has the lock and enters or closes next, tries next, tried in vain, waits, or owes these signals
-pub data Doing : Type 0 where
-  GotIt : Doing
-  Trying : (side : Side) → Doing
-  Failed : (side : Side) → Doing
-  Waiting : (side : Side) → Doing
-  Owing : (receivers senders : Bool) → Doing
+pub data CallPhase : Type 0 where
+  GotIt : CallPhase
+  Trying : (side : Side) → CallPhase
+  Failed : (side : Side) → CallPhase
+  Waiting : (side : Side) → CallPhase
+  Owing : (receivers senders : Bool) → CallPhase
 
 -- whether a thread is inside a call, as its sections tell, at which buffer, and what it does there
 pub data Visit : Type 0 where
   Outside : Visit
-  In : (buffer : BufId) (doing : Doing) → Visit
+  In : (buffer : BufId) (call_phase : CallPhase) → Visit
 
 abbrev pub is_buffer : BufId → BufId → Bool
 is_buffer b d = b.0 == d.0
@@ -104,7 +104,7 @@ is_moved (AtWait d side) = false
 
 abbrev pub names : BufId → Visit → Bool
 names b Outside = false
-names b (In d doing) = is_buffer b d
+names b (In d call_phase) = is_buffer b d
 
 -- it owns the lock, or will own it before it does anything else
 abbrev pub goes_on : Visit → Bool
@@ -171,9 +171,9 @@ abbrev pub is_caller : Tid → Name → Bool
 is_caller u name = is_thread u (caller_in name)
 
 -- where a caller sleeps
-abbrev pub bed : BufId → Name → Post
-bed b (WaitOn t side) = AtWait b side
-bed b name = AtLock b
+abbrev pub waiters_of : BufId → Name → Post
+waiters_of b (WaitOn t side) = AtWait b side
+waiters_of b name = AtLock b
 
 abbrev pub post_by : Bool → CpuId → Post
 post_by here c = if here then Home else InHand c
@@ -183,7 +183,7 @@ abbrev pub post_woken : Setup → CpuId → Tid → Post
 post_woken setup c u = post_by (same_cpu (home_of setup u) c) c
 
 abbrev pub post_slept : BufId → Tid → Name → Bool → Post → Post
-post_slept b u name slept x = if slept && is_caller u name then bed b name else x
+post_slept b u name slept x = if slept && is_caller u name then waiters_of b name else x
 
 abbrev pub post_moved : Setup → CpuId → BufId → Tid → Name → Bool → Option Tid → Post → Post
 post_moved setup c b u name slept woke x = if is_thread u woke then post_woken setup c u else post_slept b u name slept x

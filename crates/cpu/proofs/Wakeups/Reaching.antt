@@ -9,7 +9,7 @@ use Rattle.event_log.specs.declared.ids.Tid.{Tid}
 use Rattle.event_log.specs.declared.ids.LockId.{LockId}
 use Rattle.event_log.specs.History.{same_cpu, IsLawful}
 use Rattle.event_log.specs.Sections.{sections_in}
-use Rattle.event_log.specs.Actions.{Action, Take, Try, Give, Phase, Rests, Waits as WaitsAt, Holds, phase, doer, spot_of, gives, action_in}
+use Rattle.event_log.specs.Actions.{Action, Take, Try, Give, Phase, Rests, Waits as WaitsAt, Holds, phase, cpu_of_action, spot_of, gives, action_in}
 use Rattle.event_log.proofs.Same.{same_cpu_true}
 use Rattle.event_log.proofs.Exclusion.{phase_own, phase_other}
 use Rattle.layer_traits.specs.declared.steps.Step.{Step}
@@ -80,7 +80,7 @@ no_lock {A = A} {lock = lock} is = absurd (cc is)
 -- each of these actions is the CPU's
 abbrev pub AllDo : CpuId → List (Action Name) → Type 0
 AllDo c [] = Unit {0}
-AllDo c (a ∷ acts) = (doer a ≡ c) × AllDo c acts
+AllDo c (a ∷ acts) = (cpu_of_action a ≡ c) × AllDo c acts
 
 pub record StepOk (setup : Setup) (c : CpuId) (log : List (Action Name)) (o : Outcome Private Name) : Type 0 where
   pub fair : IsFairLog setup (o.acts ++ log)
@@ -166,7 +166,7 @@ module _ (setup : Setup) (c : CpuId) (log : List (Action Name)) (fair : IsFairLo
 
 -- an action of another CPU
 pub ok_beside : (setup : Setup) (e : CpuId) (p : Private) (log : List (Action Name)) (a : Action Name)
-    → same_cpu (doer a) e ≡ false → IsFairLog setup log → IsFair setup log a
+    → same_cpu (cpu_of_action a) e ≡ false → IsFairLog setup log → IsFair setup log a
     → Ok setup e p log → Ok setup e p (a ∷ log)
 ok_beside setup e p log (Take cpu lock) off fair may ok = record {
   agrees = ok.agrees;

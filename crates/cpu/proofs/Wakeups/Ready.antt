@@ -22,12 +22,12 @@ use Rattle.layer_traits.specs.declared.steps.Reason.{Reason}
 use Rattle.layer_traits.specs.declared.steps.Reason.TheVariants.{AllEnded, TraceFull}
 use Rattle.layer_traits.specs.declared.locked.Side.TheVariants.{Receivers, Senders}
 use Rattle.layer_traits.specs.BufferBlocks.{is_first, first_item, items_put, other_items}
-use Rattle.cpu.specs.Table.Blocks.{Buffer, OfBuffer, Told, Done, WasClosed, DidShut, NotYet, front, front_stands_in, side_of}
-use Rattle.cpu.specs.Table.Edits.{can_put, can_take, due_receiver, due_sender, entered, put, taken, shut, told_put, told_take}
-use Rattle.cpu.specs.Table.Edits.{tells, wakes, edited_buffer, answer_of_buffer}
+use Rattle.cpu.specs.Table.Blocks.{Buffer, OfBuffer, Reported, Done, WasClosed, DidShut, NotYet, front, front_stands_in, side_of}
+use Rattle.cpu.specs.Table.Edits.{can_put, can_take, due_receiver, due_sender, entered, put, taken, shut, report_of_put, report_of_take}
+use Rattle.cpu.specs.Table.Edits.{reports, wakes, edited_buffer, answer_of_buffer}
 use Rattle.cpu.specs.Table.Setups.{Setup, Enters, Tries, Signals, Call, Private, thread_at, stands_at, home_threads, open_calls, have_ended}
 use Rattle.cpu.specs.Table.Choice.{Halts, Goes, new_call, with_call, begins, at_instruction, at_call, at_current, at_hand, choice}
-use Rattle.cpu.specs.Table.Choice.{first_signal, second_signal, effected, entry_of, heard_try}
+use Rattle.cpu.specs.Table.Choice.{first_signal, second_signal, effected, entry_of, recorded_try}
 use Rattle.cpu.specs.Table.Steps.{Whole, IsReached, block_at, halted_by, steps_by}
 use Rattle.cpu.specs.Wakeups.Lost.{Allows}
 use Rattle.cpu.specs.Wakeups.Order.{progress}
@@ -169,7 +169,7 @@ module _ (setup : Setup) (room : ℕ) (s : Whole) (c : CpuId) (p : Private) (t :
   room_now [] m capacity fits some = absurd (cc some)
   room_now (x ∷ items) m capacity fits some = lt-ltb (length items) capacity (omega (arith, fits))
 
-  taken_now : (items : List Message) (m : Message) (op : ℕ) → slice_get items 0 ≡ Some m → told_take items op ≡ Done op (first_item items)
+  taken_now : (items : List Message) (m : Message) (op : ℕ) → slice_get items 0 ≡ Some m → report_of_take items op ≡ Done op (first_item items)
   taken_now [] m op some = absurd (cc some)
   taken_now (x ∷ items) m op some = refl
 
@@ -197,35 +197,35 @@ module _ (setup : Setup) (room : ℕ) (s : Whole) (c : CpuId) (p : Private) (t :
     none = free_locks_have_no_sleepers setup room s reached b k block free
 
     -- a send has its effect, and its signals are due
-    sent : (m : Message) (told : Told) (now : Call) → choice setup c p ≡ Goes (with_call p t (Some (new_call Sends b m)))
-        → k.send_line ≡ [] → can_put k ≡ true → told_put k.closed k.effects m ≡ told → b ≡ now.buffer
-        → ((q : Private) → heard_try c q t (queued Sends b m k.send_positions) told ≡ effected c q t now k.effects)
+    sent : (m : Message) (told : Reported) (now : Call) → choice setup c p ≡ Goes (with_call p t (Some (new_call Sends b m)))
+        → k.send_line ≡ [] → can_put k ≡ true → report_of_put k.closed k.effects m ≡ told → b ≡ now.buffer
+        → ((q : Private) → recorded_try c q t (queued Sends b m k.send_positions) told ≡ effected c q t now k.effects)
         → Gets setup c t s 9 (put m (entered t Senders (record k { busy = Some t }))) (record now { effect = Some k.effects; stage = Signals })
         (p.trace ++ entry_of c t now k.effects now.message ∷ []) 12
-    sent m told now goes line can tells_so same_buffer heard_so =
+    sent m told now goes line can tells_so same_buffer recorded_so =
         let call = new_call Sends b m in
         let got = acquires setup c t s 0 18 k call p.trace free (first_gets Sends b k m goes space block) in
         let entered_now = enters_send setup c t small s 3 15 (record k { busy = Some t }) call p.trace line got in
         let may = first_after k.send_line (can_put k) line can in
         let at = entered t Senders (record k { busy = Some t }) in
         tries setup c t s 6 12 at (put m at) (queued Sends b m k.send_positions) now p.trace told same_buffer
-        (ap (λ d. tells (if d then told_put k.closed k.effects m else NotYet)) may ∙ ap tells tells_so)
-        (ap (λ d. if d then put m at else at) may) heard_so entered_now
+        (ap (λ d. reports (if d then report_of_put k.closed k.effects m else NotYet)) may ∙ ap reports tells_so)
+        (ap (λ d. if d then put m at else at) may) recorded_so entered_now
 
-    received : (m : Message) (told : Told) (now : Call) → choice setup c p ≡ Goes (with_call p t (Some (new_call Receives b m)))
-        → k.receive_line ≡ [] → can_take k ≡ true → told_take k.items k.effects ≡ told → b ≡ now.buffer
-        → ((q : Private) → heard_try c q t (queued Receives b m k.receive_positions) told ≡ effected c q t now k.effects)
+    received : (m : Message) (told : Reported) (now : Call) → choice setup c p ≡ Goes (with_call p t (Some (new_call Receives b m)))
+        → k.receive_line ≡ [] → can_take k ≡ true → report_of_take k.items k.effects ≡ told → b ≡ now.buffer
+        → ((q : Private) → recorded_try c q t (queued Receives b m k.receive_positions) told ≡ effected c q t now k.effects)
         → Gets setup c t s 9 (taken (entered t Receivers (record k { busy = Some t }))) (record now { effect = Some k.effects; stage = Signals })
         (p.trace ++ entry_of c t now k.effects now.message ∷ []) 12
-    received m told now goes line can tells_so same_buffer heard_so =
+    received m told now goes line can tells_so same_buffer recorded_so =
         let call = new_call Receives b m in
         let got = acquires setup c t s 0 18 k call p.trace free (first_gets Receives b k m goes space block) in
         let entered_now = enters_receive setup c t small s 3 15 (record k { busy = Some t }) call p.trace line got in
         let may = first_after k.receive_line (can_take k) line can in
         let at = entered t Receivers (record k { busy = Some t }) in
         tries setup c t s 6 12 at (taken at) (queued Receives b m k.receive_positions) now p.trace told same_buffer
-        (ap (λ d. tells (if d then told_take k.items k.effects else NotYet)) may ∙ ap tells tells_so)
-        (ap (λ d. if d then taken at else at) may) heard_so entered_now
+        (ap (λ d. reports (if d then report_of_take k.items k.effects else NotYet)) may ∙ ap reports tells_so)
+        (ap (λ d. if d then taken at else at) may) recorded_so entered_now
 
     -- the signals of a send, whose own line is empty, and of a receive
     sent_back : (m : Message) (now : Call) (traced : List Entry) (woke : Option Tid) → now.asks ≡ Sends
@@ -281,7 +281,7 @@ module _ (setup : Setup) (room : ℕ) (s : Whole) (c : CpuId) (p : Private) (t :
         let now = record (queued Sends b begin.0 k.send_positions) { message = begin.0 } in
         let woke = first_waiter Receivers k in
         let done = sent begin.0 (Done k.effects begin.0) now begin.1 line (putting k SendKind m refl allowed)
-        (ap (λ d. told_put d k.effects begin.0) allowed.0) refl (λ q. refl) in
+        (ap (λ d. report_of_put d k.effects begin.0) allowed.0) refl (λ q. refl) in
         ends_at (9 + (9 + (steps_to_move setup c woke + 0))) (steps_to_return setup c SendKind k) SendKind b (omega arith)
         (told _ SendKind b (entry_of c t now k.effects begin.0) (refl, refl, refl)
         (sent_back begin.0 (record now { effect = Some k.effects }) _ woke refl line
@@ -290,7 +290,7 @@ module _ (setup : Setup) (room : ℕ) (s : Whole) (c : CpuId) (p : Private) (t :
         let begin = begins_as Sends b (stands_at setup p t) refl at_call in
         let now = record (queued Sends b begin.0 k.send_positions) { closed = true } in
         let done = sent begin.0 (WasClosed k.effects) now begin.1 line (putting k SendClosed m refl allowed)
-        (ap (λ d. told_put d k.effects begin.0) allowed) refl (λ q. refl) in
+        (ap (λ d. report_of_put d k.effects begin.0) allowed) refl (λ q. refl) in
         told 18 SendClosed b (entry_of c t now k.effects begin.0) (refl, refl, refl)
         (sent_back begin.0 (record now { effect = Some k.effects }) _ None refl line
         (woken_none (front_stands_in k.receive_line k.waiting_receivers) k.closed _ _ (front k.receive_line) (calm b k block free).1 allowed) done)
@@ -309,7 +309,7 @@ module _ (setup : Setup) (room : ℕ) (s : Whole) (c : CpuId) (p : Private) (t :
         let begin = begins_as Receives b (stands_at setup p t) refl at_call in
         let now = record (queued Receives b begin.0 k.receive_positions) { closed = true } in
         let done = received begin.0 (WasClosed k.effects) now begin.1 line (taking k RecvClosed m refl allowed)
-        (ap (λ l. told_take l k.effects) allowed.1) refl (λ q. refl) in
+        (ap (λ l. report_of_take l k.effects) allowed.1) refl (λ q. refl) in
         told 18 RecvClosed b (entry_of c t now k.effects begin.0) (refl, refl, refl)
         (received_back (record now { effect = Some k.effects }) _ None refl line
         (woken_none (front_stands_in k.send_line k.waiting_senders) k.closed _ _ (front k.send_line) (calm b k block free).0 allowed.0) done)

@@ -14,11 +14,11 @@ use Rattle.thread_blocks.specs.Queues.{first}
 use Rattle.layer_traits.specs.declared.locked.Side.TheVariants.{Receivers, Senders}
 use Rattle.layer_traits.specs.BufferBlocks.{may_join}
 use Rattle.cpu.specs.Table.Blocks.{Buffer, OfBuffer, Name, RelQ, Pend, side_of}
-use Rattle.cpu.specs.Table.Blocks.{Told, Nothing, Position, Answer}
-use Rattle.cpu.specs.Table.Edits.{edited_buffer, acquired, entered, tells, wakes, answer, answer_of_acquire, answer_of_buffer}
+use Rattle.cpu.specs.Table.Blocks.{Reported, Nothing, Position, Answer}
+use Rattle.cpu.specs.Table.Edits.{edited_buffer, acquired, entered, reports, wakes, answer, answer_of_acquire, answer_of_buffer}
 use Rattle.cpu.specs.Table.Setups.{Setup, Acquires, Enters, Tries, Signals, SignalsOwn, Releases, Returns}
 use Rattle.cpu.specs.Table.Setups.{Call, Private, thread_at, home_of, home_threads, have_ended, stands_at}
-use Rattle.cpu.specs.Table.Choice.{section_at, first_signal, second_signal, asked, Goes, choice, with_call, entry_of, effected, heard}
+use Rattle.cpu.specs.Table.Choice.{section_at, first_signal, second_signal, asked, Goes, choice, with_call, entry_of, effected, recorded}
 use Rattle.cpu.specs.Table.Choice.{woken, guest_after, returned, returned_at, settled, after_section}
 use Rattle.cpu.specs.Table.Steps.{Whole, steps_by}
 use Rattle.cpu.specs.Wakeups.Alone.{IsInCall, steps_to_move}
@@ -69,12 +69,13 @@ module _ (setup : Setup) (c : CpuId) (t : Tid) where
             ∙ ap (λ x. Some (OfBuffer x)) edits;
       }
 
-  -- a section that puts nobody to sleep and wakes nobody: the call hears what it tells
-  hears : (p h : Private) (call more : Call) (traced longer : List Entry) (told : Told) → InCall setup c p t call traced → heard c p t call call.stage told ≡ h
-      → InCall setup c h t more longer → returned_at setup h t more more.stage ≡ h → InCall setup c (after_section setup c p (tells told)) t more longer
-  hears p h call more traced longer told inside is after stays =
-      let same : after_section setup c p (tells told) ≡ h =
-      after_is setup c p t call traced (tells told) inside ∙ ap (settled setup) is ∙ settled_is setup c h t more longer after ∙ stays in
+  -- a section that puts nobody to sleep and wakes nobody: the call records what it answers
+  answer_recorded : (p h : Private) (call more : Call) (traced longer : List Entry) (told : Reported) → InCall setup c p t call traced
+      → recorded c p t call call.stage told ≡ h
+      → InCall setup c h t more longer → returned_at setup h t more more.stage ≡ h → InCall setup c (after_section setup c p (reports told)) t more longer
+  answer_recorded p h call more traced longer told inside is after stays =
+      let same : after_section setup c p (reports told) ≡ h =
+      after_is setup c p t call traced (reports told) inside ∙ ap (settled setup) is ∙ settled_is setup c h t more longer after ∙ stays in
       subst (λ x. InCall setup c x t more longer) (sym same) after
 
   new_in : (p : Private) (call more : Call) (traced : List Entry) → InCall setup c p t call traced → InCall setup c (with_call p t (Some more)) t more traced
@@ -86,10 +87,10 @@ module _ (setup : Setup) (c : CpuId) (t : Tid) where
       → Gets s n k (record call { stage = Acquires }) traced (left + 3)
       → Gets s (n + 3) (record k { busy = Some t }) (record call { stage = Enters }) traced left
   acquires s n left k call traced free gets =
-      advance s n k (record k { busy = Some t }) (record call { stage = Acquires }) (record call { stage = Enters }) traced traced left (tells Nothing) gets
+      advance s n k (record k { busy = Some t }) (record call { stage = Acquires }) (record call { stage = Enters }) traced traced left (reports Nothing) gets
       (ap answer_of_acquire free) (ap (λ o. acquired t o k) free) refl
       (λ p inside.
-      hears p (with_call p t (Some (record call { stage = Enters }))) (record call { stage = Acquires })
+      answer_recorded p (with_call p t (Some (record call { stage = Enters }))) (record call { stage = Acquires })
       (record call { stage = Enters }) traced traced Nothing inside refl
       (new_in p (record call { stage = Acquires }) (record call { stage = Enters }) traced inside) refl)
 
@@ -102,10 +103,11 @@ module _ (setup : Setup) (c : CpuId) (t : Tid) where
         → Gets s (n + 3) (entered t Senders k) (record call { asks = Sends; position = k.send_positions; stage = Tries }) traced left
     enters_send s n left k call traced empty gets =
         let more : Call = record call { asks = Sends; position = k.send_positions; stage = Tries } in
-        advance s n k (entered t Senders k) (record call { asks = Sends; stage = Enters }) more traced traced left (tells (Position k.send_positions)) gets refl
+        advance s n k (entered t Senders k) (record call { asks = Sends; stage = Enters }) more traced traced left (reports
+        (Position k.send_positions)) gets refl
         (ap (λ b. if b then entered t Senders k else k) (may_enter k.send_line empty)) refl
         (λ p inside.
-        hears p (with_call p t (Some more)) (record call { asks = Sends; stage = Enters }) more traced traced (Position k.send_positions) inside refl
+        answer_recorded p (with_call p t (Some more)) (record call { asks = Sends; stage = Enters }) more traced traced (Position k.send_positions) inside refl
         (new_in p (record call { asks = Sends; stage = Enters }) more traced inside) refl)
 
     pub enters_receive : (s : Whole) (n left : ℕ) (k : Buffer) (call : Call) (traced : List Entry) → k.receive_line ≡ []
@@ -114,10 +116,11 @@ module _ (setup : Setup) (c : CpuId) (t : Tid) where
     enters_receive s n left k call traced empty gets =
         let more : Call = record call { asks = Receives; position = k.receive_positions; stage = Tries } in
         advance s n k (entered t Receivers k) (record call { asks = Receives; stage = Enters }) more traced traced left
-        (tells (Position k.receive_positions)) gets refl
+        (reports (Position k.receive_positions)) gets refl
         (ap (λ b. if b then entered t Receivers k else k) (may_enter k.receive_line empty)) refl
         (λ p inside.
-        hears p (with_call p t (Some more)) (record call { asks = Receives; stage = Enters }) more traced traced (Position k.receive_positions) inside refl
+        answer_recorded p (with_call p t (Some more)) (record call { asks = Receives; stage = Enters }) more traced traced
+        (Position k.receive_positions) inside refl
         (new_in p (record call { asks = Receives; stage = Enters }) more traced inside) refl)
 
   -- the state after an effect: the entry is written
@@ -140,17 +143,17 @@ module _ (setup : Setup) (c : CpuId) (t : Tid) where
       have_same (u ∷ ts) = ap (λ b. (thread_at (with_call p t (Some (record now { effect = Some op; stage = Signals }))) u).ended && b) (have_same ts)
 
   -- a section that has the call's effect: the call as it then is
-  pub tries : (s : Whole) (n left : ℕ) (k next : Buffer) (call now : Call) (traced : List Entry) (told : Told) → call.buffer ≡ now.buffer
-      → answer_of_buffer (section_at t call call.stage) k ≡ tells told → edited_buffer (section_at t call call.stage) k ≡ next
-      → ((p : Private) → heard c p t call call.stage told ≡ effected c p t now k.effects)
+  pub tries : (s : Whole) (n left : ℕ) (k next : Buffer) (call now : Call) (traced : List Entry) (told : Reported) → call.buffer ≡ now.buffer
+      → answer_of_buffer (section_at t call call.stage) k ≡ reports told → edited_buffer (section_at t call call.stage) k ≡ next
+      → ((p : Private) → recorded c p t call call.stage told ≡ effected c p t now k.effects)
       → Gets s n k call traced (left + 3)
       → Gets s (n + 3) next (record now { effect = Some k.effects; stage = Signals }) (traced ++ entry_of c t now k.effects now.message ∷ []) left
-  tries s n left k next call now traced told same_buffer tells_so edits heard_so gets =
+  tries s n left k next call now traced told same_buffer tells_so edits recorded_so gets =
       advance s n k next call (record now { effect = Some k.effects; stage = Signals }) traced (traced ++ entry_of c t now k.effects now.message ∷ []) left
-      (tells told) gets tells_so edits same_buffer
+      (reports told) gets tells_so edits same_buffer
       (λ p inside.
-      hears p (effected c p t now k.effects) call (record now { effect = Some k.effects; stage = Signals }) traced
-      (traced ++ entry_of c t now k.effects now.message ∷ []) told inside (heard_so p) (effect_in p call now k.effects traced inside) refl)
+      answer_recorded p (effected c p t now k.effects) call (record now { effect = Some k.effects; stage = Signals }) traced
+      (traced ++ entry_of c t now k.effects now.message ∷ []) told inside (recorded_so p) (effect_in p call now k.effects traced inside) refl)
 
   -- less room than there is
   with_less : (s : Whole) (n : ℕ) (k : Buffer) (call : Call) (traced : List Entry) (left less : ℕ) → less ≤ left
@@ -176,22 +179,22 @@ module _ (setup : Setup) (c : CpuId) (t : Tid) where
   -- a signal that wakes nobody
   signals_none : (s : Whole) (n left : ℕ) (k next : Buffer) (call more : Call) (traced : List Entry) → call.buffer ≡ more.buffer
       → answer_of_buffer (section_at t call call.stage) k ≡ wakes None → edited_buffer (section_at t call call.stage) k ≡ next
-      → ((p : Private) (told : Told) → heard c p t call call.stage told ≡ with_call p t (Some more))
+      → ((p : Private) (told : Reported) → recorded c p t call call.stage told ≡ with_call p t (Some more))
       → ((p : Private) → returned_at setup p t more more.stage ≡ p)
       → Gets s n k call traced (left + 3) → Gets s (n + 3) next more traced left
-  signals_none s n left k next call more traced same_buffer told edits heard_so stays gets =
-      advance s n k next call more traced traced left (tells Nothing) gets told edits same_buffer
-      (λ p inside. hears p (with_call p t (Some more)) call more traced traced Nothing inside (heard_so p Nothing)
+  signals_none s n left k next call more traced same_buffer told edits recorded_so stays gets =
+      advance s n k next call more traced traced left (reports Nothing) gets told edits same_buffer
+      (λ p inside. answer_recorded p (with_call p t (Some more)) call more traced traced Nothing inside (recorded_so p Nothing)
       (new_in p call more traced inside) (stays (with_call p t (Some more))))
 
   -- a signal that wakes a thread at home here
   signals_home : (s : Whole) (n left : ℕ) (k next : Buffer) (call more : Call) (traced : List Entry) (u : Tid)
       → same_cpu (home_of setup u) c ≡ true → call.buffer ≡ more.buffer
       → answer_of_buffer (section_at t call call.stage) k ≡ wakes (Some u) → edited_buffer (section_at t call call.stage) k ≡ next
-      → ((p : Private) (told : Told) → heard c p t call call.stage told ≡ with_call p t (Some more))
+      → ((p : Private) (told : Reported) → recorded c p t call call.stage told ≡ with_call p t (Some more))
       → ((p : Private) → returned_at setup p t more more.stage ≡ p)
       → Gets s n k call traced (left + 3) → Gets s (n + 3) next more traced left
-  signals_home s n left k next call more traced u here same_buffer told edits heard_so stays gets =
+  signals_home s n left k next call more traced u here same_buffer told edits recorded_so stays gets =
       advance s n k next call more traced traced left (wakes (Some u)) gets told edits same_buffer (λ p inside.
       let h = with_call p t (Some more) in
       let now = new_in p call more traced inside in
@@ -207,7 +210,7 @@ module _ (setup : Setup) (c : CpuId) (t : Tid) where
       } in
       let same : after_section setup c p (wakes (Some u)) ≡ ready =
       after_is setup c p t call traced (wakes (Some u)) inside
-      ∙ ap (λ x. settled setup (woken setup c (Some u) x)) (heard_so p Nothing)
+      ∙ ap (λ x. settled setup (woken setup c (Some u) x)) (recorded_so p Nothing)
       ∙ ap (λ b. settled setup (if b then record h { ready = h.ready ++ u ∷ [] } else record h { hand = Some u })) here
       ∙ settled_is setup c ready t more traced at ∙ stays ready in
       subst (λ x. InCall setup c x t more traced) (sym same) at)
@@ -226,10 +229,10 @@ module _ (setup : Setup) (c : CpuId) (t : Tid) where
   signals_away : (s : Whole) (n left : ℕ) (k next : Buffer) (call more : Call) (traced : List Entry) (u : Tid)
       → same_cpu (home_of setup u) c ≡ false → call.buffer ≡ more.buffer
       → answer_of_buffer (section_at t call call.stage) k ≡ wakes (Some u) → edited_buffer (section_at t call call.stage) k ≡ next
-      → ((p : Private) (told : Told) → heard c p t call call.stage told ≡ with_call p t (Some more))
+      → ((p : Private) (told : Reported) → recorded c p t call call.stage told ≡ with_call p t (Some more))
       → ((p : Private) → returned_at setup p t more more.stage ≡ p)
       → Gets s n k call traced ((left + 3) + 3) → Gets s ((n + 3) + 3) next more traced left
-  signals_away s n left k next call more traced u away same_buffer told edits heard_so stays gets =
+  signals_away s n left k next call more traced u away same_buffer told edits recorded_so stays gets =
       let q = gets.state in
       let asks = asks_for setup c q t call traced gets.inside in
       let answers : option_map (answer (asked setup c q).name) (block_of setup (asked setup c q).lock gets.past) ≡ Some (wakes (Some u)) =
@@ -239,7 +242,7 @@ module _ (setup : Setup) (c : CpuId) (t : Tid) where
       let held : Private = record h { hand = Some u } in
       let same : after_section setup c q (wakes (Some u)) ≡ held =
       after_is setup c q t call traced (wakes (Some u)) gets.inside
-      ∙ ap (λ x. settled setup (woken setup c (Some u) x)) (heard_so q Nothing)
+      ∙ ap (λ x. settled setup (woken setup c (Some u) x)) (recorded_so q Nothing)
       ∙ ap (λ b. settled setup (if b then record h { ready = h.ready ++ u ∷ [] } else record h { hand = Some u })) away in
       let one = after_three setup c gets.now q (wakes (Some u)) in
       let past : List (Section Name) = section_of c (asked setup c q) ∷ gets.past in
@@ -249,7 +252,7 @@ module _ (setup : Setup) (c : CpuId) (t : Tid) where
       let stands_one : Stands setup c one held past (left + 3) =
       subst (λ x. Stands setup c one x past (left + 3)) same (stands_after setup c gets.now gets.before q gets.past (left + 3) (wakes (Some u)) gets.stands) in
       let there = pending_there setup (home_of setup u) past in
-      let pends : option_map (answer (Pend u)) (block_of setup (Pending (home_of setup u)) past) ≡ Some (tells Nothing) =
+      let pends : option_map (answer (Pend u)) (block_of setup (Pending (home_of setup u)) past) ≡ Some (reports Nothing) =
       ap (option_map (answer (Pend u))) there.1 in
       let now = new_in q call more traced gets.inside in
       let at : InCall setup c (record h { hand = None }) t more traced =
@@ -261,19 +264,19 @@ module _ (setup : Setup) (c : CpuId) (t : Tid) where
         live = empty_live q (home_threads setup c) more now.live;
         trace = now.trace;
       } in
-      let after : after_section setup c held (tells Nothing) ≡ record h { hand = None } =
+      let after : after_section setup c held (reports Nothing) ≡ record h { hand = None } =
       settled_is setup c (record h { hand = None }) t more traced at ∙ stays (record h { hand = None }) in
-      let inside_after : InCall setup c (after_section setup c held (tells Nothing)) t more traced =
+      let inside_after : InCall setup c (after_section setup c held (reports Nothing)) t more traced =
       subst (λ x. InCall setup c x t more traced) (sym after) at in
       record {
-        now = after_three setup c one held (tells Nothing);
+        now = after_three setup c one held (reports Nothing);
         by = steps_more setup c (n + 3) 3 s ∙ ap (steps_by setup c 3) by_one
-            ∙ three_steps setup c one held held past left (tells Nothing) stands_one refl pends;
-        before = after_section setup c held (tells Nothing);
-        state = after_section setup c held (tells Nothing);
+            ∙ three_steps setup c one held held past left (reports Nothing) stands_one refl pends;
+        before = after_section setup c held (reports Nothing);
+        state = after_section setup c held (reports Nothing);
         past = section_of c (asked setup c held) ∷ past;
-        stands = stands_after setup c one held held past left (tells Nothing) stands_one;
-        goes = goes_on setup c (after_section setup c held (tells Nothing)) t more traced inside_after;
+        stands = stands_after setup c one held held past left (reports Nothing) stands_one;
+        goes = goes_on setup c (after_section setup c held (reports Nothing)) t more traced inside_after;
         inside = inside_after;
         block = ap (λ b. block_of setup (AtBuffer b) past) (sym same_buffer)
             ∙ ap (λ ask. block_of setup (AtBuffer call.buffer) (section_of c ask ∷ gets.past)) asks
@@ -292,20 +295,20 @@ module _ (setup : Setup) (c : CpuId) (t : Tid) where
   -- a signal, whomever it wakes
   signals : (s : Whole) (n left : ℕ) (k next : Buffer) (call more : Call) (traced : List Entry) (woke : Option Tid) → call.buffer ≡ more.buffer
       → answer_of_buffer (section_at t call call.stage) k ≡ wakes woke → edited_buffer (section_at t call call.stage) k ≡ next
-      → ((p : Private) (told : Told) → heard c p t call call.stage told ≡ with_call p t (Some more))
+      → ((p : Private) (told : Reported) → recorded c p t call call.stage told ≡ with_call p t (Some more))
       → ((p : Private) → returned_at setup p t more more.stage ≡ p)
       → Gets s n k call traced (left + (3 + steps_to_move setup c woke)) → Gets s (n + (3 + steps_to_move setup c woke)) next more traced left
-  signals s n left k next call more traced None same_buffer told edits heard_so stays gets =
-      signals_none s n left k next call more traced same_buffer told edits heard_so stays gets
-  signals s n left k next call more traced (Some u) same_buffer told edits heard_so stays gets = by_home (same_cpu (home_of setup u) c) refl gets
+  signals s n left k next call more traced None same_buffer told edits recorded_so stays gets =
+      signals_none s n left k next call more traced same_buffer told edits recorded_so stays gets
+  signals s n left k next call more traced (Some u) same_buffer told edits recorded_so stays gets = by_home (same_cpu (home_of setup u) c) refl gets
     where
       by_home : (here : Bool) → same_cpu (home_of setup u) c ≡ here → Gets s n k call traced (left + (3 + (if not here then 3 else 0)))
           → Gets s (n + (3 + (if not here then 3 else 0))) next more traced left
-      by_home true here got = signals_home s n left k next call more traced u here same_buffer told edits heard_so stays got
+      by_home true here got = signals_home s n left k next call more traced u here same_buffer told edits recorded_so stays got
       by_home false away got =
           let same : (n + 3) + 3 ≡ n + 6 = omega arith in
           subst (λ m. Gets s m next more traced left) same
-          (signals_away s n left k next call more traced u away same_buffer told edits heard_so stays
+          (signals_away s n left k next call more traced u away same_buffer told edits recorded_so stays
           (with_less s n k call traced (left + 6) ((left + 3) + 3) (omega arith) got))
 
   -- the call has returned, with this trace; one step before it was under way
@@ -325,17 +328,17 @@ module _ (setup : Setup) (c : CpuId) (t : Tid) where
       let gone : Call = record call { stage = Returns } in
       let q = gets.state in
       let asks = asks_for setup c q t last traced gets.inside in
-      let told : answer_of_buffer (RelQ t) k ≡ tells Nothing = ap (λ x. wakes (first x)) none in
-      let answers : option_map (answer (asked setup c q).name) (block_of setup (asked setup c q).lock gets.past) ≡ Some (tells Nothing) =
+      let told : answer_of_buffer (RelQ t) k ≡ reports Nothing = ap (λ x. wakes (first x)) none in
+      let answers : option_map (answer (asked setup c q).name) (block_of setup (asked setup c q).lock gets.past) ≡ Some (reports Nothing) =
       ap (λ ask. option_map (answer ask.name) (block_of setup ask.lock gets.past)) asks ∙ ap (option_map (answer (RelQ t))) gets.block ∙ ap Some told in
       let h = with_call q t (Some gone) in
       let now = new_in q last gone traced gets.inside in
-      let same : after_section setup c q (tells Nothing) ≡ returned setup h t gone =
-      after_is setup c q t last traced (tells Nothing) gets.inside ∙ settled_is setup c h t gone traced now in
-      let by : steps_by setup c (n + 3) s ≡ after_three setup c gets.now q (tells Nothing) =
+      let same : after_section setup c q (reports Nothing) ≡ returned setup h t gone =
+      after_is setup c q t last traced (reports Nothing) gets.inside ∙ settled_is setup c h t gone traced now in
+      let by : steps_by setup c (n + 3) s ≡ after_three setup c gets.now q (reports Nothing) =
       steps_more setup c n 3 s ∙ ap (steps_by setup c 3) gets.by
-      ∙ three_steps setup c gets.now gets.before q gets.past left (tells Nothing) gets.stands gets.goes answers in
-      let stands = stands_after setup c gets.now gets.before q gets.past left (tells Nothing) gets.stands in
+      ∙ three_steps setup c gets.now gets.before q gets.past left (reports Nothing) gets.stands gets.goes answers in
+      let stands = stands_after setup c gets.now gets.before q gets.past left (reports Nothing) gets.stands in
       record {
         now = returned setup h t gone;
         here = ap (λ x. slice_get x.cpus c.0) by ∙ stands.here ∙ ap Some same;

@@ -16,14 +16,15 @@ use Rattle.thread_blocks.specs.Queues.{same_tid}
 use Rattle.thread_blocks.proofs.Members.{same_tid_true}
 use Rattle.layer_traits.specs.declared.steps.Reason.TheVariants.{AllEnded, TraceFull}
 use Rattle.layer_traits.specs.Plans.{reply}
-use Rattle.cpu.specs.Table.Blocks.{Name, Told, Nothing, Position, Done, WasClosed, DidShut, NotYet, Drained, Answer}
+use Rattle.cpu.specs.Table.Blocks.{Name, Reported, Nothing, Position, Done, WasClosed, DidShut, NotYet, Drained, Answer}
 use Rattle.cpu.specs.Table.Edits.{kernel}
 use Rattle.cpu.specs.Table.Setups.{Setup, CallStage, Acquires, Enters, Tries, Waits, AcquiresAgain, Signals, SignalsOwn}
 use Rattle.cpu.specs.Table.Setups.{Releases, Returns, Call, Thread, Private, new_thread, thread_at, with_thread, program_of}
 use Rattle.cpu.specs.Table.Setups.{stands_at, at_boot, home_of, home_threads, open_calls, have_ended, opening}
 use Rattle.cpu.specs.Table.Choice.{asked, Choice, Halts, Alone, Goes, new_call, with_call, with_guest}
 use Rattle.cpu.specs.Table.Choice.{begins, at_instruction, at_call, at_ready, at_current, at_hand, choice}
-use Rattle.cpu.specs.Table.Choice.{heard, heard_entry, heard_position, heard_shut, slept_if, woken, guest_after, returned_at, returned_by, returned_in, settled}
+use Rattle.cpu.specs.Table.Choice.{recorded, recorded_entry, recorded_position, recorded_shut, slept_if}
+use Rattle.cpu.specs.Table.Choice.{woken, guest_after, returned_at, returned_by, returned_in, settled}
 use Rattle.cpu.specs.Table.Choice.{after_by, after_at, after_in, after_section}
 use Rattle.cpu.specs.Table.Steps.{after_reply, acting}
 use Rattle.cpu.specs.Wakeups.Quiet.{IsNextEffect}
@@ -102,25 +103,25 @@ module _ (setup : Setup) (c : CpuId) where
         says = says (subst (Says (program_of setup t) (thread_at p t).guest) is (fine t).says);
       })
 
-  fine_heard : (p : Private) (t : Tid) (call : Call) → t.0 < length p.threads → AllFine setup p
-      → (thread_at p t).call ≡ Some call → (stage : CallStage) → call.stage ≡ stage → (told : Told)
-      → AllFine setup (heard c p t call stage told)
-  fine_heard p t call known fine is Acquires at told =
+  fine_recorded : (p : Private) (t : Tid) (call : Call) → t.0 < length p.threads → AllFine setup p
+      → (thread_at p t).call ≡ Some call → (stage : CallStage) → call.stage ≡ stage → (told : Reported)
+      → AllFine setup (recorded c p t call stage told)
+  fine_recorded p t call known fine is Acquires at told =
       fine_call p t call (record call { stage = Enters }) known fine is (λ says e. let said = says (ap is_before at) in (said.0, said.1, tt))
-  fine_heard p t call known fine is Enters at told = by_asks call.asks refl told
+  fine_recorded p t call known fine is Enters at told = by_asks call.asks refl told
     where
-      by_told : HasLine call.asks → (told : Told) → AllFine setup (heard_position p t call told)
-      by_told line (Position pos) =
+      by_report : HasLine call.asks → (told : Reported) → AllFine setup (recorded_position p t call told)
+      by_report line (Position pos) =
           fine_call p t call (record call { position = pos; stage = Tries }) known fine is
           (λ says e. let said = says (ap is_before at) in (said.0, said.1, line))
-      by_told line Nothing = fine
-      by_told line (Done op m) = fine
-      by_told line (WasClosed op) = fine
-      by_told line (DidShut op pos) = fine
-      by_told line NotYet = fine
-      by_told line (Drained threads) = fine
+      by_report line Nothing = fine
+      by_report line (Done op m) = fine
+      by_report line (WasClosed op) = fine
+      by_report line (DidShut op pos) = fine
+      by_report line NotYet = fine
+      by_report line (Drained threads) = fine
 
-      by_shut : (told : Told) → AllFine setup (heard_shut c p t call told)
+      by_shut : (told : Reported) → AllFine setup (recorded_shut c p t call told)
       by_shut (DidShut op pos) =
           fine_call p t call (record call { position = pos; effect = Some op; stage = Signals }) known fine is (λ says e. absurd (cc e))
       by_shut (Position pos) = fine
@@ -130,28 +131,28 @@ module _ (setup : Setup) (c : CpuId) where
       by_shut NotYet = fine
       by_shut (Drained threads) = fine
 
-      by_asks : (asks : Group) → call.asks ≡ asks → (told : Told) → AllFine setup (heard_entry c p t call asks told)
-      by_asks Sends asked told = by_told (subst HasLine (sym asked) tt) told
-      by_asks Receives asked told = by_told (subst HasLine (sym asked) tt) told
+      by_asks : (asks : Group) → call.asks ≡ asks → (told : Reported) → AllFine setup (recorded_entry c p t call asks told)
+      by_asks Sends asked told = by_report (subst HasLine (sym asked) tt) told
+      by_asks Receives asked told = by_report (subst HasLine (sym asked) tt) told
       by_asks Closes asked told = by_shut told
-  fine_heard p t call known fine is Tries at (Done op m) =
+  fine_recorded p t call known fine is Tries at (Done op m) =
       fine_call p t call (record call { message = m; effect = Some op; stage = Signals }) known fine is (λ says e. absurd (cc e))
-  fine_heard p t call known fine is Tries at (WasClosed op) =
+  fine_recorded p t call known fine is Tries at (WasClosed op) =
       fine_call p t call (record call { closed = true; effect = Some op; stage = Signals }) known fine is (λ says e. absurd (cc e))
-  fine_heard p t call known fine is Tries at NotYet = fine_call p t call (record call { stage = Waits }) known fine is
+  fine_recorded p t call known fine is Tries at NotYet = fine_call p t call (record call { stage = Waits }) known fine is
       (λ says e. let said = says (ap is_before at) in (said.0, said.1, subst (FitsGroup call.asks) at said.2))
-  fine_heard p t call known fine is Tries at Nothing = fine
-  fine_heard p t call known fine is Tries at (Position pos) = fine
-  fine_heard p t call known fine is Tries at (DidShut op pos) = fine
-  fine_heard p t call known fine is Tries at (Drained threads) = fine
-  fine_heard p t call known fine is Waits at told = fine_call p t call (record call { stage = AcquiresAgain }) known fine is
+  fine_recorded p t call known fine is Tries at Nothing = fine
+  fine_recorded p t call known fine is Tries at (Position pos) = fine
+  fine_recorded p t call known fine is Tries at (DidShut op pos) = fine
+  fine_recorded p t call known fine is Tries at (Drained threads) = fine
+  fine_recorded p t call known fine is Waits at told = fine_call p t call (record call { stage = AcquiresAgain }) known fine is
       (λ says e. let said = says (ap is_before at) in (said.0, said.1, subst (FitsGroup call.asks) at said.2))
-  fine_heard p t call known fine is AcquiresAgain at told = fine_call p t call (record call { stage = Tries }) known fine is
+  fine_recorded p t call known fine is AcquiresAgain at told = fine_call p t call (record call { stage = Tries }) known fine is
       (λ says e. let said = says (ap is_before at) in (said.0, said.1, subst (FitsGroup call.asks) at said.2))
-  fine_heard p t call known fine is Signals at told = fine_call p t call (record call { stage = SignalsOwn }) known fine is (λ says e. absurd (cc e))
-  fine_heard p t call known fine is SignalsOwn at told = fine_call p t call (record call { stage = Releases }) known fine is (λ says e. absurd (cc e))
-  fine_heard p t call known fine is Releases at told = fine_call p t call (record call { stage = Returns }) known fine is (λ says e. absurd (cc e))
-  fine_heard p t call known fine is Returns at told = fine
+  fine_recorded p t call known fine is Signals at told = fine_call p t call (record call { stage = SignalsOwn }) known fine is (λ says e. absurd (cc e))
+  fine_recorded p t call known fine is SignalsOwn at told = fine_call p t call (record call { stage = Releases }) known fine is (λ says e. absurd (cc e))
+  fine_recorded p t call known fine is Releases at told = fine_call p t call (record call { stage = Returns }) known fine is (λ says e. absurd (cc e))
+  fine_recorded p t call known fine is Returns at told = fine
 
   fine_slept : (slept : Bool) (p : Private) → AllFine setup p → AllFine setup (slept_if slept p)
   fine_slept true p fine = fine
@@ -202,9 +203,9 @@ module _ (setup : Setup) (c : CpuId) where
           fine_set p t (record (thread_at p t) { guest = after_yield (stands_at setup p t) (thread_at p t).guest }) fine
           (record { quits = (fine t).quits; says = subst (Says (program_of setup t) (after_yield (stands_at setup p t) (thread_at p t).guest)) (sym is) tt })
       by_call t runs_now (Some call) is =
-          fine_settled (woken setup c a.woke (slept_if a.slept (heard c p t call call.stage a.told)))
-          (fine_woken a.woke (slept_if a.slept (heard c p t call call.stage a.told))
-          (fine_slept a.slept (heard c p t call call.stage a.told) (fine_heard p t call (known t runs_now) fine is call.stage refl a.told)))
+          fine_settled (woken setup c a.woke (slept_if a.slept (recorded c p t call call.stage a.told)))
+          (fine_woken a.woke (slept_if a.slept (recorded c p t call call.stage a.told))
+          (fine_slept a.slept (recorded c p t call call.stage a.told) (fine_recorded p t call (known t runs_now) fine is call.stage refl a.told)))
 
       by_current : (current : Option Tid) → p.current ≡ current → AllFine setup (after_at setup c p current a)
       by_current None idle = fine

@@ -16,16 +16,16 @@ use Rattle.layer_traits.specs.declared.locked.Side.{Side}
 use Rattle.layer_traits.specs.declared.locked.Side.TheVariants.{Receivers, Senders}
 use Rattle.layer_traits.specs.Places.{is_thread, one_if, count_in}
 use Rattle.layer_traits.proofs.CountLemmas.{same_tid_sym, count_append}
-use Rattle.cpu.specs.Table.Blocks.{Buffer, Name, TryPut, TryTake, WaitOn, Pend, TakeAll, side_of, Told, Done, WasClosed, NotYet, Answer}
-use Rattle.cpu.specs.Table.Edits.{may_put, may_take, told_put, told_take, answer_of_buffer, drawn_position}
+use Rattle.cpu.specs.Table.Blocks.{Buffer, Name, TryPut, TryTake, WaitOn, Pend, TakeAll, side_of, Reported, Done, WasClosed, NotYet, Answer}
+use Rattle.cpu.specs.Table.Edits.{may_put, may_take, report_of_put, report_of_take, answer_of_buffer, drawn_position}
 use Rattle.cpu.specs.Table.Setups.{Setup, CallStage, Acquires, Enters, Tries, Waits, AcquiresAgain, Signals, SignalsOwn}
 use Rattle.cpu.specs.Table.Setups.{Releases, Returns, Call, Thread, Private, thread_at, with_thread, home_of, stands_at}
 use Rattle.cpu.specs.Table.Choice.{section_at, first_section, try_of, first_signal, second_signal, with_call}
-use Rattle.cpu.specs.Table.Choice.{with_guest, goes_to, heard, heard_entry, heard_try, entry_of}
+use Rattle.cpu.specs.Table.Choice.{with_guest, goes_to, recorded, recorded_entry, recorded_try, entry_of}
 use Rattle.cpu.specs.Table.Choice.{slept_if, woken, returned_at, returned_by, returned_in, settled, guest_after, after_call}
 use Rattle.cpu.proofs.Wakeups.Lists.{refuted}
 use Rattle.cpu.proofs.Wakeups.Posts.{Post, Home, InHand, IsPending, AtLock, AtWait, GotIt, Trying, Failed, Owing, Visit, Outside, In}
-use Rattle.cpu.proofs.Wakeups.Posts.{is_home, is_hand, is_pending, caller_in, is_caller, bed, post_slept}
+use Rattle.cpu.proofs.Wakeups.Posts.{is_home, is_hand, is_pending, caller_in, is_caller, waiters_of, post_slept}
 use Rattle.cpu.proofs.Wakeups.Posts.{post_moved, post_drained, post_pending, next_visit, visit_moved, is_local}
 use Rattle.cpu.proofs.Wakeups.Agreement.{owing_own, visit_of_stage, visit_of_call, is_last, is_done, seat, Agrees, IsSettled, at_same}
 use Rattle.cpu.proofs.Wakeups.Agreement.{at_other, Same, same_with, agrees_same, runs, within, agrees_slept, agrees_woken}
@@ -132,21 +132,22 @@ is_release SignalsOwn = false
 is_release Returns = false
 
 -- the state after a section was heard: all but the call is as it was, and the call stands where its next visit says
-pub record Heard (p q : Private) (t : Tid) (next : Visit) (ends : Bool) : Type 0 where
+pub record Recorded (p q : Private) (t : Tid) (next : Visit) (ends : Bool) : Type 0 where
   pub same : Same p q t
   pub call : visit_of_call (thread_at q t).call ≡ next
   pub last : is_done (thread_at q t).call ≡ ends
 
 module _ (p : Private) (t : Tid) (known : t.0 < length p.threads) where
-  heard_call : (call : Call) → Heard p (with_call p t (Some call)) t (visit_of_call (Some call)) (is_last call.stage)
-  heard_call call = record {
+  recorded_call : (call : Call) → Recorded p (with_call p t (Some call)) t (visit_of_call (Some call)) (is_last call.stage)
+  recorded_call call = record {
     same = same_with p t (record (thread_at p t) { call = Some call }) known refl;
     call = ap (λ y. visit_of_call y.call) (at_same p t (record (thread_at p t) { call = Some call }) known);
     last = ap (λ y. is_done y.call) (at_same p t (record (thread_at p t) { call = Some call }) known);
   }
 
-  heard_traced : (q : Private) (next : Visit) (ends : Bool) (trace : List Entry) → Heard p q t next ends → Heard p (record q { trace = trace }) t next ends
-  heard_traced q next ends trace was = record {
+  recorded_traced : (q : Private) (next : Visit) (ends : Bool) (trace : List Entry) → Recorded p q t next ends
+      → Recorded p (record q { trace = trace }) t next ends
+  recorded_traced q next ends trace was = record {
     same = record {
       current = was.same.current;
       ready = was.same.ready;
@@ -161,58 +162,59 @@ module _ (p : Private) (t : Tid) (known : t.0 < length p.threads) where
 
   module _ (c : CpuId) (call : Call) (k : Buffer) where
     at_entry : (asks : Group) → call.asks ≡ asks
-        → Heard p (heard_entry c p t call asks (answer_of_buffer (first_section t asks) k).told) t
+        → Recorded p (recorded_entry c p t call asks (answer_of_buffer (first_section t asks) k).told) t
         (next_visit call.buffer (first_section t asks) k (In call.buffer GotIt)) false
     at_entry Sends is =
         let now : Call = record call { position = drawn_position Senders k; stage = Tries } in
-        subst (λ a. Heard p (with_call p t (Some now)) t (In call.buffer (Trying (side_of a))) false) is (heard_call now)
+        subst (λ a. Recorded p (with_call p t (Some now)) t (In call.buffer (Trying (side_of a))) false) is (recorded_call now)
     at_entry Receives is =
         let now : Call = record call { position = drawn_position Receivers k; stage = Tries } in
-        subst (λ a. Heard p (with_call p t (Some now)) t (In call.buffer (Trying (side_of a))) false) is (heard_call now)
+        subst (λ a. Recorded p (with_call p t (Some now)) t (In call.buffer (Trying (side_of a))) false) is (recorded_call now)
     at_entry Closes is =
         let now : Call = record call { position = k.closes } in
-        heard_traced _ (In call.buffer (Owing true true)) false (p.trace ++ entry_of c t now k.effects call.message ∷ [])
-        (heard_call (record now { effect = Some k.effects; stage = Signals }))
+        recorded_traced _ (In call.buffer (Owing true true)) false (p.trace ++ entry_of c t now k.effects call.message ∷ [])
+        (recorded_call (record now { effect = Some k.effects; stage = Signals }))
 
-    at_done : (op : ℕ) (m : Message) → Heard p (heard_try c p t call (Done op m)) t (In call.buffer (Owing true true)) false
+    at_done : (op : ℕ) (m : Message) → Recorded p (recorded_try c p t call (Done op m)) t (In call.buffer (Owing true true)) false
     at_done op m =
-        heard_traced _ (In call.buffer (Owing true true)) false (p.trace ++ entry_of c t (record call { message = m }) op m ∷ [])
-        (heard_call (record call { message = m; effect = Some op; stage = Signals }))
+        recorded_traced _ (In call.buffer (Owing true true)) false (p.trace ++ entry_of c t (record call { message = m }) op m ∷ [])
+        (recorded_call (record call { message = m; effect = Some op; stage = Signals }))
 
-    at_closed : (op : ℕ) → Heard p (heard_try c p t call (WasClosed op)) t (In call.buffer (Owing true true)) false
+    at_closed : (op : ℕ) → Recorded p (recorded_try c p t call (WasClosed op)) t (In call.buffer (Owing true true)) false
     at_closed op =
-        heard_traced _ (In call.buffer (Owing true true)) false (p.trace ++ entry_of c t (record call { closed = true }) op call.message ∷ [])
-        (heard_call (record call { closed = true; effect = Some op; stage = Signals }))
+        recorded_traced _ (In call.buffer (Owing true true)) false (p.trace ++ entry_of c t (record call { closed = true }) op call.message ∷ [])
+        (recorded_call (record call { closed = true; effect = Some op; stage = Signals }))
 
-    at_put : (closed : Bool) (op : ℕ) (m : Message) → Heard p (heard_try c p t call (told_put closed op m)) t (In call.buffer (Owing true true)) false
+    at_put : (closed : Bool) (op : ℕ) (m : Message) → Recorded p (recorded_try c p t call (report_of_put closed op m)) t (In call.buffer
+        (Owing true true)) false
     at_put true op m = at_closed op
     at_put false op m = at_done op m
 
-    at_take : (items : List Message) (op : ℕ) → Heard p (heard_try c p t call (told_take items op)) t (In call.buffer (Owing true true)) false
+    at_take : (items : List Message) (op : ℕ) → Recorded p (recorded_try c p t call (report_of_take items op)) t (In call.buffer (Owing true true)) false
     at_take [] op = at_closed op
     at_take (m ∷ items) op = at_done op m
 
-    at_try : (may : Bool) (told : Told) → Heard p (heard_try c p t call told) t (In call.buffer (Owing true true)) false
-        → Heard p (heard_try c p t call (if may then told else NotYet)) t
+    at_try : (may : Bool) (told : Reported) → Recorded p (recorded_try c p t call told) t (In call.buffer (Owing true true)) false
+        → Recorded p (recorded_try c p t call (if may then told else NotYet)) t
         (if may then In call.buffer (Owing true true) else In call.buffer (Failed (side_of call.asks))) false
     at_try true told does = does
-    at_try false told does = heard_call (record call { stage = Waits })
+    at_try false told does = recorded_call (record call { stage = Waits })
 
     at_tries : (asks : Group) → call.asks ≡ asks
-        → Heard p (heard_try c p t call (answer_of_buffer (try_of t call (side_of asks)) k).told) t
+        → Recorded p (recorded_try c p t call (answer_of_buffer (try_of t call (side_of asks)) k).told) t
         (next_visit call.buffer (try_of t call (side_of asks)) k (In call.buffer (Trying (side_of asks)))) false
     at_tries Sends is =
-        subst (λ a. Heard p (heard_try c p t call (answer_of_buffer (TryPut t call.message) k).told) t
+        subst (λ a. Recorded p (recorded_try c p t call (answer_of_buffer (TryPut t call.message) k).told) t
         (if may_put t k then In call.buffer (Owing true true) else In call.buffer (Failed (side_of a))) false) is
-        (at_try (may_put t k) (told_put k.closed k.effects call.message) (at_put k.closed k.effects call.message))
+        (at_try (may_put t k) (report_of_put k.closed k.effects call.message) (at_put k.closed k.effects call.message))
     at_tries Receives is =
-        subst (λ a. Heard p (heard_try c p t call (answer_of_buffer (TryTake t) k).told) t
+        subst (λ a. Recorded p (recorded_try c p t call (answer_of_buffer (TryTake t) k).told) t
         (if may_take t k then In call.buffer (Owing true true) else In call.buffer (Failed (side_of a))) false) is
-        (at_try (may_take t k) (told_take k.items k.effects) (at_take k.items k.effects))
+        (at_try (may_take t k) (report_of_take k.items k.effects) (at_take k.items k.effects))
     at_tries Closes is =
-        subst (λ a. Heard p (heard_try c p t call (answer_of_buffer (TryPut t call.message) k).told) t
+        subst (λ a. Recorded p (recorded_try c p t call (answer_of_buffer (TryPut t call.message) k).told) t
         (if may_put t k then In call.buffer (Owing true true) else In call.buffer (Failed (side_of a))) false) is
-        (at_try (may_put t k) (told_put k.closed k.effects call.message) (at_put k.closed k.effects call.message))
+        (at_try (may_put t k) (report_of_put k.closed k.effects call.message) (at_put k.closed k.effects call.message))
 
     signal_visit : (side : Side) → next_visit call.buffer (first_signal t side) k (In call.buffer (Owing true true)) ≡ In call.buffer (owing_own side)
     signal_visit Senders = refl
@@ -223,20 +225,21 @@ module _ (p : Private) (t : Tid) (known : t.0 < length p.threads) where
     own_visit Receivers = refl
 
     -- what a call hears at each stage
-    pub heard_at : (stage : CallStage) → is_last stage ≡ false
-        → Heard p (heard c p t call stage (answer_of_buffer (section_at t call stage) k).told) t
+    pub recorded_at : (stage : CallStage) → is_last stage ≡ false
+        → Recorded p (recorded c p t call stage (answer_of_buffer (section_at t call stage) k).told) t
         (next_visit call.buffer (section_at t call stage) k (visit_of_stage call.buffer (side_of call.asks) stage)) (is_release stage)
-    heard_at Acquires going = heard_call (record call { stage = Enters })
-    heard_at Enters going = at_entry call.asks refl
-    heard_at Tries going = at_tries call.asks refl
-    heard_at Waits going = heard_call (record call { stage = AcquiresAgain })
-    heard_at AcquiresAgain going = heard_call (record call { stage = Tries })
-    heard_at Signals going =
-        subst (λ z. Heard p (goes_to p t call SignalsOwn) t z false) (sym (signal_visit (side_of call.asks))) (heard_call (record call { stage = SignalsOwn }))
-    heard_at SignalsOwn going =
-        subst (λ z. Heard p (goes_to p t call Releases) t z false) (sym (own_visit (side_of call.asks))) (heard_call (record call { stage = Releases }))
-    heard_at Releases going = heard_call (record call { stage = Returns })
-    heard_at Returns going = absurd (cc going)
+    recorded_at Acquires going = recorded_call (record call { stage = Enters })
+    recorded_at Enters going = at_entry call.asks refl
+    recorded_at Tries going = at_tries call.asks refl
+    recorded_at Waits going = recorded_call (record call { stage = AcquiresAgain })
+    recorded_at AcquiresAgain going = recorded_call (record call { stage = Tries })
+    recorded_at Signals going =
+        subst (λ z. Recorded p (goes_to p t call SignalsOwn) t z false) (sym (signal_visit (side_of call.asks))) (recorded_call
+        (record call { stage = SignalsOwn }))
+    recorded_at SignalsOwn going =
+        subst (λ z. Recorded p (goes_to p t call Releases) t z false) (sym (own_visit (side_of call.asks))) (recorded_call (record call { stage = Releases }))
+    recorded_at Releases going = recorded_call (record call { stage = Returns })
+    recorded_at Returns going = absurd (cc going)
 
 -- the section after which a call is done puts nobody to sleep
 pub release_awake : (t : Tid) (call : Call) (k : Buffer) (stage : CallStage) → is_release stage ≡ true
@@ -251,13 +254,13 @@ release_awake t call k Signals on = absurd (cc on)
 release_awake t call k SignalsOwn on = absurd (cc on)
 release_awake t call k Returns on = absurd (cc on)
 
-pub bed_not_home : (d : BufId) (name : Name) → is_home (bed d name) ≡ false
-bed_not_home d (WaitOn t side) = refl
-bed_not_home d name = refl
+pub waiter_not_home : (d : BufId) (name : Name) → is_home (waiters_of d name) ≡ false
+waiter_not_home d (WaitOn t side) = refl
+waiter_not_home d name = refl
 
-pub bed_not_hand : (c : CpuId) (d : BufId) (name : Name) → is_hand c (bed d name) ≡ false
-bed_not_hand c d (WaitOn t side) = refl
-bed_not_hand c d name = refl
+pub waiter_not_hand : (c : CpuId) (d : BufId) (name : Name) → is_hand c (waiters_of d name) ≡ false
+waiter_not_hand c d (WaitOn t side) = refl
+waiter_not_hand c d name = refl
 
 -- A section of the current thread's call.
 
@@ -314,17 +317,17 @@ module _ (setup : Setup) (c : CpuId) (p : Private) (T : Tid → Visit) (P : Tid 
     abbrev N : Tid → Visit
     N u = visit_moved call.buffer u name k (T u)
 
-    abbrev bedded : Tid → Post
-    bedded u = post_slept call.buffer u name a.slept (P u)
+    abbrev is_waiter : Tid → Post
+    is_waiter u = post_slept call.buffer u name a.slept (P u)
 
     abbrev now : Tid → Post
     now u = post_moved setup c call.buffer u name a.slept a.woke (P u)
 
-    abbrev heard_now : Private
-    heard_now = heard c p t call call.stage a.told
+    abbrev recorded_now : Private
+    recorded_now = recorded c p t call call.stage a.told
 
-    heard_is : Heard p heard_now t (next_visit call.buffer name k (visit_of_stage call.buffer (side_of call.asks) call.stage)) (is_release call.stage)
-    heard_is = heard_at p t (within setup c p T P agrees t local_now) c call k call.stage going
+    recorded_is : Recorded p recorded_now t (next_visit call.buffer name k (visit_of_stage call.buffer (side_of call.asks) call.stage)) (is_release call.stage)
+    recorded_is = recorded_at p t (within setup c p T P agrees t local_now) c call k call.stage going
 
     mine : is_caller t name ≡ true
     mine = ap (is_thread t) (section_caller t call call.stage) ∙ same_tid_self t
@@ -332,59 +335,61 @@ module _ (setup : Setup) (c : CpuId) (p : Private) (T : Tid → Visit) (P : Tid 
     others : (u : Tid) → same_tid t u ≡ false → is_caller u name ≡ false
     others u other = ap (is_thread u) (section_caller t call call.stage) ∙ other
 
-    visit_now : N t ≡ visit_of_call (thread_at heard_now t).call
+    visit_now : N t ≡ visit_of_call (thread_at recorded_now t).call
     visit_now =
         ap (λ d. if d then next_visit call.buffer name k (T t) else T t) mine
         ∙ ap (next_visit call.buffer name k) (agrees.calls t local_now ∙ ap visit_of_call is)
-        ∙ sym heard_is.call
+        ∙ sym recorded_is.call
 
-    agrees_heard : Agrees setup c heard_now N P
-    agrees_heard =
-        agrees_same setup c p heard_now t T N P agrees heard_is.same
+    agrees_recorded : Agrees setup c recorded_now N P
+    agrees_recorded =
+        agrees_same setup c p recorded_now t T N P agrees recorded_is.same
         (λ u other. ap (λ d. if d then next_visit call.buffer name k (T u) else T u) (others u other)) visit_now
 
-    runs_heard : heard_now.current ≡ Some t
-    runs_heard = heard_is.same.current ∙ runs_now
+    runs_recorded : recorded_now.current ≡ Some t
+    runs_recorded = recorded_is.same.current ∙ runs_now
 
-    agrees_bedded : Agrees setup c (slept_if a.slept heard_now) N bedded
-    agrees_bedded =
-        agrees_slept setup c heard_now t N P bedded a.slept agrees_heard runs_heard
-        (λ u other. ap (λ d. if d then bed call.buffer name else P u) (and_right a.slept (is_caller u name) (others u other)))
-        (λ off. ap (λ d. if d then bed call.buffer name else P t) (and_left a.slept (is_caller t name) off))
+    agrees_waiter : Agrees setup c (slept_if a.slept recorded_now) N is_waiter
+    agrees_waiter =
+        agrees_slept setup c recorded_now t N P is_waiter a.slept agrees_recorded runs_recorded
+        (λ u other. ap (λ d. if d then waiters_of call.buffer name else P u) (and_right a.slept (is_caller u name) (others u other)))
+        (λ off. ap (λ d. if d then waiters_of call.buffer name else P t) (and_left a.slept (is_caller t name) off))
         (λ on.
-        let at : bedded t ≡ bed call.buffer name = ap (λ d. if d then bed call.buffer name else P t) (and_from a.slept (is_caller t name) on mine) in
-        (ap is_home at ∙ bed_not_home call.buffer name, ap (is_hand c) at ∙ bed_not_hand c call.buffer name))
+        let at : is_waiter t ≡ waiters_of call.buffer name = ap (λ d. if d then waiters_of call.buffer name else P t) (and_from a.slept
+        (is_caller t name) on mine) in
+        (ap is_home at ∙ waiter_not_home call.buffer name, ap (is_hand c) at ∙ waiter_not_hand c call.buffer name))
 
-    no_home : (s : Tid) → a.woke ≡ Some s → (is_home (bedded s) ≡ false) × (nat_lt s.0 (length setup.homes) ≡ true)
+    no_home : (s : Tid) → a.woke ≡ Some s → (is_home (is_waiter s) ≡ false) × (nat_lt s.0 (length setup.homes) ≡ true)
     no_home s woke = (by_test (a.slept && is_caller s name), (asleep s woke).1)
       where
-        by_test : (d : Bool) → is_home (if d then bed call.buffer name else P s) ≡ false
-        by_test true = bed_not_home call.buffer name
+        by_test : (d : Bool) → is_home (if d then waiters_of call.buffer name else P s) ≡ false
+        by_test true = waiter_not_home call.buffer name
         by_test false = (asleep s woke).0
 
-    agrees_after : Agrees setup c (woken setup c a.woke (slept_if a.slept heard_now)) N now
+    agrees_after : Agrees setup c (woken setup c a.woke (slept_if a.slept recorded_now)) N now
     agrees_after =
-        agrees_woken setup c (slept_if a.slept heard_now) N bedded a.woke agrees_bedded (slept_hand a.slept heard_now ∙ heard_is.same.hand ∙ empty) no_home
+        agrees_woken setup c (slept_if a.slept recorded_now) N is_waiter a.woke agrees_waiter (slept_hand a.slept recorded_now ∙ recorded_is.same.hand
+        ∙ empty) no_home
 
-    done_after : DoneRuns setup c (woken setup c a.woke (slept_if a.slept heard_now))
+    done_after : DoneRuns setup c (woken setup c a.woke (slept_if a.slept recorded_now))
     done_after u local done =
-        by_test (same_tid t u) refl (sym (woken_threads setup c a.woke (slept_if a.slept heard_now) u ∙ slept_calls a.slept heard_now u))
+        by_test (same_tid t u) refl (sym (woken_threads setup c a.woke (slept_if a.slept recorded_now) u ∙ slept_calls a.slept recorded_now u))
       where
         by_test : (own : Bool) → same_tid t u ≡ own
-            → (thread_at heard_now u).call ≡ (thread_at (woken setup c a.woke (slept_if a.slept heard_now)) u).call
-            → is_thread u (woken setup c a.woke (slept_if a.slept heard_now)).current ≡ true
+            → (thread_at recorded_now u).call ≡ (thread_at (woken setup c a.woke (slept_if a.slept recorded_now)) u).call
+            → is_thread u (woken setup c a.woke (slept_if a.slept recorded_now)).current ≡ true
         by_test true same calls =
             let release : is_release call.stage ≡ true =
-            sym heard_is.last ∙ subst (λ v. is_done (thread_at heard_now v).call ≡ true) (sym (same_tid_true t u same)) (ap is_done calls ∙ done) in
+            sym recorded_is.last ∙ subst (λ v. is_done (thread_at recorded_now v).call ≡ true) (sym (same_tid_true t u same)) (ap is_done calls ∙ done) in
             let awake : a.slept ≡ false = release_awake t call k call.stage release in
-            let current : (woken setup c a.woke (slept_if a.slept heard_now)).current ≡ Some t =
-            woken_current setup c a.woke (slept_if a.slept heard_now) ∙ ap (λ d. (slept_if d heard_now).current) awake ∙ runs_heard in
+            let current : (woken setup c a.woke (slept_if a.slept recorded_now)).current ≡ Some t =
+            woken_current setup c a.woke (slept_if a.slept recorded_now) ∙ ap (λ d. (slept_if d recorded_now).current) awake ∙ runs_recorded in
             ap (is_thread u) current ∙ same
         by_test false other calls =
-            refuted (ap is_some empty) (settled_before u local (ap is_done (sym (heard_is.same.others u other) ∙ calls) ∙ done)).0
+            refuted (ap is_some empty) (settled_before u local (ap is_done (sym (recorded_is.same.others u other) ∙ calls) ∙ done)).0
 
     pub agrees_call : Agrees setup c (after_call setup c p t call a) N now × IsSettled setup c (after_call setup c p t call a)
-    agrees_call = agrees_settled setup c (woken setup c a.woke (slept_if a.slept heard_now)) N now agrees_after done_after
+    agrees_call = agrees_settled setup c (woken setup c a.woke (slept_if a.slept recorded_now)) N now agrees_after done_after
 
 -- A section on pending threads.
 

@@ -44,7 +44,7 @@ use Rattle.cpu.proofs.Wakeups.Placed.{IsPlaced, HasHome, buffer_there}
 use Rattle.cpu.proofs.Wakeups.Agreement.{owing_own, visit_of_stage, visit_of_call, seat, Agrees}
 use Rattle.cpu.proofs.Wakeups.Says.{is_before, HasLine, FitsGroup, Says}
 use Rattle.cpu.proofs.Wakeups.Reaching.{fair_good}
-use Rattle.cpu.proofs.Wakeups.Kept.{Kept, reached_kept, cpu_there}
+use Rattle.cpu.proofs.Wakeups.SystemInv.{SystemInv, reached_inv, cpu_there}
 
 -- a post of a thread that sleeps
 pub data Asleep (x : Post) : Type 0 where
@@ -101,7 +101,7 @@ side_true Senders Receivers on = absurd (cc on)
 -- what a waiting visit is of
 abbrev buffer_or : BufId → Visit → BufId
 buffer_or b Outside = b
-buffer_or b (In d doing) = d
+buffer_or b (In d call_phase) = d
 
 abbrev side_or : Side → Visit → Side
 side_or side (In d (Waiting other)) = other
@@ -147,13 +147,13 @@ same_effect Exit s a x b d m n one other = absurd one
 
 inside_known : (setup : Setup) (u : Tid) (b : BufId) (visit : Visit) → names b visit ≡ true → HasHome setup u visit → nat_lt u.0 (length setup.homes) ≡ true
 inside_known setup u b Outside on home = absurd (cc on)
-inside_known setup u b (In d doing) on home = home
+inside_known setup u b (In d call_phase) on home = home
 
 same_named : (b d : BufId) (visit : Visit) → names b visit ≡ true → names d visit ≡ true → b ≡ d
 same_named b d Outside on other = absurd (cc on)
-same_named b d (In e doing) on other = buffer_true b e on ∙ sym (buffer_true d e other)
+same_named b d (In e call_phase) on other = buffer_true b e on ∙ sym (buffer_true d e other)
 
-module _ (setup : Setup) (s : Whole) (homes : HomesExist setup) (kept : Kept setup s) (quiet : IsQuiet setup s) where
+module _ (setup : Setup) (s : Whole) (homes : HomesExist setup) (kept : SystemInv setup s) (quiet : IsQuiet setup s) where
   good : Good setup (sections_in s.log)
   good = fair_good setup s.log kept.sound.fair
 
@@ -358,4 +358,4 @@ module _ (setup : Setup) (s : Whole) (homes : HomesExist setup) (kept : Kept set
   }
 
 pub quiet_is_stuck : QuietIsStuck
-quiet_is_stuck setup room s homes reached quiet = stuck setup s homes (reached_kept setup room s reached) quiet
+quiet_is_stuck setup room s homes reached quiet = stuck setup s homes (reached_inv setup room s reached) quiet

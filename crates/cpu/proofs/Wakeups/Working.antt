@@ -4,7 +4,7 @@ use Rattle.std.proofs.lemmas.Bool.{cases_lt}
 use Rattle.event_log.specs.declared.ids.CpuId.{CpuId}
 use Rattle.event_log.specs.History.{same_cpu, own_events}
 use Rattle.event_log.specs.Sections.{sections_in}
-use Rattle.event_log.specs.Actions.{Action, doer, phase}
+use Rattle.event_log.specs.Actions.{Action, cpu_of_action, phase}
 use Rattle.event_log.proofs.Same.{same_cpu_self}
 use Rattle.event_log.proofs.Foreign.{lawful_before}
 use Rattle.layer_traits.specs.Plans.{is_in_section}
@@ -68,7 +68,7 @@ pub record Cut (setup : Setup) (c : CpuId) (a : Action Name) (past : List (Actio
   pub count : ℕ
   pub last : Private
   pub along : AlongTable setup c count last past
-  pub next : (same_cpu (doer a) c ≡ false) ⊎ ((cpu_step setup c last past).acts ≡ a ∷ [])
+  pub next : (same_cpu (cpu_of_action a) c ≡ false) ⊎ ((cpu_step setup c last past).acts ≡ a ∷ [])
 
 cut : (setup : Setup) (c : CpuId) (n : ℕ) (p : Private) (log : List (Action Name)) → AlongTable setup c n p log
     → (a : Action Name) (past : List (Action Name)) → log ≡ a ∷ past → Cut setup c a past
@@ -77,7 +77,7 @@ cut setup c n p log (others {n = m} {p = q} {log = before} b along off) = λ a p
   count = m;
   last = q;
   along = subst (AlongTable setup c m q) (same_tail b a before past is) along;
-  next = inl (subst (λ x. same_cpu (doer x) c ≡ false) (same_head b a before past is) off);
+  next = inl (subst (λ x. same_cpu (cpu_of_action x) c ≡ false) (same_head b a before past is) off);
 }
 cut setup c n p log (steps {n = m} {p = q} {log = before} along goes) =
     λ a past is. by_acts (short setup c q before) a past is (cut setup c m q before along)
@@ -102,7 +102,7 @@ worked_before setup a past worked = record {
       let ran = worked.ran c within in
       let before = cut setup c ran.count ran.last (a ∷ past) ran.steps a past refl in
       record { count = before.count; last = before.last; steps = before.along };
-  rest = λ c beyond. by_test (same_cpu (doer a) c) (own_events doer c past) (worked.rest c beyond);
+  rest = λ c beyond. by_test (same_cpu (cpu_of_action a) c) (own_events cpu_of_action c past) (worked.rest c beyond);
 }
   where
     by_test : (mine : Bool) (more : List (Action Name)) → (if mine then a ∷ more else more) ≡ [] → more ≡ []
@@ -111,24 +111,25 @@ worked_before setup a past worked = record {
 
 pub worked_fair : (setup : Setup) (log : List (Action Name)) → IsWorked setup log → IsFairLog setup log
 worked_fair setup [] worked = tt
-worked_fair setup (a ∷ past) worked = by_cpu (cases_lt (doer a).0 setup.cpus) (worked_fair setup past (worked_before setup a past worked))
+worked_fair setup (a ∷ past) worked = by_cpu (cases_lt (cpu_of_action a).0 setup.cpus) (worked_fair setup past (worked_before setup a past worked))
   where
-    by_next : IsFairLog setup past → (before : Cut setup (doer a) a past)
-        → (same_cpu (doer a) (doer a) ≡ false) ⊎ ((cpu_step setup (doer a) before.last past).acts ≡ a ∷ [])
+    by_next : IsFairLog setup past → (before : Cut setup (cpu_of_action a) a past)
+        → (same_cpu (cpu_of_action a) (cpu_of_action a) ≡ false) ⊎ ((cpu_step setup (cpu_of_action a) before.last past).acts ≡ a ∷ [])
         → IsFairLog setup (a ∷ past)
-    by_next fair before (inl off) = refuted off (same_cpu_self (doer a))
+    by_next fair before (inl off) = refuted off (same_cpu_self (cpu_of_action a))
     by_next fair before (inr is) =
-        let ok = along_ok setup (doer a) before.count before.last past before.along fair in
-        subst (λ acts. IsFairLog setup (acts ++ past)) is (step_ok setup (doer a) past fair before.last ok).fair
+        let ok = along_ok setup (cpu_of_action a) before.count before.last past before.along fair in
+        subst (λ acts. IsFairLog setup (acts ++ past)) is (step_ok setup (cpu_of_action a) past fair before.last ok).fair
 
-    by_cpu : ((doer a).0 < setup.cpus) ⊎ (setup.cpus ≤ (doer a).0) → IsFairLog setup past → IsFairLog setup (a ∷ past)
+    by_cpu : ((cpu_of_action a).0 < setup.cpus) ⊎ (setup.cpus ≤ (cpu_of_action a).0) → IsFairLog setup past → IsFairLog setup (a ∷ past)
     by_cpu (inl within) fair =
-        let ran = worked.ran (doer a) within in
-        let before = cut setup (doer a) ran.count ran.last (a ∷ past) ran.steps a past refl in
+        let ran = worked.ran (cpu_of_action a) within in
+        let before = cut setup (cpu_of_action a) ran.count ran.last (a ∷ past) ran.steps a past refl in
         by_next fair before before.next
     by_cpu (inr beyond) fair =
-        let none = worked.rest (doer a) beyond in
-        absurd (cc (ap (λ b. if b then a ∷ own_events doer (doer a) past else own_events doer (doer a) past) (sym (same_cpu_self (doer a))) ∙ none))
+        let none = worked.rest (cpu_of_action a) beyond in
+        absurd (cc (ap (λ b. if b then a ∷ own_events cpu_of_action (cpu_of_action a) past else own_events cpu_of_action (cpu_of_action a) past) (sym
+        (same_cpu_self (cpu_of_action a))) ∙ none))
 
 pub cpus_lose_no_wake_up : CpusLoseNoWakeUp
 cpus_lose_no_wake_up setup log worked b k is =

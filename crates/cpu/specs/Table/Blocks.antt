@@ -62,18 +62,18 @@ effect_of Closes closed = CloseKind
 
 -- what a section tells its caller: nothing, its position in a line, its effect's number and message, its effect's number where it found
 -- the buffer closed, the number and the position of the close that it was, that it has to wait, or who was pending
-pub data Told : Type 0 where
-  Nothing : Told
-  Position : (pos : ℕ) → Told
-  Done : (op : ℕ) (message : Message) → Told
-  WasClosed : (op : ℕ) → Told
-  DidShut : (op pos : ℕ) → Told
-  NotYet : Told
-  Drained : (threads : List Tid) → Told
+pub data Reported : Type 0 where
+  Nothing : Reported
+  Position : (pos : ℕ) → Reported
+  Done : (op : ℕ) (message : Message) → Reported
+  WasClosed : (op : ℕ) → Reported
+  DidShut : (op pos : ℕ) → Reported
+  NotYet : Reported
+  Drained : (threads : List Tid) → Reported
 
 -- the answer of a section: what it tells, whether its caller sleeps now, and whom it woke
 pub record Answer : Type 0 where
-  pub told : Told
+  pub told : Reported
   pub slept : Bool
   pub woke : Option Tid
 

@@ -17,7 +17,7 @@ use Rattle.guest.specs.declared.instructions.Instruction.{Instruction}
 use Rattle.guest.specs.declared.instructions.Instruction.TheVariants.{Set, Add, Sub, Jnz, Send, Recv, Close, Yield as YieldLine, Exit}
 use Rattle.guest.specs.State.{State, message_from, after_local, after_send, after_recv, after_close, after_closed, after_yield}
 use Rattle.cpu.specs.Table.Blocks.{Name, AcqQ, Enter, TryPut, TryTake, Shut, WaitOn, SigRecv, SigSend, RelQ, Pend, TakeAll, side_of, effect_of}
-use Rattle.cpu.specs.Table.Blocks.{Told, Position, Done, WasClosed, DidShut, NotYet, Drained, Answer}
+use Rattle.cpu.specs.Table.Blocks.{Reported, Position, Done, WasClosed, DidShut, NotYet, Drained, Answer}
 use Rattle.cpu.specs.Table.Setups.{Setup, CallStage, Acquires, Enters, Tries, Waits, AcquiresAgain, Signals, SignalsOwn, Releases, Returns, Call, Private}
 use Rattle.cpu.specs.Table.Setups.{thread_at, with_thread, home_of, stands_at, home_threads, open_calls, have_ended}
 
@@ -164,39 +164,39 @@ effected c p t call op =
     record (with_call p t (Some (record call { effect = Some op; stage = Signals }))) { trace = p.trace ++ entry_of c t call op call.message ∷ [] }
 
 -- the position that the call drew
-abbrev pub heard_position : Private → Tid → Call → Told → Private
-heard_position p t call (Position pos) = with_call p t (Some (record call { position = pos; stage = Tries }))
-heard_position p t call _ = p
+abbrev pub recorded_position : Private → Tid → Call → Reported → Private
+recorded_position p t call (Position pos) = with_call p t (Some (record call { position = pos; stage = Tries }))
+recorded_position p t call _ = p
 
 -- that the buffer is closed, which is the effect of a close
-abbrev pub heard_shut : CpuId → Private → Tid → Call → Told → Private
-heard_shut c p t call (DidShut op pos) = effected c p t (record call { position = pos }) op
-heard_shut c p t call _ = p
+abbrev pub recorded_shut : CpuId → Private → Tid → Call → Reported → Private
+recorded_shut c p t call (DidShut op pos) = effected c p t (record call { position = pos }) op
+recorded_shut c p t call _ = p
 
 -- what its first section told, by what the call asks
-abbrev pub heard_entry : CpuId → Private → Tid → Call → Group → Told → Private
-heard_entry c p t call Sends told = heard_position p t call told
-heard_entry c p t call Receives told = heard_position p t call told
-heard_entry c p t call Closes told = heard_shut c p t call told
+abbrev pub recorded_entry : CpuId → Private → Tid → Call → Group → Reported → Private
+recorded_entry c p t call Sends told = recorded_position p t call told
+recorded_entry c p t call Receives told = recorded_position p t call told
+recorded_entry c p t call Closes told = recorded_shut c p t call told
 
 -- what the try told: its effect, that it found the buffer closed, which is its effect too, or that the call has to wait
-abbrev pub heard_try : CpuId → Private → Tid → Call → Told → Private
-heard_try c p t call (Done op m) = effected c p t (record call { message = m }) op
-heard_try c p t call (WasClosed op) = effected c p t (record call { closed = true }) op
-heard_try c p t call NotYet = goes_to p t call Waits
-heard_try c p t call _ = p
+abbrev pub recorded_try : CpuId → Private → Tid → Call → Reported → Private
+recorded_try c p t call (Done op m) = effected c p t (record call { message = m }) op
+recorded_try c p t call (WasClosed op) = effected c p t (record call { closed = true }) op
+recorded_try c p t call NotYet = goes_to p t call Waits
+recorded_try c p t call _ = p
 
 -- what the section of a stage told
-abbrev pub heard : CpuId → Private → Tid → Call → CallStage → Told → Private
-heard c p t call Acquires told = goes_to p t call Enters
-heard c p t call Enters told = heard_entry c p t call call.asks told
-heard c p t call Tries told = heard_try c p t call told
-heard c p t call Waits told = goes_to p t call AcquiresAgain
-heard c p t call AcquiresAgain told = goes_to p t call Tries
-heard c p t call Signals told = goes_to p t call SignalsOwn
-heard c p t call SignalsOwn told = goes_to p t call Releases
-heard c p t call Releases told = goes_to p t call Returns
-heard c p t call Returns told = p
+abbrev pub recorded : CpuId → Private → Tid → Call → CallStage → Reported → Private
+recorded c p t call Acquires told = goes_to p t call Enters
+recorded c p t call Enters told = recorded_entry c p t call call.asks told
+recorded c p t call Tries told = recorded_try c p t call told
+recorded c p t call Waits told = goes_to p t call AcquiresAgain
+recorded c p t call AcquiresAgain told = goes_to p t call Tries
+recorded c p t call Signals told = goes_to p t call SignalsOwn
+recorded c p t call SignalsOwn told = goes_to p t call Releases
+recorded c p t call Releases told = goes_to p t call Returns
+recorded c p t call Returns told = p
 
 -- a caller that sleeps runs no longer
 abbrev pub slept_if : Bool → Private → Private
@@ -240,13 +240,13 @@ returned_in setup p None (Some t) = returned_by setup p t (thread_at p t).call
 abbrev pub settled : Setup → Private → Private
 settled setup p = returned_in setup p p.hand p.current
 
-abbrev pub drained : Told → List Tid
+abbrev pub drained : Reported → List Tid
 drained (Drained threads) = threads
 drained _ = []
 
 -- after a section of a call
 abbrev pub after_call : Setup → CpuId → Private → Tid → Call → Answer → Private
-after_call setup c p t call a = settled setup (woken setup c a.woke (slept_if a.slept (heard c p t call call.stage a.told)))
+after_call setup c p t call a = settled setup (woken setup c a.woke (slept_if a.slept (recorded c p t call call.stage a.told)))
 
 -- after a yield: those that were pending are ready, then the thread that yielded; nobody runs
 abbrev pub after_yielding : Setup → Private → Tid → Answer → Private

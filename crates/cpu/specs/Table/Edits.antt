@@ -9,7 +9,7 @@ use Rattle.layer_traits.specs.Plans.{Table}
 use Rattle.layer_traits.specs.Sleeping.{joined}
 use Rattle.layer_traits.specs.BufferBlocks.{may_join, is_first, counted, items_put, other_items}
 use Rattle.cpu.specs.Table.Blocks.{Buffer, Block, OfBuffer, OfPending, Name, AcqQ, Enter, TryPut, TryTake, Shut, WaitOn, SigRecv, SigSend, RelQ, Pend, TakeAll}
-use Rattle.cpu.specs.Table.Blocks.{Told, Nothing, Position, Done, WasClosed, DidShut, NotYet, Drained, Answer, front, behind, front_stands_in}
+use Rattle.cpu.specs.Table.Blocks.{Reported, Nothing, Position, Done, WasClosed, DidShut, NotYet, Drained, Answer, front, behind, front_stands_in}
 
 -- there is room for one item more
 abbrev pub has_room : Buffer → Bool
@@ -127,8 +127,8 @@ edited name (OfBuffer k) = OfBuffer (edited_buffer name k)
 edited name (OfPending threads) = OfPending (edited_pending name threads)
 
 -- an answer that tells something, of a caller that goes on
-abbrev pub tells : Told → Answer
-tells told = record { told = told; slept = false; woke = None }
+abbrev pub reports : Reported → Answer
+reports told = record { told = told; slept = false; woke = None }
 
 -- the answer of a section whose caller sleeps now
 abbrev pub sleeps : Option Tid → Answer
@@ -140,44 +140,44 @@ wakes woke = record { told = Nothing; slept = false; woke = woke }
 
 -- whoever asks for a lock that is owned sleeps
 abbrev pub answer_of_acquire : Option Tid → Answer
-answer_of_acquire None = tells Nothing
+answer_of_acquire None = reports Nothing
 answer_of_acquire (Some owner) = sleeps None
 
 -- what a try tells that has its effect: a put finds the buffer closed or not, a take finds no item only where the buffer is closed
-abbrev pub told_put : Bool → ℕ → Message → Told
-told_put closed op m = if closed then WasClosed op else Done op m
+abbrev pub report_of_put : Bool → ℕ → Message → Reported
+report_of_put closed op m = if closed then WasClosed op else Done op m
 
-abbrev pub told_take : List Message → ℕ → Told
-told_take [] op = WasClosed op
-told_take (m ∷ items) op = Done op m
+abbrev pub report_of_take : List Message → ℕ → Reported
+report_of_take [] op = WasClosed op
+report_of_take (m ∷ items) op = Done op m
 
 -- what a section on a buffer answers
 abbrev pub answer_of_buffer : Name → Buffer → Answer
 answer_of_buffer (AcqQ t) k = answer_of_acquire k.busy
-answer_of_buffer (Enter t side) k = tells (Position (drawn_position side k))
-answer_of_buffer (TryPut t m) k = tells (if may_put t k then told_put k.closed k.effects m else NotYet)
-answer_of_buffer (TryTake t) k = tells (if may_take t k then told_take k.items k.effects else NotYet)
-answer_of_buffer (Shut t) k = tells (DidShut k.effects k.closes)
+answer_of_buffer (Enter t side) k = reports (Position (drawn_position side k))
+answer_of_buffer (TryPut t m) k = reports (if may_put t k then report_of_put k.closed k.effects m else NotYet)
+answer_of_buffer (TryTake t) k = reports (if may_take t k then report_of_take k.items k.effects else NotYet)
+answer_of_buffer (Shut t) k = reports (DidShut k.effects k.closes)
 answer_of_buffer (WaitOn t side) k = sleeps (front k.sleepers)
 answer_of_buffer (SigRecv t) k = wakes (due_receiver k)
 answer_of_buffer (SigSend t) k = wakes (due_sender k)
 answer_of_buffer (RelQ t) k = wakes (front k.sleepers)
-answer_of_buffer (Pend s) k = tells Nothing
-answer_of_buffer TakeAll k = tells Nothing
+answer_of_buffer (Pend s) k = reports Nothing
+answer_of_buffer TakeAll k = reports Nothing
 
 -- what a section on a queue of pending threads answers
 abbrev pub answer_of_pending : Name → List Tid → Answer
-answer_of_pending TakeAll threads = tells (Drained threads)
-answer_of_pending (Pend s) threads = tells Nothing
-answer_of_pending (AcqQ t) threads = tells Nothing
-answer_of_pending (Enter t side) threads = tells Nothing
-answer_of_pending (TryPut t m) threads = tells Nothing
-answer_of_pending (TryTake t) threads = tells Nothing
-answer_of_pending (Shut t) threads = tells Nothing
-answer_of_pending (WaitOn t side) threads = tells Nothing
-answer_of_pending (SigRecv t) threads = tells Nothing
-answer_of_pending (SigSend t) threads = tells Nothing
-answer_of_pending (RelQ t) threads = tells Nothing
+answer_of_pending TakeAll threads = reports (Drained threads)
+answer_of_pending (Pend s) threads = reports Nothing
+answer_of_pending (AcqQ t) threads = reports Nothing
+answer_of_pending (Enter t side) threads = reports Nothing
+answer_of_pending (TryPut t m) threads = reports Nothing
+answer_of_pending (TryTake t) threads = reports Nothing
+answer_of_pending (Shut t) threads = reports Nothing
+answer_of_pending (WaitOn t side) threads = reports Nothing
+answer_of_pending (SigRecv t) threads = reports Nothing
+answer_of_pending (SigSend t) threads = reports Nothing
+answer_of_pending (RelQ t) threads = reports Nothing
 
 -- what a section answers
 abbrev pub answer : Name → Block → Answer

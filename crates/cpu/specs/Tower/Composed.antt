@@ -23,11 +23,11 @@ use Rattle.layer_traits.specs.declared.queue_edits.QueueBlock.TheVariants as blo
 use Rattle.layer_traits.specs.declared.steps.Reason.{Reason}
 use Rattle.layer_traits.specs.declared.steps.Step.{Step}
 use Rattle.layer_traits.specs.declared.steps.Step.TheVariants.{Stepped, Halted}
-use Rattle.layer_traits.specs.declared.talks.Stage.{Stage}
-use Rattle.layer_traits.specs.declared.talks.Stage.TheVariants.{Between, Acquires, Enters, Tries, Waits, AcquiresAgain, Signals, SignalsOwn, Releases}
+use Rattle.layer_traits.specs.declared.call_states.Stage.{Stage}
+use Rattle.layer_traits.specs.declared.call_states.Stage.TheVariants.{Idle, Acquires, Enters, Tries, Waits, AcquiresAgain, Signals, SignalsOwn, Releases}
 use Rattle.layer_traits.specs.LockLaw.{slept_for}
 use Rattle.layer_traits.specs.Plans.{Left, Plan, Act, is_in_section}
-use Rattle.layer_traits.specs.BufferLaw.{Buffering, fifo_plan, talk_of}
+use Rattle.layer_traits.specs.BufferLaw.{Buffering, fifo_plan, call_state_of}
 use Rattle.cpu.specs.Table.Blocks.{Name}
 use Rattle.cpu.specs.Table.Setups.{Setup, Private, program_of, opening as table_opening}
 use Rattle.cpu.specs.Table.Choice.{asked, after_section}
@@ -41,7 +41,7 @@ outcome_of out u = record { out = out; slept = false; woke = Some u }
 
 -- how a begun call may stand: at each stage the hand, the kept answer, where its caller slept or waited, and its effect. While a woken
 -- thread is in the hand, the answer of the section that woke it is kept.
-pub data Stands : Stage → (hand : Option Tid) → (kept : Option TowerOut) → (slept waits : Option BufId) → (effect : Option Effect) → Type 0 where
+pub data Stands : Stage → (hand : Option Tid) → (deferred : Option TowerOut) → (slept waits : Option BufId) → (effect : Option Effect) → Type 0 where
   asks : Stands Acquires None None None None None
   was_handed : (b : BufId) → Stands Acquires None None (Some b) None None
   enters : Stands Enters None None None None None
@@ -69,7 +69,7 @@ IsLinedIn (Some call) = IsLined call
 
 -- a call fits the stage: none but one in a line tries, waits, or asks for the lock again
 abbrev pub FitsStage : Stage → Option Call → Type 0
-FitsStage Between call = Unit {0}
+FitsStage Idle call = Unit {0}
 FitsStage Acquires call = Unit {0}
 FitsStage Enters call = Unit {0}
 FitsStage Tries call = IsLinedIn call
@@ -82,12 +82,12 @@ FitsStage Releases call = Unit {0}
 -- thread t runs and is inside this call
 pub record IsGoing (own : Buffering) (guests : List State) (t : Tid) (call : Call) : Type 0 where
   pub current : (threads_in own).current ≡ Some t
-  pub begun : (talk_of own.talks t).call ≡ Some call
-  pub stands : Stands (talk_of own.talks t).stage (threads_in own).hand own.cv.lock.sleep.kept (slept_for own.cv.lock.slept t)
-      (slept_for own.cv.waits t) (talk_of own.talks t).effect
-  pub fits : FitsStage (talk_of own.talks t).stage (talk_of own.talks t).call
+  pub begun : (call_state_of own.call_states t).call ≡ Some call
+  pub stands : Stands (call_state_of own.call_states t).stage (threads_in own).hand own.cv.lock.sleep.deferred (slept_for own.cv.lock.slept t)
+      (slept_for own.cv.waits t) (call_state_of own.call_states t).effect
+  pub fits : FitsStage (call_state_of own.call_states t).stage (call_state_of own.call_states t).call
   pub in_guests : t.0 < length guests
-  pub in_talks : t.0 < length own.talks
+  pub in_call_states : t.0 < length own.call_states
   pub in_slept : t.0 < length own.cv.lock.slept
   pub in_waits : t.0 < length own.cv.waits
 
@@ -151,13 +151,13 @@ AsksFor (instruction.Jnz r k) guest call = ⊥
 pub record IsBeginning (setup : Setup) (own : Buffering) (guests : List State) (t : Tid) (call : Call) : Type 0 where
   pub current : (threads_in own).current ≡ Some t
   pub hand : (threads_in own).hand ≡ None
-  pub kept : own.cv.lock.sleep.kept ≡ None
+  pub deferred : own.cv.lock.sleep.deferred ≡ None
   pub slept : slept_for own.cv.lock.slept t ≡ None
   pub waits : slept_for own.cv.waits t ≡ None
-  pub between : (talk_of own.talks t).stage ≡ Between
+  pub at_idle : (call_state_of own.call_states t).stage ≡ Idle
   pub at : AsksFor (next_of (program_of setup t) (guest_at guests t)) (guest_at guests t) call
   pub in_guests : t.0 < length guests
-  pub in_talks : t.0 < length own.talks
+  pub in_call_states : t.0 < length own.call_states
   pub in_slept : t.0 < length own.cv.lock.slept
   pub in_waits : t.0 < length own.cv.waits
 

@@ -17,20 +17,20 @@ use Rattle.layer_traits.specs.declared.calls.Effect.{Effect}
 use Rattle.layer_traits.specs.declared.calls.Reply.{Reply}
 use Rattle.layer_traits.specs.declared.passes.Pass.{Pass}
 use Rattle.layer_traits.specs.declared.passes.Pass.TheVariants as pass
-use Rattle.layer_traits.specs.declared.talks.Stage.{Stage}
-use Rattle.layer_traits.specs.declared.talks.Stage.TheVariants as tower
-use Rattle.layer_traits.specs.declared.talks.Talk.{Talk}
+use Rattle.layer_traits.specs.declared.call_states.Stage.{Stage}
+use Rattle.layer_traits.specs.declared.call_states.Stage.TheVariants as tower
+use Rattle.layer_traits.specs.declared.call_states.CallState.{CallState}
 use Rattle.layer_traits.specs.LockLaw.{slept_for}
 use Rattle.layer_traits.specs.Places.{Threads, is_thread}
 use Rattle.layer_traits.specs.Plans.{Left}
-use Rattle.layer_traits.specs.BufferLaw.{Buffering, begun_at, buffer_of, entry_of, going, talk_of}
+use Rattle.layer_traits.specs.BufferLaw.{Buffering, begun_at, buffer_of, entry_of, going, call_state_of}
 use Rattle.cpu.specs.Guests.{after_answer}
 use Rattle.cpu.specs.Table.Setups.{Setup, CallStage, Acquires, Enters, Tries, Waits, AcquiresAgain, Signals}
 use Rattle.cpu.specs.Table.Setups.{SignalsOwn, Releases, Returns, Call, Thread, Private, program_of}
 
 -- the stage of a call: one whose caller slept for the lock, or waited, has done that section
 abbrev pub stage_of : Stage → (slept waits : Option BufId) → CallStage
-stage_of tower.Between slept waits = Acquires
+stage_of tower.Idle slept waits = Acquires
 stage_of tower.Acquires None waits = Acquires
 stage_of tower.Acquires (Some b) waits = Enters
 stage_of tower.Enters slept waits = Enters
@@ -44,16 +44,16 @@ stage_of tower.SignalsOwn slept waits = SignalsOwn
 stage_of tower.Releases slept waits = Releases
 
 -- the stage of a call whose section is done and answers once the thread that it woke has left the hand
-abbrev pub kept_stage : Stage → CallStage
-kept_stage tower.Between = Acquires
-kept_stage tower.Acquires = Acquires
-kept_stage tower.Enters = Enters
-kept_stage tower.Tries = Tries
-kept_stage tower.Waits = Waits
-kept_stage tower.AcquiresAgain = AcquiresAgain
-kept_stage tower.Signals = SignalsOwn
-kept_stage tower.SignalsOwn = Releases
-kept_stage tower.Releases = Returns
+abbrev pub deferred_stage : Stage → CallStage
+deferred_stage tower.Idle = Acquires
+deferred_stage tower.Acquires = Acquires
+deferred_stage tower.Enters = Enters
+deferred_stage tower.Tries = Tries
+deferred_stage tower.Waits = Waits
+deferred_stage tower.AcquiresAgain = AcquiresAgain
+deferred_stage tower.Signals = SignalsOwn
+deferred_stage tower.SignalsOwn = Releases
+deferred_stage tower.Releases = Returns
 
 -- the message of a call: that of its effect, once this has come
 abbrev pub message_of : TowerCall → Option Effect → Message
@@ -105,15 +105,16 @@ call_from call position effect stage = record {
   stage = stage;
 }
 
-abbrev pub stage_from : Stage → (slept waits : Option BufId) → (kept : Bool) → CallStage
-stage_from stage slept waits true = kept_stage stage
+abbrev pub stage_from : Stage → (slept waits : Option BufId) → (deferred : Bool) → CallStage
+stage_from stage slept waits true = deferred_stage stage
 stage_from stage slept waits false = stage_of stage slept waits
 
--- a thread, by its talk, where it sleeps or waits, whether its section's answer is kept, whether it has ended, and its guest
-abbrev pub thread_from : Talk → (slept waits : Option BufId) → (kept ended : Bool) → State → Thread
-thread_from talk slept waits kept ended guest = record {
+-- a thread, by its call state, where it sleeps or waits, whether its section's answer is kept, whether it has ended, and its guest
+abbrev pub thread_from : CallState → (slept waits : Option BufId) → (deferred ended : Bool) → State → Thread
+thread_from call_state slept waits deferred ended guest = record {
   guest = guest;
-  call = option_map (λ call. call_from call talk.position talk.effect (stage_from talk.stage slept waits kept)) (begun_at talk.stage talk.call);
+  call = option_map (λ call. call_from call call_state.position call_state.effect (stage_from call_state.stage slept waits deferred))
+      (begun_at call_state.stage call_state.call);
   ended = ended;
 }
 
@@ -121,11 +122,11 @@ abbrev pub threads_in : Buffering → Threads
 threads_in own = own.cv.lock.sleep.threads
 
 -- whether an answer is kept for a thread
-abbrev pub is_kept : Buffering → Tid → Bool
-is_kept own u = is_thread u (threads_in own).current && is_some own.cv.lock.sleep.kept
+abbrev pub is_deferred : Buffering → Tid → Bool
+is_deferred own u = is_thread u (threads_in own).current && is_some own.cv.lock.sleep.deferred
 
 abbrev pub thread_of : Buffering → Tid → State → Thread
-thread_of own u guest = thread_from (talk_of own.talks u) (slept_for own.cv.lock.slept u) (slept_for own.cv.waits u) (is_kept own u)
+thread_of own u guest = thread_from (call_state_of own.call_states u) (slept_for own.cv.lock.slept u) (slept_for own.cv.waits u) (is_deferred own u)
     (is_in u (threads_in own).ended) guest
 
 -- threads by number, from n on
@@ -164,7 +165,7 @@ trace_after c t b (Some f) after trace = trace
 -- the private state after a poll of a call
 abbrev pub private_after : Setup → CpuId → Tid → TowerCall → Buffering → List State → List Entry → Left Buffering Reply → Private
 private_after setup c t call own guests trace left = private_of left.own (guests_after setup t left.answer guests)
-    (trace_after c t (buffer_of call) (going (talk_of own.talks t) call).effect (talk_of left.own.talks t).effect trace)
+    (trace_after c t (buffer_of call) (going (call_state_of own.call_states t) call).effect (call_state_of left.own.call_states t).effect trace)
 
 -- the guests after a poll of a pass: that of a thread which has yielded moves on
 abbrev pub guests_passed : Setup → Pass → Option Tid → Option (Unit {0}) → List State → List State

@@ -31,8 +31,8 @@ use Rattle.layer_traits.specs.Locking.{LockState, lock_moves, lock_rules}
 use Rattle.layer_traits.specs.Plans.{Table, table_of}
 use Rattle.layer_traits.specs.QueueRules.{queue_rules}
 use Rattle.cpu.specs.Table.Blocks.{Buffer, Block, OfBuffer, OfPending, Name, AcqQ, Enter, TryPut, TryTake, Shut, WaitOn, SigRecv}
-use Rattle.cpu.specs.Table.Blocks.{SigSend, RelQ, Pend, TakeAll, Told, Nothing, Position, Done, WasClosed, DidShut, NotYet, Drained, Answer}
-use Rattle.cpu.specs.Table.Edits.{edited, answer, tells}
+use Rattle.cpu.specs.Table.Blocks.{SigSend, RelQ, Pend, TakeAll, Reported, Nothing, Position, Done, WasClosed, DidShut, NotYet, Drained, Answer}
+use Rattle.cpu.specs.Table.Edits.{edited, answer, reports}
 
 -- the names, answers and blocks of the layers' sections
 abbrev pub TowerName : Type 0
@@ -107,37 +107,37 @@ view (block.Queue threads homes) = OfPending threads
 view (block.Above state) = OfBuffer (buffer_view state)
 
 -- what an effect of this kind tells: a try that found the buffer closed tells no message
-abbrev pub told_of : Kind → ℕ → Message → Told
-told_of kind.Send op m = Done op m
-told_of kind.Recv op m = Done op m
-told_of kind.Close op m = Done op m
-told_of kind.SendClosed op m = WasClosed op
-told_of kind.RecvClosed op m = WasClosed op
+abbrev pub report_of : Kind → ℕ → Message → Reported
+report_of kind.Send op m = Done op m
+report_of kind.Recv op m = Done op m
+report_of kind.Close op m = Done op m
+report_of kind.SendClosed op m = WasClosed op
+report_of kind.RecvClosed op m = WasClosed op
 
 -- what the answers of the layers tell
-abbrev pub told_above : BufferOut → Told
-told_above (out.Entered pos) = Position pos
-told_above out.NotYet = NotYet
-told_above (out.Done kind op m) = told_of kind op m
-told_above (out.WasShut op pos) = DidShut op pos
+abbrev pub report_above : BufferOut → Reported
+report_above (out.Entered pos) = Position pos
+report_above out.NotYet = NotYet
+report_above (out.Done kind op m) = report_of kind op m
+report_above (out.WasShut op pos) = DidShut op pos
 
-abbrev pub told_inside : CvOut BufferOut → Told
-told_inside (cv.Did o) = told_above o
-told_inside (cv.Signalled side front) = Nothing
-told_inside cv.Left = Nothing
-told_inside (cv.Waited side) = Nothing
+abbrev pub report_inside : CvOut BufferOut → Reported
+report_inside (cv.Did o) = report_above o
+report_inside (cv.Signalled side front) = Nothing
+report_inside cv.Left = Nothing
+report_inside (cv.Waited side) = Nothing
 
-abbrev pub told_in : QOut (CvOut BufferOut) → Told
-told_in lock.Acquired = Nothing
-told_in lock.Queued = Nothing
-told_in (lock.Did o) = told_inside o
-told_in (lock.Released o) = Nothing
+abbrev pub report_in : QOut (CvOut BufferOut) → Reported
+report_in lock.Acquired = Nothing
+report_in lock.Queued = Nothing
+report_in (lock.Did o) = report_inside o
+report_in (lock.Released o) = Nothing
 
 -- an answer of the layers
 abbrev pub answer_view : TowerAnswer → Answer
-answer_view told.Done = tells Nothing
-answer_view (told.Taken threads) = tells (Drained threads)
-answer_view (told.Answer o) = record { told = told_in o.out; slept = o.slept; woke = o.woke }
+answer_view told.Done = reports Nothing
+answer_view (told.Taken threads) = reports (Drained threads)
+answer_view (told.Answer o) = record { told = report_in o.out; slept = o.slept; woke = o.woke }
 
 -- the layers' sections are the table's, each with one name; the blocks that they leave and their answers are seen as the table's,
 -- of every section on every block

@@ -9,7 +9,7 @@ use Rattle.event_log.specs.Messages.{Message}
 use Rattle.event_log.specs.Buffers.{IsAllowedEffect}
 use Rattle.event_log.specs.Runs.{Sends, Receives, group_of}
 use Rattle.event_log.specs.History.{own_events}
-use Rattle.event_log.specs.Actions.{Action, doer}
+use Rattle.event_log.specs.Actions.{Action, cpu_of_action}
 use Rattle.event_log.specs.Sections.{Section, sections_in}
 use Rattle.cpu.specs.Table.Blocks.{Buffer, OfBuffer, Name, front, stands_in}
 use Rattle.cpu.specs.Table.Setups.{Setup, Private}
@@ -59,7 +59,7 @@ pub record Ran (setup : Setup) (c : CpuId) (log : List (Action Name)) : Type 0 w
 -- each CPU has done its part of this list by the table, and nobody else has a part in it
 pub record IsWorked (setup : Setup) (log : List (Action Name)) : Type 0 where
   pub ran : (c : CpuId) → c.0 < setup.cpus → Ran setup c log
-  pub rest : (c : CpuId) → setup.cpus ≤ c.0 → own_events doer c log ≡ []
+  pub rest : (c : CpuId) → setup.cpus ≤ c.0 → own_events cpu_of_action c log ≡ []
 
 -- CPUs that each work by the table on one list lose no wake-up
 abbrev pub CpusLoseNoWakeUp : Type 0

@@ -2,7 +2,7 @@
 
 ghost use Rattle.std.specs.Prelude.{◌≡◌, ℕ, ◌+◌, ◌≤◌, ◌∷◌, ◌++◌, IfOk, Some, None, [], length, map, replicate, slice_get, slice_index_or, vec_capacity};
 ghost use Rattle.event_log.specs.declared.ids.TheConstants.{CPUS, THREADS};
-ghost use Rattle.layer_traits.specs.BufferLaw.{buffering_at_start, quiet};
+ghost use Rattle.layer_traits.specs.BufferLaw.{buffering_at_start, no_call};
 ghost use Rattle.layer_traits.specs.Places.{at_boot};
 ghost use Rattle.cpu.specs.Boots.{IsBooted, IsBootedAs};
 
@@ -31,8 +31,8 @@ impl<I: IpcLayer> Cpu<I> {
         ensures booted { IfOk result (λ c. IsBooted number guests.items limit c.number c.guests.items c.trace.items c.limit (vec_capacity c.trace)) }
         ensures cpu { IfOk result (λ c. I.cpu_of c.part ≡ number) }
         ensures threads { IfOk result (λ c. I.threads c.part ≡ at_boot homes.now number) }
-        ensures talks { IfOk result (λ c. I.talks c.part ≡ replicate THREADS quiet) }
-        ensures doing { IfOk result (λ c. I.doing c.part ≡ None) }
+        ensures call_states { IfOk result (λ c. I.call_states c.part ≡ replicate THREADS no_call) }
+        ensures under_way { IfOk result (λ c. I.under_way c.part ≡ None) }
         ensures own { IfOk result (λ c. I.IsStepwise → I.own c.part ≡ buffering_at_start homes.now number) }
         ensures fits { IfOk result (λ c. (m : I.Machine) → I.IsFresh m homes.now number → length (I.caps m) ≡ buffers → I.Fits c.part m) }
     {
@@ -71,8 +71,8 @@ fn cpus_at_boot<I: IpcLayer + Drop>(
     ensures count { IfOk result (λ cpus. length cpus.items ≡ length tables.items) }
     ensures booted { IfOk result (λ cpus. (k : ℕ) (x : _) → slice_get cpus.items k ≡ Some x
         → IsBootedAs (λ p (m : I.Machine). I.Fits p m) (λ m number. I.IsFresh m homes.now number) (λ m. length (I.caps m)) I.IsStepwise buffers homes.now k
-        (slice_index_or (map (λ table. table.items) tables.items) k []) limit x.part (I.cpu_of x.part) (I.own x.part) (I.threads x.part) (I.talks x.part)
-        (I.doing x.part) x.number x.guests.items x.trace.items x.limit (vec_capacity x.trace)) }
+        (slice_index_or (map (λ table. table.items) tables.items) k []) limit x.part (I.cpu_of x.part) (I.own x.part) (I.threads x.part) (I.call_states x.part)
+        (I.under_way x.part) x.number x.guests.items x.trace.items x.limit (vec_capacity x.trace)) }
 {
     let mut tables = tables;
     let count = tables.len();
@@ -95,7 +95,7 @@ where
     ghost use Rattle.cpu.specs.Claims.{FollowPrograms, HasOneOrder, StandsOnce, StayHome, cpu_shown, shown_of};
     ghost use Rattle.cpu.specs.Cpus.{IsCpu};
     ghost use Rattle.cpu.specs.Sound.{BootsByTable, SoundByTable};
-    ghost use Rattle.cpu.specs.Told.{ToldByTable};
+    ghost use Rattle.cpu.specs.Observed.{ObservedByTable};
     ghost use Rattle.cpu.specs.Systems.{IsSystem};
     ghost use Rattle.cpu.specs.Tables.{IsTabled};
     ghost use Rattle.layer_traits.specs.Openings.{AreOpenable};
@@ -125,7 +125,7 @@ where
         // It is as the step table has it at boot.
         ensures boots { IfOk result (λ s. I.IsStepwise → BootsByTable s) }
         ensures sound { IfOk result (λ s. I.IsStepwise → SoundByTable s) }
-        ensures told { IfOk result (λ s. I.IsStepwise → ToldByTable s) }
+        ensures observed { IfOk result (λ s. I.IsStepwise → ObservedByTable s) }
 
         // What holds after every list of steps.
         ensures one_order { IfOk result HasOneOrder }
@@ -141,12 +141,12 @@ where
     /// The system of a machine and its CPUs, before its first step.
     fn assembled(machine: I::Machine, cpus: Vec<Cpu<I>>, threads: usize, room: u64) -> System<I>
         requires { IsSystem (λ c. I.Fits c.part machine × (I.cpu_of c.part ≡ c.number)
-            × IsCpu (I.homes_of machine) (length (I.caps machine)) (I.seen machine) (I.threads c.part) (I.talks c.part)
-            (I.doing c.part) c.number c.guests.items c.trace.items c.limit (vec_capacity c.trace)
-            × (I.IsStepwise → IsTabled (I.homes_of machine) (I.caps machine) c.number (I.own c.part) (I.doing c.part) c.guests.items (I.opening machine)))
+            × IsCpu (I.homes_of machine) (length (I.caps machine)) (I.seen machine) (I.threads c.part) (I.call_states c.part)
+            (I.under_way c.part) c.number c.guests.items c.trace.items c.limit (vec_capacity c.trace)
+            × (I.IsStepwise → IsTabled (I.homes_of machine) (I.caps machine) c.number (I.own c.part) (I.under_way c.part) c.guests.items (I.opening machine)))
             (λ c. c.number) (λ c. I.ActsFor machine c) I.IsStepwise (I.acts machine) cpus.items (I.homes_of machine) (I.seen machine) room 0 (I.room machine)
             ((threads ≡ length (I.homes_of machine)) × (I.IsStepwise → BootsByTable
-            (shown_of (I.caps machine) (I.homes_of machine) (I.seen machine) (I.lines machine) (I.owner machine) (I.moves machine) (I.acts machine)
+            (shown_of (I.caps machine) (I.homes_of machine) (I.seen machine) (I.wait_lists machine) (I.owner machine) (I.moves machine) (I.acts machine)
             (map (λ c. cpu_shown (I.threads c.part) c.guests.items c.trace.items c.limit (I.is_inside c.part) (I.own c.part)) cpus.items) room 0))) }
         ensures caps { result.caps ≡ I.caps machine }
         ensures homes { result.homes ≡ I.homes_of machine }
@@ -156,7 +156,7 @@ where
         ensures limits { map (λ p. p.limit) result.cpus ≡ map (λ c. c.limit) cpus.items }
         ensures boots { I.IsStepwise → BootsByTable result }
         ensures sound { I.IsStepwise → SoundByTable result }
-        ensures told { I.IsStepwise → ToldByTable result }
+        ensures observed { I.IsStepwise → ObservedByTable result }
 
         // What holds after every list of steps.
         ensures one_order { HasOneOrder result }

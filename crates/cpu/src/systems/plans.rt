@@ -76,7 +76,7 @@ where
 {
     ghost use Rattle.cpu.specs.Claims.{FollowPrograms, HasOneOrder, StandsOnce, StayHome};
     ghost use Rattle.cpu.specs.Sound.{BootsByTable, IsSetupFor, SoundByTable, setup_for};
-    ghost use Rattle.cpu.specs.Told.{ToldByTable};
+    ghost use Rattle.cpu.specs.Observed.{ObservedByTable};
 
     /// The system of a plan before its first step, with room for `room` steps: each CPU's threads
     /// are ready by rising number, and every buffer is empty. All memory is taken here.
@@ -95,7 +95,7 @@ where
         ensures planned { IfOk result (IsSetupFor (setup_for boot.now)) }
         ensures boots { IfOk result (λ s. I.IsStepwise → BootsByTable s) }
         ensures sound { IfOk result (λ s. I.IsStepwise → SoundByTable s) }
-        ensures told { IfOk result (λ s. I.IsStepwise → ToldByTable s) }
+        ensures observed { IfOk result (λ s. I.IsStepwise → ObservedByTable s) }
 
         // What holds after every list of steps.
         ensures one_order { IfOk result HasOneOrder }

@@ -16,7 +16,7 @@ where
     ghost use Rattle.cpu.specs.Sound.{IsSetupFor};
     ghost use Rattle.cpu.specs.Systems.{whole_of};
     ghost use Rattle.cpu.specs.Table.Setups.{Setup};
-    ghost use Rattle.cpu.specs.Told.{IsStill};
+    ghost use Rattle.cpu.specs.Observed.{IsStill};
     ghost use Rattle.cpu.specs.Wakeups.Quiet.{IsQuiet as IsQuietTable};
 
     /// Whether the system is quiet: each CPU that is not halted has no current thread, nobody ready,

@@ -1,7 +1,7 @@
 //! The keys of workers that count: where each waits for its worker, and what its worker promises.
 
 ghost use Rattle.std.specs.Prelude.{◌≡◌, ℕ};
-ghost use Rattle.table_machine.specs.Desks.{Board};
+ghost use Rattle.table_machine.specs.SeatViews.{TableView};
 ghost use Rattle.cpu_workers.specs.Counts.{IsFresh, nowhere};
 
 use crate::counting::AddOne;
@@ -13,49 +13,49 @@ use table_machine::Key;
 
 /// The table that the workers of one count sit at. A proof picks it.
 pub(crate) trait CountTable {
-    ghost board: { Board ℕ };
+    ghost table_view: { TableView ℕ };
 }
 
 impl CountTable for Brand {
-    ghost board = { nowhere };
+    ghost table_view = { nowhere };
 }
 
 // A key that has seen nothing of the workers' table.
 #[derive(Drop)]
 pub(crate) struct Fresh<T: CountTable> {
     key: Key<AddOne>,
-    crew: PhantomData<T>,
+    of: PhantomData<T>,
 }
 
 impl<T: CountTable> Model for Fresh<T> {
     ghost use Rattle.std.specs.Prelude.{ℕ};
-    ghost use Rattle.table_machine.specs.Desks.{Desk};
+    ghost use Rattle.table_machine.specs.SeatViews.{SeatView};
     ghost use Rattle.cpu_workers.specs.declared.counting.AddOne.{AddOne as AnAddOne};
     ghost use Rattle.cpu_workers.specs.Counts.{IsFresh};
 
-    ghost Value = { Desk AnAddOne ℕ };
+    ghost Value = { SeatView AnAddOne ℕ };
 
     ghost view = { λ f. f.key };
 
-    ghost invariant = { λ f. IsFresh T.board f.key };
+    ghost invariant = { λ f. IsFresh T.table_view f.key };
 }
 
 impl<T: CountTable> Fresh<T> {
     pub(crate) fn new(key: Key<AddOne>) -> Fresh<T>
-        requires { IsFresh T.board key }
+        requires { IsFresh T.table_view key }
         ensures { result ≡ key }
     {
         Fresh {
             key,
-            crew: PhantomData,
+            of: PhantomData,
         }
     }
 
     pub(crate) fn key(self) -> Key<AddOne>
         ensures key { result ≡ self }
-        ensures fresh { IsFresh T.board result }
+        ensures fresh { IsFresh T.table_view result }
     {
-        let Fresh { key, crew: _ } = self;
+        let Fresh { key, of: _ } = self;
         key
     }
 }

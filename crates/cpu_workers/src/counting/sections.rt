@@ -2,16 +2,16 @@
 
 ghost use Rattle.std.specs.Prelude.{◌≡◌, ◌+◌, ◌<◌, None, IsSome};
 ghost use Rattle.event_log.specs.declared.ids.CpuId.{CpuId};
-ghost use Rattle.event_log.specs.WordsLog.{standing, Outside};
+ghost use Rattle.event_log.specs.WordsLog.{lock_phase, Idle};
 ghost use Rattle.layer_traits.specs.OneLock.{opened};
-ghost use Rattle.table_machine.specs.Desks.{IsOf, new_desk};
+ghost use Rattle.table_machine.specs.SeatViews.{IsOf, new_seat_view};
 ghost use Rattle.cpu_workers.specs.Counts.{made, HasMade, MayHaveMade};
 
 use crate::counting::keys::{CountTable, KeySlot};
 use crate::counting::{AddOne, NUMBER};
 use crossbeam_utils::sync::WaitGroup;
 use event_log::{CpuId, LockId};
-use layer_traits::{LockLayer, Tray};
+use layer_traits::{LockLayer, Payload};
 use spinlock::{Grant, Ticket};
 use std::sync::Wait;
 use std::thread;
@@ -33,13 +33,13 @@ fn pause(spins: u16) -> u16 {
     }
 }
 
-// One section that adds 1: polls until it answers. Nothing lies in the tray that counts.
+// One section that adds 1: polls until it answers. Nothing lies in the payload that counts.
 fn add_one<L: LockLayer<AddOne>, R: Wait>(
     rt: &R,
     part: &mut L,
     machine: &mut L::Machine,
     lock: LockId,
-    tray: &mut Tray,
+    payload: &mut Payload,
 )
     requires fits { L.Fits part.old machine.old }
     requires rests { L.under_way part.old ≡ None }
@@ -56,7 +56,7 @@ fn add_one<L: LockLayer<AddOne>, R: Wait>(
 {
     let mut spins = SPINS;
     for _ in rt.forever() {
-        if part.poll(machine, lock, AddOne, tray).is_some() {
+        if part.poll(machine, lock, AddOne, payload).is_some() {
             return;
         }
         spins = pause(spins);
@@ -81,9 +81,9 @@ fn work_at<L: LockLayer<AddOne> + Drop, R: Wait>(
     ensures made { made cpu NUMBER (L.seen seat.new) ≡ made cpu NUMBER (L.seen seat.old) + times }
 {
     let mut part = L::part(cpu, &[], 1);
-    let mut tray = Tray::new();
+    let mut payload = Payload::new();
     for _ in 0..times {
-        add_one(rt, &mut part, seat, NUMBER, &mut tray);
+        add_one(rt, &mut part, seat, NUMBER, &mut payload);
     }
 }
 
@@ -98,7 +98,7 @@ pub trait CountWords: TableWords {
     ) -> Key<AddOne>
         requires of { IsOf shared.now key }
         requires lock { IsSome (opened key.start NUMBER) }
-        requires outside { standing key.cpu key.seen ≡ Outside }
+        requires outside { lock_phase key.cpu key.seen ≡ Idle }
         ensures { HasMade NUMBER key result times };
 }
 
@@ -139,9 +139,9 @@ pub(crate) fn worker<T: CountTable, K: CountWords, R: Wait>(
     start: WaitGroup,
     hand: &KeySlot<T>,
 ) -> Option<Key<AddOne>>
-    requires table { shared.now ≡ T.board }
+    requires table { shared.now ≡ T.table_view }
     requires lock { IsSome (opened shared.now.start NUMBER) }
-    ensures { MayHaveMade NUMBER (new_desk shared.now cpu.0) result times }
+    ensures { MayHaveMade NUMBER (new_seat_view shared.now cpu.0) result times }
 {
     start.wait(rt);
     let taken = hand.lock(rt).take();

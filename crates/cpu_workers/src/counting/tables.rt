@@ -1,7 +1,7 @@
 //! The table of a count: opened with its number, counted at, and closed.
 
 ghost use Rattle.std.specs.Prelude.{◌≡◌, ◌*◌, ◌<◌, ◌≤◌, ◌^◌, [], ◌∷◌, IsErr, IfOk, IfErr, OnErr};
-ghost use Rattle.table_machine.specs.Desks.{new_desks};
+ghost use Rattle.table_machine.specs.SeatViews.{new_seat_views};
 ghost use Rattle.cpu_workers.specs.Counts.{AllHaveMade, IsNumberOfFrees, counting};
 ghost use Rattle.cpu_workers.specs.declared.counting.CountFault.TheVariants.{NoMemory as LacksMemory};
 
@@ -24,7 +24,7 @@ fn open_number<K: TableWords>(
     requires { cpus ≤ CPUS }
     ensures start { IfOk result (λ r. r.0.start ≡ (NUMBER, 0) ∷ []) }
     ensures cpus { IfOk result (λ r. r.0.cpus ≡ cpus) }
-    ensures keys { IfOk result (λ r. r.1.items ≡ new_desks r.0 cpus) }
+    ensures keys { IfOk result (λ r. r.1.items ≡ new_seat_views r.0 cpus) }
 {
     let mut blocks = Vec::new(alloc);
     if blocks.push((NUMBER, 0)).is_err() {
@@ -44,7 +44,7 @@ pub fn number_left<K: TableWords>(
     requires start { shared.start ≡ (NUMBER, 0) ∷ [] }
     requires cpus { shared.cpus ≤ CPUS }
     requires times { times * CPUS < 2 ^ 64 }
-    requires came { AllHaveMade NUMBER (new_desks shared shared.cpus) keys.items times }
+    requires came { AllHaveMade NUMBER (new_seat_views shared shared.cpus) keys.items times }
     ensures number { result ≡ times * shared.cpus }
     ensures frees { IsNumberOfFrees counting NUMBER shared keys.items result }
 {
@@ -71,7 +71,7 @@ fn count_if_open<K: CountWords + Sync, R: Threads + Wait + Sync>(
 ) -> Result<u64, NotCounted>
     requires start { IfOk opened (λ r. r.0.start ≡ (NUMBER, 0) ∷ []) }
     requires cpus { IfOk opened (λ r. r.0.cpus ≤ CPUS) }
-    requires keys { IfOk opened (λ r. r.1.items ≡ new_desks r.0 r.0.cpus) }
+    requires keys { IfOk opened (λ r. r.1.items ≡ new_seat_views r.0 r.0.cpus) }
     requires times { times * CPUS < 2 ^ 64 }
     ensures number { IfOk opened (λ r. IfOk result (λ number. number ≡ times * r.0.cpus)) }
     ensures none { IfErr result (λ not. not.left ≡ 0) }

@@ -2,7 +2,7 @@
 
 ghost use Rattle.std.specs.Prelude.{◌≡◌, ◌≤◌, [], IsSome, IfOk, IfErr, OnOk, OnErr, All, length, vec_capacity};
 ghost use Rattle.layer_traits.specs.OneLock.{opened};
-ghost use Rattle.table_machine.specs.Desks.{new_desk};
+ghost use Rattle.table_machine.specs.SeatViews.{new_seat_view};
 ghost use Rattle.cpu_workers.specs.Counts.{AllHaveMade, HasMade, IsFresh, MayHaveMade};
 ghost use Rattle.cpu_workers.specs.Reports.{Both};
 ghost use Rattle.cpu_workers.specs.declared.counting.CountFault.TheVariants.{NoMemory as LacksMemory, NoThread as LacksThread};
@@ -69,7 +69,7 @@ fn supplies_for<T: CountTable>(alloc: Global, count: usize) -> Result<Allocation
 
 // Puts the keys into the hands, in order.
 fn hand_out<T: CountTable, R: Wait>(rt: &R, hands: &[KeySlot<T>], keys: Vec<Key<AddOne>>)
-    requires { All (IsFresh T.board) keys.items }
+    requires { All (IsFresh T.table_view) keys.items }
 {
     let mut hands = hands.iter();
     for key in keys {
@@ -120,7 +120,7 @@ fn work_in<T: CountTable + Send, K: CountWords + Sync, R: Threads + Wait + Sync>
     supplies: Allocations<T>,
     times: u64,
 ) -> Result<Vec<Key<AddOne>>, Vec<Key<AddOne>>>
-    requires table { shared.now ≡ T.board }
+    requires table { shared.now ≡ T.table_view }
     requires fresh { All (IsFresh shared.now) keys.items }
     requires lock { IsSome (opened shared.now.start NUMBER) }
     requires hands { length supplies.hands.items ≡ length keys.items }
@@ -142,7 +142,7 @@ fn work_in<T: CountTable + Send, K: CountWords + Sync, R: Threads + Wait + Sync>
         thread::scope_env(),
         rt,
         |scope| -> Result<Vec<Key<AddOne>>, Vec<Key<AddOne>>>
-            requires { All (IsFresh shared.now) keys.items × IsSome (opened shared.now.start NUMBER) × (shared.now ≡ T.board)
+            requires { All (IsFresh shared.now) keys.items × IsSome (opened shared.now.start NUMBER) × (shared.now ≡ T.table_view)
                 × (length hands.now ≡ length keys.items) × (length starts.items ≡ length keys.items)
                 × (children.items ≡ []) × (length keys.items ≤ vec_capacity children)
                 × (done.items ≡ []) × (length keys.items ≤ vec_capacity done) }
@@ -159,8 +159,8 @@ fn work_in<T: CountTable + Send, K: CountWords + Sync, R: Threads + Wait + Sync>
                 let started = scope.spawn_with(
                     promise,
                     move ||
-                        requires { (shared.now ≡ T.board) × IsSome (opened shared.now.start NUMBER) }
-                        ensures { MayHaveMade NUMBER (new_desk shared.entry.now cpu.0) result times }
+                        requires { (shared.now ≡ T.table_view) × IsSome (opened shared.now.start NUMBER) }
+                        ensures { MayHaveMade NUMBER (new_seat_view shared.entry.now cpu.0) result times }
                     { worker(rt, shared, cpu, times, start, hand) },
                 );
                 let Ok(child) = started else {
@@ -191,7 +191,7 @@ fn work_if_supplied<T: CountTable + Send, K: CountWords + Sync, R: Threads + Wai
     supplies: Result<Allocations<T>, AllocError>,
     times: u64,
 ) -> Result<Vec<Key<AddOne>>, Refused>
-    requires table { shared.now ≡ T.board }
+    requires table { shared.now ≡ T.table_view }
     requires fresh { All (IsFresh shared.now) keys.items }
     requires lock { IsSome (opened shared.now.start NUMBER) }
     requires hands { IfOk supplies (λ supplies. length supplies.hands.items ≡ length keys.items) }
@@ -225,7 +225,7 @@ pub(crate) fn work_all<T: CountTable + Send, K: CountWords + Sync, R: Threads + 
     keys: Vec<Key<AddOne>>,
     times: u64,
 ) -> Result<Vec<Key<AddOne>>, Refused>
-    requires table { shared.now ≡ T.board }
+    requires table { shared.now ≡ T.table_view }
     requires fresh { All (IsFresh shared.now) keys.items }
     requires lock { IsSome (opened shared.now.start NUMBER) }
     ensures came { IfOk result (λ came. AllHaveMade NUMBER keys.items came.items times) }

@@ -5,5 +5,5 @@ pub returns : goal.returns
 returns g c = record {
   answer = Err c.args.refusal;
   ends = c.from.ensures ∙ c.status_of_refusal.ensures;
-  told = c.tell.ensures;
+  told = c.write_report.ensures;
 }

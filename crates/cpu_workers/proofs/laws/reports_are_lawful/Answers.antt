@@ -2,4 +2,4 @@ use Rattle.cpu_workers.proofs.Reporting.{report_is_lawful}
 use Rattle.cpu_workers.proofs.laws.reports_are_lawful.Goals as goal
 
 pub returns : goal.returns
-returns g c = report_is_lawful (g.G.Gate.MayLimit c.args.gate.now)
+returns g c = report_is_lawful (g.G.Gate.MayAnswer c.args.gate.now)

@@ -2,7 +2,7 @@ use Rattle.std.proofs.Common.{◌≡◌, ◌≤◌, true, false, length, ap, ◌
 use Rattle.event_log.specs.History.{same_lock}
 use Rattle.cpu_workers.specs.Closing.{block_shown}
 use Rattle.cpu_workers.specs.Lawful.{messages_in}
-use Rattle.cpu_workers.proofs.Desks.{opened_end, opened_here, opened_later}
+use Rattle.cpu_workers.proofs.SeatViews.{opened_end, opened_here, opened_later}
 use Rattle.cpu_workers.proofs.report.items_at.Goals as goal
 
 pub returns-then-eq : goal.returns-then-eq

@@ -1,23 +1,23 @@
 use Rattle.std.proofs.Common.{◌≡◌, List, length, Some, refl, sym, ap, ◌∙◌, subst, arith}
 use Rattle.std.specs.Prelude.{slice_get}
-use Rattle.event_log.specs.Grants.{acts_of_grants, grant_standing}
-use Rattle.event_log.specs.WordsLog.{Outside}
+use Rattle.event_log.specs.Grants.{acts_of_grants, grant_lock_phase}
+use Rattle.event_log.specs.WordsLog.{Idle}
 use Rattle.layer_traits.specs.OneLock.{opened}
 use Rattle.layer_traits.specs.OnePlace.{cpu_at}
 use Rattle.layer_traits.specs.WordsProtocol.{edit_of}
 use Rattle.layer_traits.proofs.Seen.{words_legal}
-use Rattle.layer_traits.specs.GrantsTold.{acts_told, grants_told}
+use Rattle.layer_traits.specs.AsGrants.{acts_as_grants, as_grants}
 use Rattle.table_machine.proofs.Fresh.{length_new}
 use Rattle.cpu_workers.specs.Closing.{Key, tower_rules}
 use Rattle.cpu_workers.specs.Seating.{Edit, HaveLeft}
-use Rattle.cpu_workers.proofs.Desks.{desks_are_of, desks_at, have_left, ready_at}
+use Rattle.cpu_workers.proofs.SeatViews.{seat_views_are_of, seat_views_at, have_left, ready_at}
 use denote.Param.Send.{param_send, arg_send}
 use Rattle.cpu_workers.proofs.run.run_grants.Lts as lts
 use Rattle.cpu_workers.proofs.Crossing.{tower_seat_send, turn_send}
 use Rattle.cpu_workers.proofs.run.run_grants.Goals as goal
 
 pub seats_at-requires : goal.seats_at-requires
-seats_at-requires g c = rw c.requires.keys (desks_are_of c.args.shared.now c.args.boot.now.cpus)
+seats_at-requires g c = rw c.requires.keys (seat_views_are_of c.args.shared.now c.args.boot.now.cpus)
 
 pub run_over-requires-clause-plan : goal.run_over-requires-clause-plan
 run_over-requires-clause-plan g c = λ κs within. c.cpus.ensures.within
@@ -35,9 +35,9 @@ run_over-requires-clause-few g c =
 
 pub run_over-requires-clause-ready : goal.run_over-requires-clause-ready
 run_over-requires-clause-ready g c = λ κs within k m at.
-    ready_at c.args.boot.now c.args.shared.now k m (λ x. grant_standing (cpu_at k) (grants_told x.seen) ≡ Outside)
-    (λ x. acts_of_grants edit_of (grants_told x.seen)) refl refl
-    (desks_at c.args.shared.now c.args.boot.now.cpus k m (subst (λ (l : List Key). slice_get l k ≡ Some m) (c.in_ok-seats.ensures ∙ c.requires.keys) at))
+    ready_at c.args.boot.now c.args.shared.now k m (λ x. grant_lock_phase (cpu_at k) (as_grants x.seen) ≡ Idle)
+    (λ x. acts_of_grants edit_of (as_grants x.seen)) refl refl
+    (seat_views_at c.args.shared.now c.args.boot.now.cpus k m (subst (λ (l : List Key). slice_get l k ≡ Some m) (c.in_ok-seats.ensures ∙ c.requires.keys) at))
     c.requires.opens
 
 pub parted-requires-clause-keys : goal.parted-requires-clause-keys
@@ -77,11 +77,11 @@ returns g c =
     let e = c.parted.ensures in
     let its = c.in_ok-left.ensures in
     let plan = c.args.boot.now in
-    subst (λ x. x) (λ i. HaveLeft plan (g.G.Gate.MayLimit c.args.gate.now) c.args.turns c.args.shared.now (sym e.keys i) (sym e.traces i) (sym e.taken i)
+    subst (λ x. x) (λ i. HaveLeft plan (g.G.Gate.MayAnswer c.args.gate.now) c.args.turns c.args.shared.now (sym e.keys i) (sym e.traces i) (sym e.taken i)
     (sym e.stops i))
-    (have_left plan (g.G.Gate.MayLimit c.args.gate.now) c.args.turns c.args.shared.now c.in_ok-left.left.items
-    (λ x. acts_of_grants edit_of (grants_told x.seen))
-    (λ x lawful. acts_told edit_of x.seen (words_legal (tower_rules.allowed (opened x.start)) x.seen lawful)) c.in_ok-seats.seats.items
+    (have_left plan (g.G.Gate.MayAnswer c.args.gate.now) c.args.turns c.args.shared.now c.in_ok-left.left.items
+    (λ x. acts_of_grants edit_of (as_grants x.seen))
+    (λ x lawful. acts_as_grants edit_of x.seen (words_legal (tower_rules.allowed (opened x.start)) x.seen lawful)) c.in_ok-seats.seats.items
     (c.in_ok-seats.ensures ∙ c.requires.keys) its.count its.site its.owns its.left)
 
 pub run_over-requires-send-L : goal.run_over-requires-send-L

@@ -1,5 +1,5 @@
 use Rattle.std.proofs.Common.{◌≤◌, ◌++◌, [], ◌∷◌, length, sym, ap, ◌∙◌, subst, vec_capacity, vec_len}
-use Rattle.table_machine.specs.Desks.{IsOf}
+use Rattle.table_machine.specs.SeatViews.{IsOf}
 use Rattle.cpu_workers.proofs.Joining.{all_head, all_tail, no_more, room_for, yield_more}
 use Rattle.cpu_workers.proofs.run.seats_at.Goals as goal
 

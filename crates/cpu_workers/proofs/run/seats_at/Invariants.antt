@@ -1,5 +1,5 @@
 use Rattle.std.proofs.Common.{◌≡◌, ◌≤◌, ◌++◌, All, length, vec_capacity}
-use Rattle.table_machine.specs.Desks.{IsOf}
+use Rattle.table_machine.specs.SeatViews.{IsOf}
 use Rattle.cpu_workers.proofs.run.seats_at.Given as goal
 
 abbrev pub invariant-loop-key : goal.invariant-loop-key

@@ -5,7 +5,7 @@ use Rattle.layer_traits.specs.OneLock.{AreDistinct, opened}
 use Rattle.layer_traits.specs.Openings.{AreOpenable}
 use Rattle.cpu.proofs.PlanGuests.{are_openable}
 use Rattle.cpu_workers.specs.Seating.{OpensPlan}
-use Rattle.cpu_workers.proofs.Desks.{ok_with}
+use Rattle.cpu_workers.proofs.SeatViews.{ok_with}
 use Rattle.cpu_workers.proofs.run.table_of.Goals as goal
 
 pub tower_blocks-requires : goal.tower_blocks-requires

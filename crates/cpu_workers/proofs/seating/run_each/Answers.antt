@@ -41,4 +41,4 @@ returns-clause-left g c = λ k x at.
     let d = both_back _ c.in_ok-came.came.items c.all_apart.result.items c.all_apart.ensures k x at in
     let e = both_back _ c.in_ok-workers.workers.items c.in_ok-came.came.items c.in_ok-came.ensures k d.0 d.1 in
     let n = c.in_ok-workers.ensures.each k e.0 e.1 in
-    left_so c.args.boot.now (g.G.Gate.MayLimit c.args.gate.now) c.args.turns (cpu_at k) e.0 d.0.worker _ _ _ d.0.did x.did n.0 e.2 d.2.0 d.2.2
+    left_so c.args.boot.now (g.G.Gate.MayAnswer c.args.gate.now) c.args.turns (cpu_at k) e.0 d.0.worker _ _ _ d.0.did x.did n.0 e.2 d.2.0 d.2.2

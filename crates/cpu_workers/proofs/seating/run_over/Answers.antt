@@ -1,12 +1,12 @@
 use denote.Param.Send.{sendable}
 use Rattle.std.proofs.Crossing.{crosses}
-use Rattle.std.proofs.Common.{◌<◌, ◌≤◌, length, refl, ap, ◌∙◌, arith}
+use Rattle.std.proofs.Common.{◌≤◌, length, refl, ap, ◌∙◌, arith}
 use Rattle.event_log.specs.declared.ids.LockId.TheVariants.{Pending}
 use Rattle.layer_traits.specs.OnePlace.{cpu_at}
 use Rattle.layer_traits.specs.QueueBlocks.{StartsWell}
 use Rattle.layer_traits.specs.Renaming.{viewed}
 use Rattle.layer_traits.proofs.KernelRenaming.{homes_viewed, viewed_there}
-use Rattle.queuing_lock.specs.Nested.{lock_of}
+use Rattle.queuing_lock.specs.Nested.{nested_lock_of}
 use Rattle.sleep_wakeup.specs.Nested.{state_of}
 use Rattle.fifo_buffer.specs.FifoFits.{BootsSo}
 use Rattle.fifo_buffer.proofs.Opening.{boots_well, caps_are}
@@ -31,8 +31,8 @@ run_each-requires-clause-unused g c = λ κs within k m at.
     let opening = g.L.LockLayer.opening m in
     let most = c.requires.plan.caps.most in
     let few : length plan.caps ≤ 256 = omega (arith, most) in
-    let boots = boots_well (viewed lock_of (viewed state_of opening)) plan.caps ready.opens.locks few in
-    let homes = homes_viewed lock_of (viewed state_of opening) ∙ homes_viewed state_of opening ∙ ready.opens.homes in
+    let boots = boots_well (viewed nested_lock_of (viewed state_of opening)) plan.caps ready.opens.locks few in
+    let homes = homes_viewed nested_lock_of (viewed state_of opening) ∙ homes_viewed state_of opening ∙ ready.opens.homes in
     record {
       fresh = (
         ((ready.acts, ready.opens.starts), boots),
@@ -40,12 +40,12 @@ run_each-requires-clause-unused g c = λ κs within k m at.
         rw ready.unseen refl,
         rw ready.unseen refl,
         homes,
-        viewed_there lock_of (viewed state_of opening) (Pending (cpu_at k))
+        viewed_there nested_lock_of (viewed state_of opening) (Pending (cpu_at k))
             (viewed_there state_of opening (Pending (cpu_at k)) (ready.opens.queues (cpu_at k) (omega (arith, short, count)))),
         boots,
       );
       homes = homes;
-      caps = caps_are (viewed lock_of (viewed state_of opening)) plan.caps ready.opens.locks few;
+      caps = caps_are (viewed nested_lock_of (viewed state_of opening)) plan.caps ready.opens.locks few;
       unseen = rw ready.unseen refl;
       idle = ap tower_acts ready.idle;
       opens = boots;
@@ -54,7 +54,7 @@ run_each-requires-clause-unused g c = λ κs within k m at.
 pub returns-clause-owns : goal.returns-clause-owns
 returns-clause-owns g c =
     acts_beneath (λ left. left.items) (λ m d. g.L.LockLayer.ActsFor m d) (λ m. StartsWell (g.L.LockLayer.opening m))
-    (λ m. BootsSo (viewed lock_of (viewed state_of (g.L.LockLayer.opening m)))) c.run_each.result c.run_each.ensures.owns
+    (λ m. BootsSo (viewed nested_lock_of (viewed state_of (g.L.LockLayer.opening m)))) c.run_each.result c.run_each.ensures.owns
 
 pub run_each-requires-send-I : goal.run_each-requires-send-I
 run_each-requires-send-I g c κs within = search (

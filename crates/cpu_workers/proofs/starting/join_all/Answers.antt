@@ -21,9 +21,9 @@ pub loop-child-preserved : goal.loop-child-preserved
 loop-child-preserved g c = record {
   all = yield_more c.loop-child.yielded c.loop-child.child-iterator.rest.items c.next.new.self.rest.items c.args.children.items c.in-Some.child
       c.loop-child.invariant.all c.in-Some.ensures.steps.0;
-  came = subst (λ rs. Both (λ h r. HasRun (g.G.Gate.MayLimit h.promise.gate.value) h.promise.turns h.promise.worker.value r.worker r.did.taken r.did.stop)
+  came = subst (λ rs. Both (λ h r. HasRun (g.G.Gate.MayAnswer h.promise.gate.value) h.promise.turns h.promise.worker.value r.worker r.did.taken r.did.stop)
       (c.loop-child.yielded ++ c.in-Some.child ∷ []) rs) (sym c.push_reserved.ensures.items)
-      (both_more (λ h r. HasRun (g.G.Gate.MayLimit h.promise.gate.value) h.promise.turns h.promise.worker.value r.worker r.did.taken r.did.stop)
+      (both_more (λ h r. HasRun (g.G.Gate.MayAnswer h.promise.gate.value) h.promise.turns h.promise.worker.value r.worker r.did.taken r.did.stop)
       c.loop-child.yielded c.loop-child.done.items c.in-Some.child c.join_one-came.result c.loop-child.invariant.came c.join_one-came.ensures);
   room = subst (λ n. length c.args.children.items ≤ n) (sym c.push_reserved.ensures.capacity) c.loop-child.invariant.room;
 }
@@ -33,5 +33,5 @@ returns g c =
     let left = c.loop-child.child-iterator.rest in
     let came : c.loop-child.yielded ≡ c.args.children.items
     = no_more c.loop-child.yielded left.items c.args.children.items left.len c.loop-child.invariant.all left.ok.0 c.in-None.ensures.steps.0 in
-    subst (λ l. Both (λ h r. HasRun (g.G.Gate.MayLimit h.promise.gate.value) h.promise.turns h.promise.worker.value r.worker r.did.taken r.did.stop)
+    subst (λ l. Both (λ h r. HasRun (g.G.Gate.MayAnswer h.promise.gate.value) h.promise.turns h.promise.worker.value r.worker r.did.taken r.did.stop)
     l c.loop-child.done.items) came c.loop-child.invariant.came

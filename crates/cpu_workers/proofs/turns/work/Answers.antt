@@ -1,46 +1,45 @@
 use Rattle.std.proofs.Common.{rules, ◌≡◌, ◌≤◌, true, arith}
+use Rattle.cpu_workers.specs.declared.gates.Go.TheVariants.{Limit, Pass}
 use Rattle.cpu_workers.specs.Reports.{MayTake, most}
-use Rattle.cpu_workers.proofs.Turning.{has_run, held_inside, held_so, holds_one, paced_so, ran_none, ran_one}
+use Rattle.cpu_workers.proofs.Turning.{has_run, held_inside, held_so, holds_one, may_take_so, passed_on, passed_so, ran_none, ran_one}
 use Rattle.cpu_workers.proofs.turns.work.Goals as goal
 
 pub loop-init : goal.loop-init
 loop-init g c = record {
-  ran = ran_none (MayTake c.args.turns (g.G.Gate.MayPass c.args.gate.now c.args.worker.now.cpu)) c.args.worker.now c.requires;
+  ran = ran_none (MayTake c.args.turns (g.G.Gate.MayAnswer c.args.gate.now c.args.worker.now.cpu Pass)) c.args.worker.now c.requires;
   held = λ is. absurd (cc is);
+  passed = λ is k before. absurd (omega (arith, before));
 }
 
-pub returns-in-Some-before-clause-ran : goal.returns-in-Some-before-clause-ran
-returns-in-Some-before-clause-ran g c =
+pub returns-in-Some-before : goal.returns-in-Some-before
+returns-in-Some-before g c =
     let start = c.args.worker.now in
-    let MayLimit = g.G.Gate.MayLimit c.args.gate.now in
-    let MayPass = g.G.Gate.MayPass c.args.gate.now in
+    let May = g.G.Gate.MayAnswer c.args.gate.now in
     let turns = c.args.turns in
     let before = c.before-in-loop.ensures in
-    has_run MayLimit MayPass turns start c.loop.worker c.loop.taken c.in-Some-before.stop _ c.loop.invariant.ran
+    has_run May turns start c.loop.worker c.loop.taken c.in-Some-before.stop _ c.loop.invariant.ran
     (before.rests c.in-Some-before.stop c.in-Some-before.is)
-    (λ is. held_so (MayTake turns (MayPass start.cpu)) MayLimit start c.loop.worker c.loop.taken (c.loop.held ≡ true) c.loop.invariant.ran
+    (λ is. held_so (MayTake turns (May start.cpu Pass)) May start c.loop.worker c.loop.taken (c.loop.held ≡ true) c.loop.invariant.ran
     c.loop.invariant.held (before.held is))
     (before.stops c.in-Some-before.stop c.in-Some-before.is)
-
-pub returns-in-Some-before-clause-asked : goal.returns-in-Some-before-clause-asked
-returns-in-Some-before-clause-asked g c = c.loop.invariant.ran.within
 
 pub loop-preserved : goal.loop-preserved
 loop-preserved g c =
     let start = c.args.worker.now in
-    let MayLimit = g.G.Gate.MayLimit c.args.gate.now in
-    let MayPass = g.G.Gate.MayPass c.args.gate.now in
+    let May = g.G.Gate.MayAnswer c.args.gate.now in
     let turns = c.args.turns in
     let ran = c.loop.invariant.ran in
     let before = c.before-in-loop.ensures in
     let goes = before.goes (search rules) in
-    let paced = before.paced (search rules) in
+    let may_take = before.may_take (search rules) in
+    let passed = passed_so May start c.loop.worker c.loop.taken c.loop.held _ ran.same c.loop.invariant.passed before.kept (before.passes (search rules)) in
     let small : turns ≤ most = let fits = c.ranges.turns.fits in omega (arith, fits) in
     rw (c.one_more-taken.ensures) (record {
-      ran = ran_one (MayTake turns (MayPass start.cpu)) start c.loop.worker c.step.new.self c.loop.taken c.step.result ran c.step.ensures.same
-          c.step.ensures.turned goes (paced_so MayPass turns start c.loop.worker c.loop.taken _ ran.same small paced);
-      held = λ is. holds_one (MayLimit start.cpu) start c.loop.worker c.step.new.self c.loop.taken c.step.result ran.same
-          (held_so (MayTake turns (MayPass start.cpu)) MayLimit start c.loop.worker c.loop.taken (c.loop.held ≡ true) ran c.loop.invariant.held
+      ran = ran_one (MayTake turns (May start.cpu Pass)) start c.loop.worker c.step.new.self c.loop.taken c.step.result ran c.step.ensures.same
+          c.step.ensures.turned goes (may_take_so (May start.cpu Pass) turns c.loop.worker c.loop.taken _ small passed may_take);
+      held = λ is. holds_one (May start.cpu Limit) start c.loop.worker c.step.new.self c.loop.taken c.step.result ran.same
+          (held_so (MayTake turns (May start.cpu Pass)) May start c.loop.worker c.loop.taken (c.loop.held ≡ true) ran c.loop.invariant.held
           (before.held is))
-          c.step.ensures.turned goes (held_inside MayPass turns c.loop.worker c.loop.taken _ is paced);
+          c.step.ensures.turned goes (held_inside turns c.loop.worker c.loop.taken _ is may_take);
+      passed = λ is. passed_on (May start.cpu Pass) c.loop.taken (passed is);
     })

@@ -25,5 +25,5 @@ receiver_learns-requires-clause-home_free g c next = c.part-home.ensures.free (r
 pub receiver_learns-requires-clause-away_free : goal.receiver_learns-requires-clause-away_free
 receiver_learns-requires-clause-away_free g c next = c.part-away.ensures.free (record { 0 = 1 }) next
 
-pub told_in_hand-requires-clause-free : goal.told_in_hand-requires-clause-free
-told_in_hand-requires-clause-free g c next = c.part-home.ensures.free (record { 0 = 0 }) next
+pub read_in_hand-requires-clause-free : goal.read_in_hand-requires-clause-free
+read_in_hand-requires-clause-free g c next = c.part-home.ensures.free (record { 0 = 0 }) next

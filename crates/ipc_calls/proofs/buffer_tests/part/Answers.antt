@@ -1,6 +1,6 @@
 use Rattle.std.proofs.Common.{ap}
 use Rattle.layer_traits.specs.BufferLaw.{Buffering}
-use Rattle.ipc_calls.proofs.Talks.{may_begin}
+use Rattle.ipc_calls.proofs.CallStates.{may_begin}
 use Rattle.ipc_calls.proofs.buffer_tests.part.Goals as goal
 
 -- nothing was done in the machine
@@ -11,4 +11,4 @@ returns-clause-fits g c =
 
 -- and nobody has called
 pub returns-clause-free : goal.returns-clause-free
-returns-clause-free g c t next = may_begin (g.B.BufferLayer.own c.part.result).talks t next (ap (λ (own : Buffering). own.talks) c.part.ensures.own)
+returns-clause-free g c t next = may_begin (g.B.BufferLayer.own c.part.result).call_states t next (ap (λ (own : Buffering). own.call_states) c.part.ensures.own)

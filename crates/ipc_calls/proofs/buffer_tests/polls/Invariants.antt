@@ -1,5 +1,5 @@
 use Rattle.std.proofs.Common.{◌≡◌, ◌≢◌, ◌+◌, ◌≤◌, ◌-◌}
-use Rattle.layer_traits.specs.BufferLaw.{MayTalk, talk_of}
+use Rattle.layer_traits.specs.BufferLaw.{MayPollCall, call_state_of}
 use Rattle.ipc_calls.proofs.Rows.{GoesOn}
 use Rattle.ipc_calls.proofs.buffer_tests.polls.Given as goal
 
@@ -7,8 +7,8 @@ abbrev pub invariant-loop-done : goal.invariant-loop-done
 invariant-loop-done g l = record {
   bounded : l.done ≤ l.count;
   fits : g.B.BufferLayer.Fits l.part l.m;
-  goes : GoesOn l.t (g.B.BufferLayer.own l.part).cv.lock.sleep.threads (g.B.BufferLayer.doing l.part);
-  same : MayTalk (talk_of (g.B.BufferLayer.own l.part).talks l.t) l.call;
+  goes : GoesOn l.t (g.B.BufferLayer.own l.part).cv.lock.sleep.threads (g.B.BufferLayer.under_way l.part);
+  same : MayPollCall (call_state_of (g.B.BufferLayer.own l.part).call_states l.t) l.call;
   cpu : g.B.BufferLayer.cpu_of l.part ≡ g.B.BufferLayer.cpu_of l.fn.part;
   opening : g.B.BufferLayer.opening l.m ≡ g.B.BufferLayer.opening l.fn.m;
   caps : g.B.BufferLayer.caps l.m ≡ g.B.BufferLayer.caps l.fn.m;

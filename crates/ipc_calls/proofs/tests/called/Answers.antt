@@ -1,6 +1,6 @@
 use Rattle.std.proofs.Common.{◌≡◌, ◌+◌, ◌≤◌, refl, sym, subst, arith}
 use Rattle.layer_traits.specs.BufferLaw.{Calling, MayGoOn}
-use Rattle.ipc_calls.proofs.Talks.{may_begin}
+use Rattle.ipc_calls.proofs.CallStates.{may_begin}
 use Rattle.ipc_calls.proofs.tests.called.Goals as goal
 
 pub loop-init : goal.loop-init
@@ -12,8 +12,8 @@ loop-init g c =
       enough,
       c.requires.runs,
       λ none. c.requires.hand,
-      may_begin (I.talks c.args.part.now) c.args.t c.args.call.now c.requires.talks,
-      subst (λ doing. MayGoOn doing (Calling c.args.t)) (sym c.requires.doing) tt,
+      may_begin (I.call_states c.args.part.now) c.args.t c.args.call.now c.requires.call_states,
+      subst (λ under_way. MayGoOn under_way (Calling c.args.t)) (sym c.requires.under_way) tt,
       refl,
       refl,
       c.requires.buffer,

@@ -3,7 +3,7 @@ use Rattle.fifo_buffer.proofs.Opening.{boots_well, caps_are}
 use Rattle.layer_traits.specs.Renaming.{viewed}
 use Rattle.layer_traits.proofs.KernelRenaming.{homes_viewed, viewed_there}
 use Rattle.event_log.specs.declared.ids.LockId.TheVariants.{Pending}
-use Rattle.queuing_lock.specs.Nested.{lock_of}
+use Rattle.queuing_lock.specs.Nested.{nested_lock_of}
 use Rattle.sleep_wakeup.specs.Nested.{state_of}
 use Rattle.ipc_calls.proofs.tower.part_over.Goals as goal
 
@@ -14,15 +14,15 @@ returns-clause-fits g c =
     let opening = g.L.LockLayer.opening m in
     let most = c.requires.buffers in
     let few : length c.args.caps.now ≤ 256 = omega (arith, most) in
-    let boots = boots_well (viewed lock_of (viewed state_of opening)) c.args.caps.now c.requires.locks few in
-    let caps = caps_are (viewed lock_of (viewed state_of opening)) c.args.caps.now c.requires.locks few in
+    let boots = boots_well (viewed nested_lock_of (viewed state_of opening)) c.args.caps.now c.requires.locks few in
+    let caps = caps_are (viewed nested_lock_of (viewed state_of opening)) c.args.caps.now c.requires.locks few in
     c.part.ensures.fits m (
       ((c.requires.acts, c.requires.starts), boots),
       c.requires.outside,
       rw c.requires.fresh refl,
       rw c.requires.fresh refl,
-      homes_viewed lock_of (viewed state_of opening) ∙ homes_viewed state_of opening ∙ c.requires.homes,
-      viewed_there lock_of (viewed state_of opening) (Pending c.args.cpu) (viewed_there state_of opening (Pending c.args.cpu) c.requires.queue),
+      homes_viewed nested_lock_of (viewed state_of opening) ∙ homes_viewed state_of opening ∙ c.requires.homes,
+      viewed_there nested_lock_of (viewed state_of opening) (Pending c.args.cpu) (viewed_there state_of opening (Pending c.args.cpu) c.requires.queue),
       boots,
     )
     (ap length caps)

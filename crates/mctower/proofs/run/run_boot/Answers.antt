@@ -30,7 +30,8 @@ returns-in_err-write_system g c =
     (c.as_slice.ensures.value ∙ c.caps-caps.ensures.caps) of (c.in_ok-run.ensures.known.0 refl)
     (run_of g.I.IpcLayer.IsStepwise c.args.boot.now c.args.steps.now c.in_ok-system.system c.run.new.self
     (newly c.args.boot.now _ c.in_ok-system.system of c.in_ok-system.ensures.guests c.in_ok-system.ensures.room c.in_ok-system.ensures.taken)
-    c.in_ok-run.ensures.ran c.in_ok-system.ensures.boots c.in_ok-system.ensures.planned c.in_ok-run.ensures.table c.in_ok-run.ensures.sound c.in_ok-run.ensures.told
+    c.in_ok-run.ensures.ran c.in_ok-system.ensures.boots c.in_ok-system.ensures.planned c.in_ok-run.ensures.table c.in_ok-run.ensures.sound
+    c.in_ok-run.ensures.observed
     c.in_ok-run.ensures.plan c.in_ok-run.ensures.one_order c.in_ok-run.ensures.follow c.in_ok-run.ensures.stay c.in_ok-run.ensures.once)
     c.in_err-write_system.ensures c.from_residual-in_err-write_system.ensures.1
 
@@ -42,6 +43,7 @@ returns g c =
     (c.as_slice.ensures.value ∙ c.caps-caps.ensures.caps) of (c.in_ok-run.ensures.known.0 refl)
     (run_of g.I.IpcLayer.IsStepwise c.args.boot.now c.args.steps.now c.in_ok-system.system c.run.new.self
     (newly c.args.boot.now _ c.in_ok-system.system of c.in_ok-system.ensures.guests c.in_ok-system.ensures.room c.in_ok-system.ensures.taken)
-    c.in_ok-run.ensures.ran c.in_ok-system.ensures.boots c.in_ok-system.ensures.planned c.in_ok-run.ensures.table c.in_ok-run.ensures.sound c.in_ok-run.ensures.told
+    c.in_ok-run.ensures.ran c.in_ok-system.ensures.boots c.in_ok-system.ensures.planned c.in_ok-run.ensures.table c.in_ok-run.ensures.sound
+    c.in_ok-run.ensures.observed
     c.in_ok-run.ensures.plan c.in_ok-run.ensures.one_order c.in_ok-run.ensures.follow c.in_ok-run.ensures.stay c.in_ok-run.ensures.once)
     c.in_ok-write_system.ensures

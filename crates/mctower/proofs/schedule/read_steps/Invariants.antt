@@ -1,7 +1,7 @@
 use Rattle.std.proofs.Common.{◌≡◌, ◌≤◌, ◌+◌, length, option_map}
 use Rattle.std.specs.List.{slice_split}
 use Rattle.std.specs.Option.{option_map_or}
-use Rattle.mctower.specs.Schedule.{is_comma, pieces_of, steps_in}
+use Rattle.mctower.specs.Schedule.{is_comma, schedule_pieces, steps_in}
 use Rattle.mctower.specs.declared.schedule.TheConstants.{MOST_STEPS}
 use Rattle.mctower.proofs.ScheduleLemmas.{after}
 use Rattle.mctower.proofs.schedule.read_steps.Given as goal
@@ -9,7 +9,7 @@ use Rattle.mctower.proofs.schedule.read_steps.Given as goal
 -- the steps so far are those of the items before the rest, and no more than a schedule may have
 abbrev pub invariant-loop-rest : goal.invariant-loop-rest
 invariant-loop-rest l = record {
-  read : steps_in (slice_split is_comma l.fn.text) ≡ after l.steps.items (steps_in (pieces_of (option_map (λ t. t.now) l.rest)));
+  read : steps_in (slice_split is_comma l.fn.text) ≡ after l.steps.items (steps_in (schedule_pieces (option_map (λ t. t.now) l.rest)));
   few : length l.steps.items ≤ MOST_STEPS;
 }
 

@@ -1,7 +1,7 @@
 use Rattle.std.proofs.Common.{◌≡◌, ◌∙◌, ap, sym, subst, map, option_map, string_bytes, List, Option, Some}
 use Rattle.event_log.specs.declared.ids.CpuId.{CpuId}
 use Rattle.mctower.specs.Output.{between}
-use Rattle.mctower.specs.Line.{Meant, meant_by, order_of, run}
+use Rattle.mctower.specs.Line.{Ghost, ghost_by, order_of, run}
 use Rattle.mctower.specs.Running.{on_lock}
 use Rattle.mctower.specs.Serve.{RunsAsked, Serves, steps_asked}
 use Rattle.mctower.proofs.serve.answer.Goals as goal
@@ -10,10 +10,10 @@ use Rattle.mctower.proofs.serve.answer.Goals as goal
 pub returns-in-Ok-clause-served : goal.returns-in-Ok-clause-served
 returns-in-Ok-clause-served g c =
     let means : order_of (map (λ w. w.now) c.args.words.now) ≡ Some (run (option_map string_bytes c.in-Ok-Run.schedule)) =
-    c.in-Ok-Run.ensures ∙ ap (λ o. Some (meant_by o)) c.in-Ok-Run.field-0-is in
+    c.in-Ok-Run.ensures ∙ ap (λ o. Some (ghost_by o)) c.in-Ok-Run.field-0-is in
     let asked : steps_asked (option_map string_bytes c.in-Ok-Run.schedule) ≡ Some c.as_slice.result.now =
     c.in-Ok.ensures ∙ ap Some (sym c.as_slice.ensures.value) in
-    subst (λ (meant : Option Meant). Serves (on_lock g.I.IpcLayer.IsStepwise g.J.IpcLayer.IsStepwise) meant (g.R.Read.remaining c.args.input.now)
+    subst (λ (ghost_of : Option Ghost). Serves (on_lock g.I.IpcLayer.IsStepwise g.J.IpcLayer.IsStepwise) ghost_of (g.R.Read.remaining c.args.input.now)
     c.serve_run.result (between g.O.Write.contents c.args.out.now c.serve_run.new.out)) (sym means)
     (subst (λ (steps : Option (List CpuId)). RunsAsked (on_lock g.I.IpcLayer.IsStepwise g.J.IpcLayer.IsStepwise) steps
     (g.R.Read.remaining c.args.input.now) c.serve_run.result (between g.O.Write.contents c.args.out.now c.serve_run.new.out)) (sym asked)

@@ -14,10 +14,10 @@ use Rattle.mctower.specs.declared.serve.Done.{Done}
 use Rattle.mctower.specs.declared.serve.Done.TheVariants.{Ran}
 use Rattle.mctower.specs.declared.states.State.{State}
 use Rattle.mctower.specs.State.{IsStateOf}
-use Rattle.mctower.specs.Running.{IsRunOf, RunsText, lock_of, on_lock, system_of}
+use Rattle.mctower.specs.Running.{IsRunOf, RunsText, lock_beneath, on_lock, system_of}
 use Rattle.mctower.specs.declared.run.Ran.{Ran as RanOver}
 use Rattle.mctower.specs.Output.{Output, between}
-use Rattle.mctower.specs.Serve.{OfPlan, RefusedBy, RunsPlan, TellsRun}
+use Rattle.mctower.specs.Serve.{OfPlan, RefusedBy, RunsPlan, ReportsRun}
 use Rattle.mctower.specs.Refusals.{from_fault}
 use Rattle.mctower.specs.declared.run.Fault.{Fault}
 use Rattle.mctower.specs.declared.run.Fault.TheVariants as run
@@ -28,20 +28,20 @@ use Rattle.mctower.proofs.serve.run_bytes.Goals as goal
 -- what is to be told of a run whose text was put out, and nothing more behind it
 told : (IsStepwise : Type 0) (plan : BootPlan) (steps : List CpuId) (s : Shown) (state : State) (answer : Result Done Refusal) (failed : Bool)
     → IsRunOf IsStepwise plan steps s → IsStateOf IsStepwise s state → answer ≡ (if failed then Err WriteFault else Ok (Ran state))
-    → TellsRun IsStepwise plan steps s answer failed
+    → ReportsRun IsStepwise plan steps s answer failed
 told IsStepwise plan steps s state answer false ran is given = (state, is, (λ step. state_of_run IsStepwise plan steps s ran step state is), given)
 told IsStepwise plan steps s state answer true ran is given = given
 
 -- the text of a run is out, and then nothing more was put out
 ran_out : {I J M N : Type 0} (IsStepwise : LockKind → Type 0) (steps : List CpuId) (r : RanOver I J M N) (state : State) (read : Result BootPlan BootError)
     (answer : Result Done Refusal) (first whole : Output) → RunsText IsStepwise read steps (Ok r) first
-    → IsStateOf (IsStepwise (lock_of r)) (system_of r) state → answer ≡ (if whole.failed then Err WriteFault else Ok (Ran state))
+    → IsStateOf (IsStepwise (lock_beneath r)) (system_of r) state → answer ≡ (if whole.failed then Err WriteFault else Ok (Ran state))
     → Outs whole.failed first.new whole.new [] → first.old ≡ whole.old
     → OfPlan (RunsPlan IsStepwise steps) read answer whole
 ran_out IsStepwise steps r state (Ok plan) answer first whole (over, runs) is given more same =
     let trace = runs.1.out.text in
     let out : Appends first.old first.new trace = all_out first.failed first.old first.new trace runs.0 runs.1.out.out in
-    let told_of = subst (λ lock. IsStateOf (IsStepwise lock) (system_of r) state) over is in
+    let report_of = subst (λ lock. IsStateOf (IsStepwise lock) (system_of r) state) over is in
     let outs = outs_then whole.failed first.old first.new whole.new trace [] out more in
     inr (record {
       cpus = runs.1.cpus;
@@ -49,19 +49,20 @@ ran_out IsStepwise steps r state (Ok plan) answer first whole (over, runs) is gi
       ran = runs.1.ran;
       trace = trace;
       traced = runs.1.out.is;
+      fifo = runs.1.fifo;
       table = runs.1.table;
       put = (
-        told (IsStepwise plan.lock) plan steps (system_of r) state answer whole.failed runs.1.ran told_of given,
+        told (IsStepwise plan.lock) plan steps (system_of r) state answer whole.failed runs.1.ran report_of given,
         subst (λ old. Outs whole.failed old whole.new trace) same (subst (λ t. Outs whole.failed first.old whole.new t) (append-nil trace) outs),
       );
     })
 ran_out IsStepwise steps r state (Err error) answer first whole runs is given more same = absurd runs
 
 -- the output failed
-told_fault : (IsStepwise : Type 0) (plan : BootPlan) (steps : List CpuId) (s : Shown) (failed : Bool) → failed ≡ true
-    → TellsRun IsStepwise plan steps s (Err WriteFault) failed
-told_fault IsStepwise plan steps s false is = absurd (cc)
-told_fault IsStepwise plan steps s true is = refl
+reported_fault : (IsStepwise : Type 0) (plan : BootPlan) (steps : List CpuId) (s : Shown) (failed : Bool) → failed ≡ true
+    → ReportsRun IsStepwise plan steps s (Err WriteFault) failed
+reported_fault IsStepwise plan steps s false is = absurd (cc)
+reported_fault IsStepwise plan steps s true is = refl
 
 -- a run that had a fault
 fault_ran : (I J M N : Type 0) (IsStepwise : LockKind → Type 0) (steps : List CpuId) (read : Result BootPlan BootError) (fault : Fault) (out : Output)
@@ -77,8 +78,9 @@ fault_ran I J M N IsStepwise steps (Ok plan) run.WriteFault out (over, runs) = i
   ran = runs.1.1.ran;
   trace = runs.1.1.out.text;
   traced = runs.1.1.out.is;
+  fifo = runs.1.1.fifo;
   table = runs.1.1.table;
-  put = (told_fault (IsStepwise plan.lock) plan steps runs.1.0 out.failed runs.0, runs.1.1.out.out);
+  put = (reported_fault (IsStepwise plan.lock) plan steps runs.1.0 out.failed runs.0, runs.1.1.out.out);
 }))
 fault_ran I J M N IsStepwise steps (Err e) run.NoMemory out runs = inl (refl, runs)
 fault_ran I J M N IsStepwise steps (Err e) (run.Boot f) out runs = inr (ap (λ x. Err (BadPlan x)) runs.0, runs.1)

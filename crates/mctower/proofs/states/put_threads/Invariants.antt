@@ -2,7 +2,7 @@ use Rattle.std.proofs.Common.{◌≡◌, take, false}
 use Rattle.std.specs.List.{flat_map}
 use Rattle.std.specs.Io.KnownBytes.{Appends}
 use Rattle.tracer.specs.Sinks.{has_failed, writer_of}
-use Rattle.tracer.specs.TraceText.{line_of, numbered}
+use Rattle.tracer.specs.TraceText.{text_line, numbered}
 use Rattle.mctower.specs.StateLines.{thread_pieces}
 use Rattle.mctower.proofs.states.put_threads.Given as goal
 
@@ -11,5 +11,5 @@ abbrev pub invariant-loop-t : goal.invariant-loop-t
 invariant-loop-t g l = record {
   live : has_failed l.sink ≡ false;
   out : Appends (g.W.Write.contents (writer_of l.fn.sink)) (g.W.Write.contents (writer_of l.sink))
-      (flat_map line_of (numbered thread_pieces 0 (take l.t l.places)));
+      (flat_map text_line (numbered thread_pieces 0 (take l.t l.places)));
 }

@@ -2,7 +2,7 @@ use Rattle.std.proofs.Common.{inr, ℕ, length, map, Ok, Err, refl, ap, sym, ◌
 use Rattle.boot.specs.Plan.{plan_of}
 use Rattle.tracer.specs.Gather.{traces_in}
 use Rattle.cpu.specs.Claims.{buffer_at, listed}
-use Rattle.cpu_workers.specs.Seating.{items_in}
+use Rattle.cpu_workers.specs.Seating.{items_of_block}
 use Rattle.mctower.specs.Output.{between}
 use Rattle.mctower.specs.Serve.{WorksPlan}
 use Rattle.mctower.specs.Texts.{HaveText, Writes}
@@ -14,7 +14,7 @@ write_text-requires-clause-text g c =
     let caps = c.as_slice.ensures.value ∙ c.caps-caps.ensures.caps in
     let traces = ap traces_in c.deref.ensures.value in
     let left = ap (map (λ v. v.items)) c.deref-2.ensures.0 ∙ c.left_in-left.ensures
-    ∙ ap (λ (n : ℕ). listed (λ b. items_in c.in-Ok-run_workers.report.blocks.items (buffer_at b)) 0 n)
+    ∙ ap (λ (n : ℕ). listed (λ b. items_of_block c.in-Ok-run_workers.report.blocks.items (buffer_at b)) 0 n)
     (c.len.ensures.value ∙ ap length c.caps-caps.ensures.caps) in
     subst (λ x. x) (λ i. HaveText (sym caps i) (sym traces i) (sym left i))
     (report_has c.in-Ok.boot c.args.turns _ c.in-Ok.ensures.within c.in-Ok-run_workers.ensures)
@@ -24,7 +24,7 @@ returns-in-Err-write_text-clause-works g c =
     let caps = c.as_slice.ensures.value ∙ c.caps-caps.ensures.caps in
     let traces = ap traces_in c.deref.ensures.value in
     let left = ap (map (λ v. v.items)) c.deref-2.ensures.0 ∙ c.left_in-left.ensures
-    ∙ ap (λ (n : ℕ). listed (λ b. items_in c.in-Ok-run_workers.report.blocks.items (buffer_at b)) 0 n)
+    ∙ ap (λ (n : ℕ). listed (λ b. items_of_block c.in-Ok-run_workers.report.blocks.items (buffer_at b)) 0 n)
     (c.len.ensures.value ∙ ap length c.caps-caps.ensures.caps) in
     of_read (WorksPlan c.args.turns) c.in-Ok.boot (plan_of c.args.plan.now) _ _ c.in-Ok.ensures.plan
     (not_written (Unit {0}) c.args.turns c.in-Ok.boot _ c.in-Ok-run_workers.report.stops c.in-Err-write_text.fault _ _ c.in-Ok-run_workers.ensures refl
@@ -37,7 +37,7 @@ returns-clause-works g c =
     let caps = c.as_slice.ensures.value ∙ c.caps-caps.ensures.caps in
     let traces = ap traces_in c.deref.ensures.value in
     let left = ap (map (λ v. v.items)) c.deref-2.ensures.0 ∙ c.left_in-left.ensures
-    ∙ ap (λ (n : ℕ). listed (λ b. items_in c.in-Ok-run_workers.report.blocks.items (buffer_at b)) 0 n)
+    ∙ ap (λ (n : ℕ). listed (λ b. items_of_block c.in-Ok-run_workers.report.blocks.items (buffer_at b)) 0 n)
     (c.len.ensures.value ∙ ap length c.caps-caps.ensures.caps) in
     of_read (WorksPlan c.args.turns) c.in-Ok.boot (plan_of c.args.plan.now) _ _ c.in-Ok.ensures.plan
     (inr (worked c.args.turns c.in-Ok.boot _ c.in-Ok-run_workers.report.stops c.put_out.result

@@ -4,10 +4,10 @@ use Rattle.event_log.specs.declared.ids.Tid.{Tid}
 use Rattle.thread_blocks.specs.Queues.{first}
 use Rattle.layer_traits.specs.declared.locked.Side.{Side}
 use Rattle.layer_traits.specs.declared.locked.Side.TheVariants.{Receivers, Senders}
-use Rattle.layer_traits.specs.declared.sleeps.Leave.TheVariants.{Nobody}
+use Rattle.layer_traits.specs.declared.sleeps.Wake.TheVariants.{Nobody}
 use Rattle.plain_layers.specs.declared.attempts.Ask.{Ask}
 use Rattle.plain_layers.specs.declared.attempts.Ask.TheVariants.{Send, Receive, Close}
-use Rattle.plain_layers.specs.Attempts.{PlainState, allows, far_side, leaving, side_of, waiting_on, waking_by}
+use Rattle.plain_layers.specs.Attempts.{PlainState, allows, far_side, leaving, attempt_side, waiting_on, waking_by}
 use Rattle.plain_layers.proofs.attempts.closed_buffers_let_all_go.Goals as goal
 
 goes : (ask : Ask) (x : PlainState) → x.closed ≡ true → allows ask x ≡ true
@@ -39,5 +39,5 @@ last_gone Senders x false is none = (nobody_first Receivers x.receivers none, no
 
 pub returns-clause-wakes : goal.returns-clause-wakes
 returns-clause-wakes c = λ ask x closed none.
-    last_gone (side_of ask) x (is_some (first (waiting_on (side_of ask) x))) refl
-    (subst (λ v. leaving (waking_by v (side_of ask) x) (first (waiting_on (waking_by v (side_of ask) x) x)) ≡ Nobody) closed none)
+    last_gone (attempt_side ask) x (is_some (first (waiting_on (attempt_side ask) x))) refl
+    (subst (λ v. leaving (waking_by v (attempt_side ask) x) (first (waiting_on (waking_by v (attempt_side ask) x) x)) ≡ Nobody) closed none)

@@ -1,6 +1,6 @@
 use Rattle.std.proofs.Common.{Some, ap, arith, option_map, subst, sym, ◌∙◌}
 use Rattle.plain_layers.specs.Tables.{IsSlot}
-use Rattle.plain_layers.proofs.TableLemmas.{slot_edited, slot_tells, slot_within}
+use Rattle.plain_layers.proofs.TableLemmas.{slot_edited, slot_reads, slot_within}
 use Rattle.plain_layers.proofs.lock_table.edit_at.Goals as goal
 
 pub index_mut-requires : goal.index_mut-requires
@@ -21,6 +21,6 @@ pub returns-clause-answer : goal.returns-clause-answer
 returns-clause-answer g c =
     let blocks = c.args.blocks.now.items in
     let slot = c.slot_of-slot.result in
-    let tells = slot_tells c.args.lock slot blocks c.index_mut.result.now
+    let tells = slot_reads c.args.lock slot blocks c.index_mut.result.now
     (subst (λ l. IsSlot c.args.lock slot l) c.deref.ensures.value c.slot_of-slot.ensures) c.index_mut.ensures.value in
     ap (option_map (g.E.Edit.rules.answer c.args.edit.now)) tells.1 ∙ ap Some (sym c.apply.ensures.answer)

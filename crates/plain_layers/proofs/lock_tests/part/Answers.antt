@@ -1,4 +1,4 @@
-use Rattle.plain_layers.proofs.LockPaceLemmas.{fresh_ended}
+use Rattle.plain_layers.proofs.LockSectionLemmas.{fresh_ended}
 use Rattle.std.proofs.Common.{[], ◌∷◌}
 use Rattle.plain_layers.proofs.lock_tests.part.Goals as goal
 

@@ -1,5 +1,5 @@
 use Rattle.layer_traits.specs.Queues.{QueueAllowed, event, kernel}
-use Rattle.plain_layers.proofs.QueuePaceLemmas.{first_poll, seen_alone}
+use Rattle.plain_layers.proofs.QueueSectionLemmas.{first_poll, seen_alone}
 use Rattle.plain_layers.proofs.queue_tests.at_once.Goals as goal
 
 -- no call is under way

@@ -6,9 +6,9 @@ use Rattle.layer_traits.specs.declared.queues.QueueCall.TheVariants.{OnBuffer, P
 use Rattle.layer_traits.specs.QueueBlocks.{homes_in, inner}
 use Rattle.layer_traits.specs.Queues.{event}
 use Rattle.plain_layers.specs.declared.sched_tests.Nap.{Nap}
-use Rattle.plain_layers.specs.Naps.{bed, nap_moves, nap_rules}
-use Rattle.plain_layers.specs.QueuePaces.{buffer_zero, cpu_one, cpu_zero, thread_one, thread_zero}
-use Rattle.plain_layers.proofs.QueuePaceLemmas.{Meeting, after_sleep, after_wake, callable_at, may_push, may_sleep, may_wake}
+use Rattle.plain_layers.specs.Naps.{waiters_of, nap_moves, nap_rules}
+use Rattle.plain_layers.specs.QueueSections.{buffer_zero, cpu_one, cpu_zero, thread_one, thread_zero}
+use Rattle.plain_layers.proofs.QueueSectionLemmas.{Meeting, after_sleep, after_wake, callable_at, may_push, may_sleep, may_wake}
 use Rattle.plain_layers.proofs.queue_tests.meet_at_one_queue.Goals as goal
 
 abbrev wakes : Nap → Bool
@@ -23,7 +23,7 @@ sleep = record { by = thread_one; wakes = false }
 abbrev wake : Nap
 wake = record { by = thread_zero; wakes = true }
 
-abbrev meets : (opening : LockId → Option (QueueBlock (Option Tid))) → homes_in opening ≡ cpu_one ∷ cpu_zero ∷ [] → inner opening bed ≡ Some None
+abbrev meets : (opening : LockId → Option (QueueBlock (Option Tid))) → homes_in opening ≡ cpu_one ∷ cpu_zero ∷ [] → inner opening waiters_of ≡ Some None
     → Meeting wakes by opening
 meets opening homes free = record {
   homes = homes;

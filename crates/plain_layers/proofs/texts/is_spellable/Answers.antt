@@ -15,5 +15,9 @@ returns-then-few c = λ is.
       few_entries = c.are_few-few.ensures c.if-few.true;
       entries = recursion_from_All (IsEntryOf 1) c.args.order.now (c.are_entries.ensures is);
       each_left = refl;
-      values = (recursion_from_All (IsItemOf v) c.args.items.now (λ k d small. spelled_by_each v (get_or c.args.items.now k d) (c.are_short.ensures c.if-not-are_short.false k d small)), tt);
+      values = (
+        recursion_from_All (IsItemOf v) c.args.items.now (λ k d small. spelled_by_each v (get_or c.args.items.now k d)
+            (c.are_short.ensures c.if-not-are_short.false k d small)),
+        tt,
+      );
     }

@@ -14,7 +14,7 @@ returns-in-Some-clause-done g c =
     let said = c.in-Some.ensures in
     let known = g.met.S.SleepLayer.known n (S.cpu_of part) (said.acts (S.cpu_of part) (g.met.S.SleepLayer.own_cpu part m c.requires.fits)) in
     inl (first_answers (asked (sleep_kernel g.E.Sleeps.rules (S.opening m)) (S.cpu_of part) c.args.buffer c.args.edit) (λ d. S.ActsFor m d) c.requires.all
-    (S.seen m) (S.seen n) (S.own part) (S.own c.poll.new.self) c.in-Some.outcome c.requires.kept known said.seen)
+    (S.seen m) (S.seen n) (S.own part) (S.own c.poll.new.self) c.in-Some.outcome c.requires.deferred known said.seen)
 
 -- the second sent the woken thread home
 pub returns-in-None-clause-done : goal.returns-in-None-clause-done
@@ -32,7 +32,7 @@ returns-in-None-clause-done g c =
     let known = g.met.S.SleepLayer.known n (S.cpu_of part) acts in
     let keeps = (said.prompt c.requires.whole refl).after in
     let begun = first_sends section (λ d. S.ActsFor m d) c.requires.all (S.seen m) (S.seen n)
-    (S.own part) (S.own p) c.requires.kept keeps known said.seen in
+    (S.own part) (S.own p) c.requires.deferred keeps known said.seen in
     let n' = c.poll-in-None.new.m in
     let p' = c.poll-in-None.new.self in
     let now_known = g.met.S.SleepLayer.known n' (S.cpu_of part) (more.acts (S.cpu_of part) acts) in
@@ -43,6 +43,6 @@ returns-in-None-clause-done g c =
     let polled = subst (λ o. SleepPolled k (λ d. S.ActsFor n d) (S.cpu_of part) c.args.buffer c.args.edit (S.seen n) (S.seen n') (S.own p)
     (record { own = S.own p'; answer = o })) c.unwrap.ensures cpus in
     let sent = second_sends section (λ d. S.ActsFor n d) (λ d small. said.acts d (c.requires.all d small))
-    (S.seen n) (S.seen n') (S.own p) (S.own p') begun.0 c.unwrap.result (ap (λ (s : Sleeping g.row.E-Out.Denot). s.kept) begun.1.leaves) now_known polled in
+    (S.seen n) (S.seen n') (S.own p) (S.own p') begun.0 c.unwrap.result (ap (λ (s : Sleeping g.row.E-Out.Denot). s.deferred) begun.1.leaves) now_known polled in
     inr (both_polls section (S.seen m) (S.seen n) (S.seen n') (S.own part).threads (S.own p) (S.own p') begun.0
     c.unwrap.result begun.1 sent)

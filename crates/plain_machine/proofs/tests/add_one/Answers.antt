@@ -1,7 +1,7 @@
 use Rattle.std.proofs.Common.{◌≡◌, IsSome, subst, sym}
 use Rattle.event_log.specs.declared.events.Event.TheVariants.{Draw}
-use Rattle.event_log.specs.WordsLog.{Waiting, standing}
-use Rattle.layer_traits.proofs.OneLockLemmas.{standing_own}
+use Rattle.event_log.specs.WordsLog.{Waiting, lock_phase}
+use Rattle.layer_traits.proofs.OneLockLemmas.{lock_phase_own}
 use Rattle.plain_machine.proofs.tests.add_one.Goals as goal
 
 pub look-requires-clause-cpu : goal.look-requires-clause-cpu
@@ -13,5 +13,5 @@ look-requires-clause-lock g c = subst (λ o. IsSome (o c.args.lock)) (sym c.draw
 pub look-requires-clause-waiting : goal.look-requires-clause-waiting
 look-requires-clause-waiting g c =
     let said = c.draw-ticket.ensures.adds in
-    subst (λ l. standing c.args.cpu l ≡ Waiting c.args.lock c.draw-ticket.result) (sym said.is)
-    (standing_own (Draw c.args.cpu c.args.lock c.draw-ticket.result) _)
+    subst (λ l. lock_phase c.args.cpu l ≡ Waiting c.args.lock c.draw-ticket.result) (sym said.is)
+    (lock_phase_own (Draw c.args.cpu c.args.lock c.draw-ticket.result) _)

@@ -1,5 +1,5 @@
 use Rattle.std.proofs.Common.{◌++◌, IsSome, if◌then◌else◌, ap, subst, sym, ◌∙◌}
-use Rattle.event_log.specs.Grants.{grant_standing}
+use Rattle.event_log.specs.Grants.{grant_lock_phase}
 use Rattle.event_log.specs.WordsLog.{Waiting}
 use Rattle.event_log.proofs.Same.{same_cpu_self}
 use Rattle.plain_machine.proofs.tests.add_one_granted.Goals as goal
@@ -14,5 +14,5 @@ pub peek-requires-clause-waiting : goal.peek-requires-clause-waiting
 peek-requires-clause-waiting g c =
     let said = c.take-ticket.ensures.adds in
     let past = said.others ++ g.W.GrantWords.seen c.args.words.now in
-    ap (λ log. grant_standing c.args.cpu log) said.is
-    ∙ ap (λ b. if b then Waiting c.args.lock c.take-ticket.result else grant_standing c.args.cpu past) (same_cpu_self c.args.cpu)
+    ap (λ log. grant_lock_phase c.args.cpu log) said.is
+    ∙ ap (λ b. if b then Waiting c.args.lock c.take-ticket.result else grant_lock_phase c.args.cpu past) (same_cpu_self c.args.cpu)

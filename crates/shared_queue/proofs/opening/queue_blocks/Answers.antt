@@ -2,7 +2,7 @@ use Rattle.std.proofs.Common.{◌≡◌, ◌<◌, ◌++◌, IsSome, length, sym,
 use Rattle.event_log.specs.declared.ids.LockId.TheVariants.{Pending, Buffer}
 use Rattle.layer_traits.specs.OneLock.{AreDistinct, opened}
 use Rattle.layer_traits.specs.QueueBlocks.{StartsWell, homes_in, inner}
-use Rattle.shared_queue.proofs.OpeningLemmas.{all_there, blocks_there, homes_told, locks_distinct, queues_there, starts_well}
+use Rattle.shared_queue.proofs.OpeningLemmas.{all_there, blocks_there, homes_read, locks_distinct, queues_there, starts_well}
 use Rattle.shared_queue.specs.Opening.{AreQueues, buffers_from}
 use Rattle.shared_queue.proofs.opening.queue_blocks.Goals as goal
 
@@ -46,7 +46,7 @@ returns-clause-homes g c =
     = all_there homes c.loop-i.i c.loop-i.locks.items (locks.items ++ buffers_from 0 blocks) c.loop-i.blocks.items none c.loop-i.invariant.0 in
     let count : length locks.items ≡ c.args.cpus = omega (arith, c.in_ok-locks.ensures.count, locks.ok.0) in
     let queues : AreQueues (length locks.items) homes (length blocks) = subst (λ n. AreQueues n homes (length blocks)) (sym count) c.requires in
-    subst (λ ls. homes_in (opened ls) ≡ homes) (sym all) (homes_told homes locks.items blocks are queues)
+    subst (λ ls. homes_in (opened ls) ≡ homes) (sym all) (homes_read homes locks.items blocks are queues)
 
 -- each CPU has its queue
 pub returns-clause-queues : goal.returns-clause-queues

@@ -1,7 +1,7 @@
 use Rattle.std.proofs.Common.{◌<◌, ◌≤◌, ◌-◌, ◌≡◌, length, arith, ap, sym, subst, ◌∙◌, length-set}
 use Rattle.event_log.specs.declared.ids.LockId.{LockId}
 use Rattle.event_log.specs.Locks.{lock_number}
-use Rattle.table_machine.proofs.Laying.{TellsFrom, tells_more, tells_all}
+use Rattle.table_machine.proofs.Laying.{AreRanksFrom, ranks_more, ranks_all}
 use Rattle.table_machine.proofs.open.ranks_of.Goals as goal
 
 pub loop-rank-preserved : goal.loop-rank-preserved
@@ -13,11 +13,11 @@ loop-rank-preserved g c =
     record {
       row = length-set c.loop-rank.ranks.items c.number.result (c.loop-rank.rank - 1) ∙ c.loop-rank.invariant.row;
       within = omega arith;
-      tells = subst (λ n. TellsFrom (Rattle.std.proofs.Common.set c.loop-rank.ranks.items n (c.loop-rank.rank - 1)) c.args.blocks.now
+      ranks_hold = subst (λ n. AreRanksFrom (Rattle.std.proofs.Common.set c.loop-rank.ranks.items n (c.loop-rank.rank - 1)) c.args.blocks.now
           (c.loop-rank.rank - 1)) (sym number)
-          (tells_more c.loop-rank.ranks.items c.args.blocks.now c.index-blocks-rank.result c.loop-rank.rank c.loop-rank-test.true within
-          c.index-blocks-rank.is below c.loop-rank.invariant.tells);
+          (ranks_more c.loop-rank.ranks.items c.args.blocks.now c.index-blocks-rank.result c.loop-rank.rank c.loop-rank-test.true within
+          c.index-blocks-rank.is below c.loop-rank.invariant.ranks_hold);
     }
 
 pub returns-clause-ranks : goal.returns-clause-ranks
-returns-clause-ranks g c = tells_all c.loop-rank.ranks.items c.args.blocks.now c.loop-rank.rank c.loop-rank-test.false c.loop-rank.invariant.tells
+returns-clause-ranks g c = ranks_all c.loop-rank.ranks.items c.args.blocks.now c.loop-rank.rank c.loop-rank-test.false c.loop-rank.invariant.ranks_hold

@@ -1,5 +1,5 @@
 use Rattle.std.proofs.Common.{sym, subst}
-use Rattle.table_machine.specs.Desks.{Covers}
+use Rattle.table_machine.specs.SeatViews.{Covers}
 use Rattle.table_machine.proofs.Fresh.{two_cover}
 use Rattle.table_machine.proofs.tests.closed.Goals as goal
 

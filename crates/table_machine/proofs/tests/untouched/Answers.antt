@@ -1,5 +1,5 @@
 use Rattle.std.proofs.Common.{All, sym, subst}
-use Rattle.table_machine.specs.Desks.{Covers, IsOver}
+use Rattle.table_machine.specs.SeatViews.{Covers, IsOver}
 use Rattle.table_machine.proofs.Fresh.{new_cover, new_over}
 use Rattle.table_machine.proofs.tests.untouched.Goals as goal
 

@@ -1,11 +1,11 @@
 use Rattle.std.proofs.Common.{◌≡◌, take, false}
 use Rattle.std.specs.List.{flat_map}
 use Rattle.std.specs.Io.KnownBytes.{Appends}
-use Rattle.tracer.specs.TraceText.{line_of, cap_pieces, numbered}
+use Rattle.tracer.specs.TraceText.{text_line, cap_pieces, numbered}
 use Rattle.tracer.proofs.writing.put_caps.Given as goal
 
 abbrev pub invariant-loop-b : goal.invariant-loop-b
 invariant-loop-b g l = record {
   live : l.sink.failed ≡ false;
-  out : Appends (g.W.Write.contents l.fn.sink.writer) (g.W.Write.contents l.sink.writer) (flat_map line_of (numbered cap_pieces 0 (take l.b l.caps)));
+  out : Appends (g.W.Write.contents l.fn.sink.writer) (g.W.Write.contents l.sink.writer) (flat_map text_line (numbered cap_pieces 0 (take l.b l.caps)));
 }

@@ -2,7 +2,7 @@ use Rattle.std.proofs.Common.{refl, ◌∙◌, sym}
 use Rattle.cpu.proofs.Schedules.{current_within}
 use Rattle.cpu.proofs.TableCalls.{stopped_steps}
 use Rattle.cpu.proofs.CpuStates.{valid_cpu}
-use Rattle.cpu.proofs.Layered.{laws_of, layered, runs_home, told_cpu, told_outset, left_alone}
+use Rattle.cpu.proofs.Layered.{laws_of, layered, runs_home, observed_cpu, observed_outset, left_alone}
 use Rattle.cpu.proofs.cpus.Cpu.act.Goals as goal
 
 pub reason-requires : goal.reason-requires
@@ -20,4 +20,4 @@ returns-in-Some-clause-steps g c = λ step.
     let m = c.args.m.now in
     let p = c.args.self.now in
     let cpu = layered (laws_of g.met.I.IpcLayer) m p c.requires.fits c.requires.number c.requires.is c.requires.table in
-    stopped_steps (told_cpu cpu step) _ _ (told_outset cpu step) c.in-Some.reason (sym (sym c.in-Some.is ∙ c.reason.ensures))
+    stopped_steps (observed_cpu cpu step) _ _ (observed_outset cpu step) c.in-Some.reason (sym (sym c.in-Some.is ∙ c.reason.ensures))

@@ -7,7 +7,7 @@ use Rattle.layer_traits.specs.declared.steps.Step.TheVariants.{Stepped}
 use Rattle.cpu.specs.Tables.{IsTabled, WentByTable}
 use Rattle.cpu.proofs.TableCalls.{computed_steps, computed_tabled}
 use Rattle.cpu.proofs.CpuStates.{valid_cpu}
-use Rattle.cpu.proofs.Layered.{laws_of, layered, told_cpu, told_outset, left_alone}
+use Rattle.cpu.proofs.Layered.{laws_of, layered, observed_cpu, observed_outset, left_alone}
 use Rattle.cpu.proofs.cpus.Cpu.compute.Goals as goal
 
 pub returns-clause-is : goal.returns-clause-is
@@ -15,8 +15,8 @@ returns-clause-is g c =
     let I = g.I.IpcLayer in
     let m = c.args.m.now in
     let p = c.args.self.now in
-    subst (λ (l : List (Option Guest)). IsCpu (I.homes_of m) (length (I.caps m)) (I.seen m) (I.threads p.part) (I.talks p.part)
-    (I.doing p.part) p.number l p.trace.items p.limit
+    subst (λ (l : List (Option Guest)). IsCpu (I.homes_of m) (length (I.caps m)) (I.seen m) (I.threads p.part) (I.call_states p.part)
+    (I.under_way p.part) p.number l p.trace.items p.limit
     (vec_capacity p.trace)) (sym c.note_compute.ensures)
     (noted_compute (valid_cpu c.requires.is) c.args.thread c.requires.chosen)
 
@@ -31,8 +31,8 @@ returns-clause-table g c = λ step.
     let m = c.args.m.now in
     let p = c.args.self.now in
     let cpu = layered (laws_of g.met.I.IpcLayer) m p c.requires.fits c.requires.number c.requires.is c.requires.table in
-    subst (λ (l : List (Option Guest)). IsTabled (I.homes_of m) (I.caps m) p.number (I.own p.part) (I.doing p.part) l (I.opening m))
-    (sym c.note_compute.ensures) (computed_tabled (told_cpu cpu step) c.args.thread c.requires.chosen)
+    subst (λ (l : List (Option Guest)). IsTabled (I.homes_of m) (I.caps m) p.number (I.own p.part) (I.under_way p.part) l (I.opening m))
+    (sym c.note_compute.ensures) (computed_tabled (observed_cpu cpu step) c.args.thread c.requires.chosen)
 
 pub returns-clause-steps : goal.returns-clause-steps
 returns-clause-steps g c = λ step.
@@ -42,4 +42,4 @@ returns-clause-steps g c = λ step.
     let cpu = layered (laws_of g.met.I.IpcLayer) m p c.requires.fits c.requires.number c.requires.is c.requires.table in
     subst (λ (l : List (Option Guest)). WentByTable (λ d. I.ActsFor m d) (I.homes_of m) (I.caps m) p.number p.limit (I.own p.part) (I.own p.part)
     p.guests.items l p.trace.items p.trace.items (I.acts m) (I.acts m) Stepped) (sym c.note_compute.ensures)
-    (computed_steps (told_cpu cpu step) _ _ (told_outset cpu step) c.args.thread c.requires.chosen c.requires.live)
+    (computed_steps (observed_cpu cpu step) _ _ (observed_outset cpu step) c.args.thread c.requires.chosen c.requires.live)

@@ -14,7 +14,7 @@ returns-clause-is g c =
     let m = c.args.m.now in
     let p = c.args.self.now in
     let acts = law.own_cpu p.part m c.requires.fits in
-    rw (c.look.ensures.homes, c.look.ensures.caps, c.look.ensures.threads, c.look.ensures.talks, c.look.ensures.doing)
+    rw (c.look.ensures.homes, c.look.ensures.caps, c.look.ensures.threads, c.look.ensures.call_states, c.look.ensures.under_way)
     (seen_stays (valid_cpu c.requires.is) (I.seen c.look.new.m)
     (others_same (λ d. I.ActsFor m d) p.number (I.seen m) (I.seen c.look.new.m) c.look.ensures.seen
     (subst (λ (d : CpuId). I.ActsFor m d) c.requires.number acts)))
@@ -45,7 +45,7 @@ returns-clause-leaves g c =
 
 pub returns-clause-table : goal.returns-clause-table
 returns-clause-table g c = λ step.
-    rw (c.look.ensures.homes, c.look.ensures.caps, c.look.ensures.own step, c.look.ensures.doing, c.look.ensures.opening) (c.requires.table step)
+    rw (c.look.ensures.homes, c.look.ensures.caps, c.look.ensures.own step, c.look.ensures.under_way, c.look.ensures.opening) (c.requires.table step)
 
 pub returns-clause-steps : goal.returns-clause-steps
 returns-clause-steps g c = λ step looked.

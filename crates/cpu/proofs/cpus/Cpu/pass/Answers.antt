@@ -4,13 +4,13 @@ use Rattle.event_log.specs.declared.ids.CpuId.{CpuId}
 use Rattle.event_log.specs.declared.ids.Tid.{Tid}
 use Rattle.layer_traits.specs.Places.{pending_by}
 use Rattle.cpu.specs.Cpus.{ActsGrow, passed_by, programs_of}
-use Rattle.cpu.proofs.Passing.{doing_done, doing_waits, follows_grow, others_same, programs_passed, passed_grows, others_grow}
+use Rattle.cpu.proofs.Passing.{under_way_done, under_way_waits, follows_grow, others_same, programs_passed, passed_grows, others_grow}
 use Rattle.cpu.proofs.Schedules.{current_within, may_pass, noted_done, noted_wait}
 use Rattle.layer_traits.specs.QueueBlocks.{homes_in}
 use Rattle.layer_traits.specs.BufferLaw.{MovesGrow}
-use Rattle.cpu.proofs.TableCalls.{ToldPass, hand_kept, passed_steps, passed_tabled}
+use Rattle.cpu.proofs.TableCalls.{ObservedPass, hand_preserved, passed_steps, passed_tabled}
 use Rattle.cpu.proofs.CpuStates.{valid_cpu}
-use Rattle.cpu.proofs.Layered.{acts_for, laws_of, layered, runs_home, told_cpu, told_outset}
+use Rattle.cpu.proofs.Layered.{acts_for, laws_of, layered, runs_home, observed_cpu, observed_outset}
 use Rattle.cpu.proofs.cpus.Cpu.pass.Given.{Over}
 use Rattle.cpu.proofs.cpus.Cpu.pass.Goals as goal
 
@@ -36,12 +36,12 @@ returns-then-is_some-clause-is g c =
     let cpu = layered (laws_of g.met.I.IpcLayer) m p c.requires.fits c.requires.number c.requires.is c.requires.table in
     let some : is_some c.pass-done.result ≡ true = search rules in
     let told = c.pass-done.ensures.passed in
-    rw (c.pass-done.ensures.homes, c.pass-done.ensures.caps, c.pass-done.ensures.talks)
+    rw (c.pass-done.ensures.homes, c.pass-done.ensures.caps, c.pass-done.ensures.call_states)
     (noted_done (valid_cpu c.requires.is) c.args.pass (pending_by (told.others ++ I.moves m) (I.cpu_of p.part)) (I.seen c.pass-done.new.m)
-    (I.threads c.pass-done.new.self) (I.doing c.pass-done.new.self) c.note_pass.new.self.items (runs_home cpu) c.requires.chosen
+    (I.threads c.pass-done.new.self) (I.under_way c.pass-done.new.self) c.note_pass.new.self.items (runs_home cpu) c.requires.chosen
     (others_same (λ d. I.ActsFor m d) p.number (I.seen m) (I.seen c.pass-done.new.m) c.pass-done.ensures.seen (acts_for cpu))
     (rw some at told.after)
-    (c.pass-done.ensures.doing ∙ doing_done c.args.pass c.pass-done.result some)
+    (c.pass-done.ensures.under_way ∙ under_way_done c.args.pass c.pass-done.result some)
     (c.note_pass.ensures ∙ ap (λ (o : Option Tid). passed_by o p.guests.items c.args.pass) c.current-runs.ensures))
 
 pub returns-then-is_some-clause-leaves : goal.returns-then-is_some-clause-leaves
@@ -76,12 +76,12 @@ returns-else-is_some-clause-is g c =
     let cpu = layered (laws_of g.met.I.IpcLayer) m p c.requires.fits c.requires.number c.requires.is c.requires.table in
     let none : is_some c.pass-done.result ≡ false = search rules in
     let told = c.pass-done.ensures.passed in
-    rw (c.pass-done.ensures.homes, c.pass-done.ensures.caps, c.pass-done.ensures.talks)
+    rw (c.pass-done.ensures.homes, c.pass-done.ensures.caps, c.pass-done.ensures.call_states)
     (noted_wait (valid_cpu c.requires.is) c.args.pass (I.seen c.pass-done.new.m) (I.threads c.pass-done.new.self)
-    (I.doing c.pass-done.new.self) c.requires.chosen
+    (I.under_way c.pass-done.new.self) c.requires.chosen
     (others_same (λ d. I.ActsFor m d) p.number (I.seen m) (I.seen c.pass-done.new.m) c.pass-done.ensures.seen (acts_for cpu))
     (rw none at told.after)
-    (c.pass-done.ensures.doing ∙ doing_waits c.args.pass c.pass-done.result none))
+    (c.pass-done.ensures.under_way ∙ under_way_waits c.args.pass c.pass-done.result none))
 
 pub returns-else-is_some-clause-leaves : goal.returns-else-is_some-clause-leaves
 returns-else-is_some-clause-leaves g c =
@@ -108,10 +108,10 @@ returns-else-is_some-clause-leaves g c =
     }
 
 -- what a poll that ended the pass leaves of the CPU over the tower
-abbrev done_told : (g : Over) (c : goal.After-note_pass g) (step : g.I.IpcLayer.IsStepwise)
+abbrev done_observed : (g : Over) (c : goal.After-note_pass g) (step : g.I.IpcLayer.IsStepwise)
     → let cpu = layered (laws_of g.met.I.IpcLayer) c.args.m.now c.args.self.now c.requires.fits c.requires.number c.requires.is c.requires.table in
-    ToldPass (λ d. g.I.IpcLayer.ActsFor c.args.m.now d) (told_cpu cpu step) c.args.pass (g.I.IpcLayer.acts c.args.m.now)
-done_told g c step =
+    ObservedPass (λ d. g.I.IpcLayer.ActsFor c.args.m.now d) (observed_cpu cpu step) c.args.pass (g.I.IpcLayer.acts c.args.m.now)
+done_observed g c step =
     let I = g.I.IpcLayer in
     let law = g.met.I.IpcLayer in
     let m = c.args.m.now in
@@ -121,21 +121,21 @@ done_told g c step =
     let done : is_some c.pass-done.result ≡ true = sym c.is_some.ensures ∙ c.if-is_some.true in
     record {
       homes = homes_in (I.opening m);
-      homes_are = law.tells_homes step m;
+      homes_are = law.reads_homes step m;
       part = I.own q;
       own = I.threads q;
-      tells = (law.tells step q).0;
-      doing = I.doing q;
+      reads_own = (law.reads_own step q).0;
+      under_way = I.under_way q;
       guests = c.note_pass.new.self.items;
       new = I.acts n;
       result = c.pass-done.result;
       before = I.moves m;
       after = I.moves n;
-      known = hand_kept (I.homes_of m) (I.homes_of n) (I.cpu_of q) (I.moves n) (I.threads q) c.pass-done.ensures.homes
-          (law.stands q n c.pass-done.ensures.fits) (law.moved n (I.cpu_of q) (law.own_cpu q n c.pass-done.ensures.fits));
+      known = hand_preserved (I.homes_of m) (I.homes_of n) (I.cpu_of q) (I.moves n) (I.threads q) c.pass-done.ensures.homes
+          (law.stands q n c.pass-done.ensures.fits) (law.moves_legal n (I.cpu_of q) (law.own_cpu q n c.pass-done.ensures.fits));
       follows = c.pass-done.ensures.follows step;
       passed = c.pass-done.ensures.passed;
-      doing_is = c.pass-done.ensures.doing;
+      under_way_is = c.pass-done.ensures.under_way;
       guests_is = c.note_pass.ensures ∙ (ap (λ (o : Option Tid). passed_by o p.guests.items c.args.pass) c.current-runs.ensures
           ∙ sym (ap (λ b. if b then passed_by (I.threads p.part).current p.guests.items c.args.pass else p.guests.items) done));
     }
@@ -146,20 +146,20 @@ returns-then-is_some-clause-table g c = λ step.
     let p = c.args.self.now in
     let cpu = layered (laws_of g.met.I.IpcLayer) m p c.requires.fits c.requires.number c.requires.is c.requires.table in
     rw (c.pass-done.ensures.homes, c.pass-done.ensures.caps, c.pass-done.ensures.opening)
-    (passed_tabled (told_cpu cpu step) _ _ (told_outset cpu step) c.args.pass c.requires.chosen c.requires.live (done_told g c step))
+    (passed_tabled (observed_cpu cpu step) _ _ (observed_outset cpu step) c.args.pass c.requires.chosen c.requires.live (done_observed g c step))
 
 pub returns-then-is_some-clause-steps : goal.returns-then-is_some-clause-steps
 returns-then-is_some-clause-steps g c = λ step.
     let m = c.args.m.now in
     let p = c.args.self.now in
     let cpu = layered (laws_of g.met.I.IpcLayer) m p c.requires.fits c.requires.number c.requires.is c.requires.table in
-    passed_steps (told_cpu cpu step) _ _ (told_outset cpu step) c.args.pass c.requires.chosen c.requires.live (done_told g c step)
+    passed_steps (observed_cpu cpu step) _ _ (observed_outset cpu step) c.args.pass c.requires.chosen c.requires.live (done_observed g c step)
 
 -- and what one leaves that did not
-abbrev wait_told : (g : Over) (c : goal.Else-is_some g) (step : g.I.IpcLayer.IsStepwise)
+abbrev wait_observed : (g : Over) (c : goal.Else-is_some g) (step : g.I.IpcLayer.IsStepwise)
     → let cpu = layered (laws_of g.met.I.IpcLayer) c.args.m.now c.args.self.now c.requires.fits c.requires.number c.requires.is c.requires.table in
-    ToldPass (λ d. g.I.IpcLayer.ActsFor c.args.m.now d) (told_cpu cpu step) c.args.pass (g.I.IpcLayer.acts c.args.m.now)
-wait_told g c step =
+    ObservedPass (λ d. g.I.IpcLayer.ActsFor c.args.m.now d) (observed_cpu cpu step) c.args.pass (g.I.IpcLayer.acts c.args.m.now)
+wait_observed g c step =
     let I = g.I.IpcLayer in
     let law = g.met.I.IpcLayer in
     let m = c.args.m.now in
@@ -169,21 +169,21 @@ wait_told g c step =
     let done : is_some c.pass-done.result ≡ false = sym c.is_some.ensures ∙ c.if-is_some.false in
     record {
       homes = homes_in (I.opening m);
-      homes_are = law.tells_homes step m;
+      homes_are = law.reads_homes step m;
       part = I.own q;
       own = I.threads q;
-      tells = (law.tells step q).0;
-      doing = I.doing q;
+      reads_own = (law.reads_own step q).0;
+      under_way = I.under_way q;
       guests = p.guests.items;
       new = I.acts n;
       result = c.pass-done.result;
       before = I.moves m;
       after = I.moves n;
-      known = hand_kept (I.homes_of m) (I.homes_of n) (I.cpu_of q) (I.moves n) (I.threads q) c.pass-done.ensures.homes
-          (law.stands q n c.pass-done.ensures.fits) (law.moved n (I.cpu_of q) (law.own_cpu q n c.pass-done.ensures.fits));
+      known = hand_preserved (I.homes_of m) (I.homes_of n) (I.cpu_of q) (I.moves n) (I.threads q) c.pass-done.ensures.homes
+          (law.stands q n c.pass-done.ensures.fits) (law.moves_legal n (I.cpu_of q) (law.own_cpu q n c.pass-done.ensures.fits));
       follows = c.pass-done.ensures.follows step;
       passed = c.pass-done.ensures.passed;
-      doing_is = c.pass-done.ensures.doing;
+      under_way_is = c.pass-done.ensures.under_way;
       guests_is = sym (ap (λ b. if b then passed_by (I.threads p.part).current p.guests.items c.args.pass else p.guests.items) done);
     }
 
@@ -193,11 +193,11 @@ returns-else-is_some-clause-table g c = λ step.
     let p = c.args.self.now in
     let cpu = layered (laws_of g.met.I.IpcLayer) m p c.requires.fits c.requires.number c.requires.is c.requires.table in
     rw (c.pass-done.ensures.homes, c.pass-done.ensures.caps, c.pass-done.ensures.opening)
-    (passed_tabled (told_cpu cpu step) _ _ (told_outset cpu step) c.args.pass c.requires.chosen c.requires.live (wait_told g c step))
+    (passed_tabled (observed_cpu cpu step) _ _ (observed_outset cpu step) c.args.pass c.requires.chosen c.requires.live (wait_observed g c step))
 
 pub returns-else-is_some-clause-steps : goal.returns-else-is_some-clause-steps
 returns-else-is_some-clause-steps g c = λ step.
     let m = c.args.m.now in
     let p = c.args.self.now in
     let cpu = layered (laws_of g.met.I.IpcLayer) m p c.requires.fits c.requires.number c.requires.is c.requires.table in
-    passed_steps (told_cpu cpu step) _ _ (told_outset cpu step) c.args.pass c.requires.chosen c.requires.live (wait_told g c step)
+    passed_steps (observed_cpu cpu step) _ _ (observed_outset cpu step) c.args.pass c.requires.chosen c.requires.live (wait_observed g c step)

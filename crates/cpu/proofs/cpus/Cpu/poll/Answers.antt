@@ -1,21 +1,21 @@
 use Rattle.std.proofs.Common.{◌++◌, Option, refl, ap, sym, ◌∙◌, subst, arith, vec_capacity}
 use Rattle.event_log.specs.declared.ids.CpuId.{CpuId}
 use Rattle.layer_traits.specs.declared.calls.Effect.{Effect}
-use Rattle.layer_traits.specs.BufferLaw.{buffer_of, talk_of}
+use Rattle.layer_traits.specs.BufferLaw.{buffer_of, call_state_of}
 use Rattle.cpu.specs.Guests.{entries_of, polled}
 use Rattle.cpu.specs.Cpus.{ActsGrow, programs_of, fresh_at, guest_at, with_guest}
 use Rattle.cpu.proofs.GuestLists.{programs_with}
 use Rattle.cpu.proofs.Passing.{called_grows, follows_grow}
-use Rattle.cpu.proofs.Steps.{PolledCpu, noted_call, poll_buffer, poll_number, poll_room, poll_talks, poll_within, polls_at}
+use Rattle.cpu.proofs.Steps.{PolledCpu, noted_call, poll_buffer, poll_number, poll_room, poll_call_states, poll_within, polls_at}
 use Rattle.layer_traits.specs.QueueBlocks.{homes_in}
-use Rattle.cpu.proofs.TableCalls.{ToldPoll, call_steps, call_tabled, hand_kept}
+use Rattle.cpu.proofs.TableCalls.{ObservedPoll, call_steps, call_tabled, hand_preserved}
 use Rattle.cpu.proofs.CpuStates.{valid_cpu}
-use Rattle.cpu.proofs.Layered.{acts_for, laws_of, layered, runs_home, told_cpu, told_outset}
+use Rattle.cpu.proofs.Layered.{acts_for, laws_of, layered, runs_home, observed_cpu, observed_outset}
 use Rattle.cpu.proofs.cpus.Cpu.poll.Given.{Over}
 use Rattle.cpu.proofs.cpus.Cpu.poll.Goals as goal
 
 pub poll-answer-requires-clause-same : goal.poll-answer-requires-clause-same
-poll-answer-requires-clause-same g c = poll_talks (valid_cpu c.requires.is) c.args.thread c.args.call.now c.requires.chosen
+poll-answer-requires-clause-same g c = poll_call_states (valid_cpu c.requires.is) c.args.thread c.args.call.now c.requires.chosen
 
 pub effect_here-effect-requires : goal.effect_here-effect-requires
 effect_here-effect-requires g c = poll_number (valid_cpu c.requires.is) c.args.thread c.args.call.now c.requires.chosen
@@ -34,21 +34,21 @@ note_effect-requires g c = λ f some.
     let less = poll_buffer (valid_cpu c.requires.is) t c.args.call.now c.requires.chosen in
     let effect = c.effect_here-effect.ensures in
     let after : PolledCpu (λ d. I.ActsFor m d) (valid_cpu c.requires.is) t c.args.call.now = record {
-      talks = I.talks c.poll-answer.new.self;
+      call_states = I.call_states c.poll-answer.new.self;
       seen = I.seen c.poll-answer.new.m;
       own = I.threads c.poll-answer.new.self;
-      doing = I.doing c.poll-answer.new.self;
+      under_way = I.under_way c.poll-answer.new.self;
       guests = c.note_poll-fresh.new.self.items;
       trace = p.trace.items
           ++ entries_of p.number t (buffer_of c.args.call.now)
-          (fresh_at (guest_at p.guests.items t.0) ((talk_of (I.talks c.poll-answer.new.self) t).effect));
+          (fresh_at (guest_at p.guests.items t.0) ((call_state_of (I.call_states c.poll-answer.new.self) t).effect));
       capacity = vec_capacity p.trace;
       answer = c.poll-answer.result;
       acts = acts_for cpu;
       home = runs_home cpu t runs;
       called = rw c.requires.number at (c.poll-answer.ensures.called less);
       runs_on = c.poll-answer.ensures.runs less;
-      doing_is = c.poll-answer.ensures.doing less;
+      under_way_is = c.poll-answer.ensures.under_way less;
       guests_is = c.note_poll-fresh.ensures.guests
           ∙ ap (λ (f : Option Effect). with_guest p.guests.items t.0 (λ x. polled x f c.poll-answer.result)) effect;
       trace_is = refl;
@@ -69,10 +69,10 @@ returns-clause-is g c =
     let less = poll_buffer (valid_cpu c.requires.is) t c.args.call.now c.requires.chosen in
     let effect = c.effect_here-effect.ensures in
     let after : PolledCpu (λ d. I.ActsFor m d) (valid_cpu c.requires.is) t c.args.call.now = record {
-      talks = I.talks c.poll-answer.new.self;
+      call_states = I.call_states c.poll-answer.new.self;
       seen = I.seen c.poll-answer.new.m;
       own = I.threads c.poll-answer.new.self;
-      doing = I.doing c.poll-answer.new.self;
+      under_way = I.under_way c.poll-answer.new.self;
       guests = c.note_poll-fresh.new.self.items;
       trace = c.note_effect.new.trace.items;
       capacity = vec_capacity c.note_effect.new.trace;
@@ -81,7 +81,7 @@ returns-clause-is g c =
       home = runs_home cpu t runs;
       called = rw c.requires.number at (c.poll-answer.ensures.called less);
       runs_on = c.poll-answer.ensures.runs less;
-      doing_is = c.poll-answer.ensures.doing less;
+      under_way_is = c.poll-answer.ensures.under_way less;
       guests_is = c.note_poll-fresh.ensures.guests
           ∙ ap (λ (f : Option Effect). with_guest p.guests.items t.0 (λ x. polled x f c.poll-answer.result)) effect;
       trace_is = c.note_effect.ensures.items
@@ -118,10 +118,10 @@ returns-clause-leaves g c =
     }
 
 -- what the poll leaves of the CPU over the tower
-abbrev told_poll : (g : Over) (c : goal.After-note_effect g) (step : g.I.IpcLayer.IsStepwise)
+abbrev observed_poll : (g : Over) (c : goal.After-note_effect g) (step : g.I.IpcLayer.IsStepwise)
     → let cpu = layered (laws_of g.met.I.IpcLayer) c.args.m.now c.args.self.now c.requires.fits c.requires.number c.requires.is c.requires.table in
-    ToldPoll (λ d. g.I.IpcLayer.ActsFor c.args.m.now d) (told_cpu cpu step) c.args.thread c.args.call.now (g.I.IpcLayer.acts c.args.m.now)
-told_poll g c step =
+    ObservedPoll (λ d. g.I.IpcLayer.ActsFor c.args.m.now d) (observed_cpu cpu step) c.args.thread c.args.call.now (g.I.IpcLayer.acts c.args.m.now)
+observed_poll g c step =
     let I = g.I.IpcLayer in
     let law = g.met.I.IpcLayer in
     let m = c.args.m.now in
@@ -132,21 +132,21 @@ told_poll g c step =
     let effect = c.effect_here-effect.ensures in
     record {
       homes = homes_in (I.opening m);
-      homes_are = law.tells_homes step m;
+      homes_are = law.reads_homes step m;
       part = I.own q;
       own = I.threads q;
-      talks = I.talks q;
-      tells = law.tells step q;
-      doing = I.doing q;
+      call_states = I.call_states q;
+      reads_own = law.reads_own step q;
+      under_way = I.under_way q;
       guests = c.note_poll-fresh.new.self.items;
       trace = c.note_effect.new.trace.items;
       new = I.acts n;
       result = c.poll-answer.result;
-      known = hand_kept (I.homes_of m) (I.homes_of n) (I.cpu_of q) (I.moves n) (I.threads q) c.poll-answer.ensures.homes
-          (law.stands q n c.poll-answer.ensures.fits) (law.moved n (I.cpu_of q) (law.own_cpu q n c.poll-answer.ensures.fits));
+      known = hand_preserved (I.homes_of m) (I.homes_of n) (I.cpu_of q) (I.moves n) (I.threads q) c.poll-answer.ensures.homes
+          (law.stands q n c.poll-answer.ensures.fits) (law.moves_legal n (I.cpu_of q) (law.own_cpu q n c.poll-answer.ensures.fits));
       follows = c.poll-answer.ensures.follows step;
       ended_is = (c.poll-answer.ensures.runs less).ended;
-      doing_is = c.poll-answer.ensures.doing less;
+      under_way_is = c.poll-answer.ensures.under_way less;
       guests_is = c.note_poll-fresh.ensures.guests
           ∙ ap (λ (f : Option Effect). with_guest p.guests.items c.args.thread.0 (λ x. polled x f c.poll-answer.result)) effect;
       trace_is = c.note_effect.ensures.items
@@ -158,9 +158,10 @@ pub returns-clause-table : goal.returns-clause-table
 returns-clause-table g c = λ step.
     let cpu = layered (laws_of g.met.I.IpcLayer) c.args.m.now c.args.self.now c.requires.fits c.requires.number c.requires.is c.requires.table in
     rw (c.poll-answer.ensures.homes, c.poll-answer.ensures.caps, c.poll-answer.ensures.opening)
-    (call_tabled (told_cpu cpu step) _ _ (told_outset cpu step) c.args.thread c.args.call.now c.requires.chosen c.requires.live (told_poll g c step))
+    (call_tabled (observed_cpu cpu step) _ _ (observed_outset cpu step) c.args.thread c.args.call.now c.requires.chosen c.requires.live
+    (observed_poll g c step))
 
 pub returns-clause-steps : goal.returns-clause-steps
 returns-clause-steps g c = λ step.
     let cpu = layered (laws_of g.met.I.IpcLayer) c.args.m.now c.args.self.now c.requires.fits c.requires.number c.requires.is c.requires.table in
-    call_steps (told_cpu cpu step) _ _ (told_outset cpu step) c.args.thread c.args.call.now c.requires.chosen c.requires.live (told_poll g c step)
+    call_steps (observed_cpu cpu step) _ _ (observed_outset cpu step) c.args.thread c.args.call.now c.requires.chosen c.requires.live (observed_poll g c step)

@@ -16,7 +16,7 @@ use Rattle.cpu.specs.Claims.{CpuShown, Shown}
 use Rattle.cpu.proofs.Advances.{live_room}
 use Rattle.cpu.proofs.ListReads.{read_at, shows_at}
 use Rattle.cpu.proofs.systems.System.advance.Goals as goal
-use Rattle.cpu.proofs.LayeredSteps.{shown_by, told_by, went_on, plan_kept}
+use Rattle.cpu.proofs.LayeredSteps.{shown_by, observed_by, went_on, plan_preserved}
 
 pub go-requires-clause-number : goal.go-requires-clause-number
 go-requires-clause-number g c =
@@ -79,7 +79,7 @@ invariant_of-self g c =
     let there : slice_get (map shown items) c.args.cpu.0 ≡ Some (shown x) =
     subst (λ (j : ℕ). slice_get (map shown items) j ≡ Some (shown x)) c.from.ensures (shows_at shown items k x at) in
     let within : c.args.cpu.0 < length (map shown items) = slice_get_within (map shown items) c.args.cpu.0 (shown x) there in
-    let told = told_by I g.I.Owned.owner in
+    let told = observed_by I g.I.Owned.owner in
     let one : Change (Cpu g.row.I.Denot g.row.I-Machine.Denot) = record {
       shown = shown;
       before = told m;
@@ -111,7 +111,7 @@ returns-clause-plan g c =
     let items = c.self.inside.cpus.items in
     let at = read_at (shown_by I) items c.args.self.now.cpus c.from.result c.args.cpu.0 c.index_mut-at.result.now (ap (λ (s : Shown). s.cpus) c.self.view_is)
     c.from.ensures c.requires.exists c.index_mut-at.ensures.value in
-    rw (← c.self.view_is) (plan_kept I g.I.Owned.owner c.self.inside.threads c.self.inside.machine c.go.new.m items c.self.inside.room c.self.inside.taken
+    rw (← c.self.view_is) (plan_preserved I g.I.Owned.owner c.self.inside.threads c.self.inside.machine c.go.new.m items c.self.inside.room c.self.inside.taken
     _ c.from.result c.index_mut-at.result.now c.go.new.self at c.go.ensures.leaves)
 
 pub returns-clause-steps : goal.returns-clause-steps

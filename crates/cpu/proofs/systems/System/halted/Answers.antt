@@ -13,7 +13,7 @@ use Rattle.cpu.specs.Table.Steps.{cpu_step}
 use Rattle.cpu.specs.Tower.Composed.{named}
 use Rattle.cpu.proofs.TableCalls.{answers_step}
 use Rattle.cpu.proofs.CpuStates.{valid_cpu}
-use Rattle.cpu.proofs.Layered.{laws_of, layered, runs_home, told_cpu, told_outset}
+use Rattle.cpu.proofs.Layered.{laws_of, layered, runs_home, observed_cpu, observed_outset}
 use Rattle.cpu.proofs.systems.System.halted.Goals as goal
 
 pub reason-requires : goal.reason-requires
@@ -59,7 +59,7 @@ returns-clause-table g c =
     let number_is : p.number ≡ c.args.cpu = one.number_is ∙ ap (λ (j : ℕ). cpu_at j) c.from.ensures in
     rw (← c.self.view_is) (λ step setup goes q at_q.
     let same : shown p ≡ q = same_Some (shown p) q (sym there_now ∙ at_q) in
-    let answers = answers_step (told_cpu cpu step) _ _ (told_outset cpu step) setup (goes.each c.from.result (shown p) there) in
+    let answers = answers_step (observed_cpu cpu step) _ _ (observed_outset cpu step) setup (goes.each c.from.result (shown p) there) in
     subst (λ (x : CpuShown). (cpu_step setup c.args.cpu x.private (named (I.acts m))).answer ≡ step_answer (own_reason_in
     (slice_get (map shown items) c.args.cpu.0))) same
     (subst (λ (d : CpuId). (cpu_step setup d (shown p).private (named (I.acts m))).answer ≡ step_answer (own_reason_in

@@ -3,6 +3,7 @@ use Rattle.std.specs.List.{AllByRecursion}
 use Rattle.std.proofs.lemmas.List.{length-map}
 use Rattle.event_log.specs.declared.entries.Entry.{Entry}
 use Rattle.event_log.specs.declared.ids.TheConstants.{CPUS}
+use Rattle.event_log.proofs.Streams.{taken_put}
 use Rattle.layer_traits.proofs.EffectRunLemmas.{effects_are_run}
 use Rattle.cpu.specs.Claims.{CpuShown, FollowPrograms, HasOneOrder, MovesAgree, Shown, StandsOnce, StayHome, buffer_at}
 use Rattle.cpu.proofs.ListReads.{there_is}
@@ -24,16 +25,16 @@ use Rattle.cpu.specs.Sound.{IsSetupFor}
 use Rattle.cpu.specs.Table.Blocks.{OfPending}
 use Rattle.cpu.specs.Table.Setups.{Setup}
 use Rattle.cpu.specs.Table.Steps.{block_at, halted_at}
-use Rattle.cpu.specs.Told.{CpuIsTold, HasBuffer, ToldByTable}
+use Rattle.cpu.specs.Observed.{CpuIsObserved, HasBuffer, ObservedByTable}
 use Rattle.cpu.specs.Tower.Composed.{named}
 use Rattle.cpu.specs.Tower.Views.{name_of}
 use Rattle.cpu.proofs.ListReads.{shown_at, shows_at}
-use Rattle.cpu.proofs.TableCalls.{halted_told}
-use Rattle.cpu.proofs.Placing.{ended_is, place_told}
-use Rattle.cpu.proofs.Telling.{has_buffer, pending_told}
-use Rattle.cpu.proofs.Layered.{laws_of, layered, told_cpu}
+use Rattle.cpu.proofs.TableCalls.{halted_read}
+use Rattle.cpu.proofs.Placing.{ended_is, place_read}
+use Rattle.cpu.proofs.Observing.{has_buffer, pending_read}
+use Rattle.cpu.proofs.Layered.{laws_of, layered, observed_cpu}
 use Rattle.cpu.proofs.systems.System.holds.Goals as goal
-use Rattle.cpu.proofs.LayeredSteps.{shown_by, cpus_have, told_by}
+use Rattle.cpu.proofs.LayeredSteps.{shown_by, cpus_have, observed_by}
 
 pub returns-clause-sound : goal.returns-clause-sound
 returns-clause-sound g c = λ step. subst (λ (s : Shown). SoundByTable s) c.self.view_is (sound_of _ (c.self.invariant.sound.1 step))
@@ -49,13 +50,13 @@ returns-clause-agree g c =
     let each = cpus_have I m c.self.inside.cpus.items is.each (λ part fits. law.stands part m fits) in
     let count = length-map c.self.inside.cpus.items (shown_by I) in
     subst (λ (s : Shown). MovesAgree s) c.self.view_is (record {
-      lawful = law.moved m (record { 0 = 0 }) acts;
+      lawful = law.moves_legal m (record { 0 = 0 }) acts;
       stands = λ k p at. (each k p at).stands;
       within = λ t home at. let inside = is.within t home at in omega (arith, inside, count);
     })
 
-pub returns-clause-told : goal.returns-clause-told
-returns-clause-told g c = λ step.
+pub returns-clause-observed : goal.returns-clause-observed
+returns-clause-observed g c = λ step.
     let I = g.I.IpcLayer in
     let law = g.met.I.IpcLayer in
     let m = c.self.inside.machine in
@@ -70,7 +71,7 @@ returns-clause-told g c = λ step.
     let first = there_is items 0 is.some in
     let one = (is.each 0 first.0 first.1).holds in
     let tabled = one.3 step in
-    let machine = told_by I g.I.Owned.owner m in
+    let machine = observed_by I g.I.Owned.owner m in
     let s = shown_in machine (map shown items) c.self.inside.room c.self.inside.taken in
     let caps : (setup : Setup) → IsSetupFor setup s → setup.caps ≡ I.caps m =
     λ setup goes. (goes.goes.each 0 (shown first.0) (shows_at shown items 0 first.0 first.1)).caps_are in
@@ -79,43 +80,43 @@ returns-clause-told g c = λ step.
     λ setup goes. (goes.goes.each 0 (shown first.0) (shows_at shown items 0 first.0 first.1)).homes_are in
     let each = cpus_have I m items is.each (λ part fits. law.stands part m fits) in
     let agree : MovesAgree s = record {
-      lawful = law.moved m zero acts;
+      lawful = law.moves_legal m zero acts;
       stands = λ k p at. (each k p at).stands;
       within = λ t home at. let inside = is.within t home at in omega (arith, inside, count);
     } in
-    let cpus_told : (setup : Setup) → IsSetupFor setup s → (k : ℕ) (p : CpuShown) → slice_get s.cpus k ≡ Some p → CpuIsTold setup s k p =
-    λ setup goes. shown_at shown (λ j q. CpuIsTold setup s j q) items (λ j x there.
+    let cpus_told : (setup : Setup) → IsSetupFor setup s → (k : ℕ) (p : CpuShown) → slice_get s.cpus k ≡ Some p → CpuIsObserved setup s k p =
+    λ setup goes. shown_at shown (λ j q. CpuIsObserved setup s j q) items (λ j x there.
     let at = (is.each j x there).holds in
     let number = (is.each j x there).number_is in
-    let tells = law.tells step x.part in
+    let reads_own = law.reads_own step x.part in
     let cpu = layered (laws_of g.met.I.IpcLayer) m x at.0 at.1 at.2 at.3 in
-    let halted = halted_told (told_cpu cpu step) setup (goes.goes.each j (shown x) (shows_at shown items j x there)) in
-    let pending = pending_told setup machine x.number (I.opening m) (at.3 step).opens (caps setup goes) are in
+    let halted = halted_read (observed_cpu cpu step) setup (goes.goes.each j (shown x) (shows_at shown items j x there)) in
+    let pending = pending_read setup machine x.number (I.opening m) (at.3 step).opens (caps setup goes) are in
     record {
       inside = ap is_in_section (phase_renamed name_of (cpu_at j) (I.acts m))
           ∙ ap (λ (d : CpuId). is_in_section (phase d (I.acts m))) (sym (at.1 ∙ number)) ∙ sym (law.busy x.part m at.0 step);
       halted = subst (λ (d : CpuId). halted_at setup d (shown x).private ≡ own_halted_at (I.threads x.part) x.guests.items x.trace.items
           x.limit) number halted;
-      current = ap (λ (t : Threads). t.current) tells.0;
-      ready = ap (λ (t : Threads). t.ready) tells.0;
-      hand = ap (λ (t : Threads). t.hand) tells.0;
+      current = ap (λ (t : Threads). t.current) reads_own.0;
+      ready = ap (λ (t : Threads). t.ready) reads_own.0;
+      hand = ap (λ (t : Threads). t.hand) reads_own.0;
       trace = refl;
       ended = λ t known.
           let size = (at.3 step).size in
           ended_is (I.own x.part) x.guests.items x.trace.items t (omega (arith, known, size))
-          ∙ ap (λ (own : Threads). is_in t own.ended) tells.0;
+          ∙ ap (λ (own : Threads). is_in t own.ended) reads_own.0;
       pending = subst (λ (d : CpuId). block_at setup (Pending d) (named (I.acts m)) ≡ Some (OfPending (pending_by (I.moves m) d))) number pending;
     }) in
     let buffers_told : (setup : Setup) → IsSetupFor setup s → (b : ℕ) → b < length s.caps → HasBuffer setup s b =
     λ setup goes b within. has_buffer setup machine first.0.number (I.opening m) tabled.opens (caps setup goes) are
     (map shown items) c.self.inside.room c.self.inside.taken sound goes (λ d. g.met.I.Owned.owner_is step m zero d acts) b within
     (g.met.I.Owned.items_are step m zero (buffer_at b) acts within) in
-    subst (λ (x : Shown). ToldByTable x) c.self.view_is (record {
+    subst (λ (x : Shown). ObservedByTable x) c.self.view_is (record {
       some = let least = is.some in omega (arith, least, count);
       few = let size = tabled.size in let few = one.2.few in omega (arith, size, few);
       cpus = cpus_told;
       buffers = buffers_told;
-      places = λ setup goes. place_told s agree (I.lines m) refl (law.lists first.0.part m one.0) setup (cpus_told setup goes) (buffers_told setup goes)
+      places = λ setup goes. place_read s agree (I.wait_lists m) refl (law.lists first.0.part m one.0) setup (cpus_told setup goes) (buffers_told setup goes)
           (homes setup goes);
     })
 
@@ -130,10 +131,12 @@ returns-clause-one_order g c =
     let each = cpus_have I m c.self.inside.cpus.items is.each (λ part fits. law.stands part m fits) in
     let count = length-map c.self.inside.cpus.items (shown_by I) in
     let few : length (I.seen m) < 2 ^ 64 = let short = is.short in let used = is.used in let small = is.small in omega (arith, short, used, small) in
+    let run = effects_are_run (I.caps m) (I.seen m) (law.lawful m (record { 0 = 0 }) acts) few in
     subst (λ (s : Shown). HasOneOrder s) c.self.view_is (record {
       order = reverse (I.seen m);
       keeps = traces_interleaved _ _ (I.seen m) _ _ each (subst (λ n. AllByRecursion (λ (e : Entry). e.cpu.0 < n) (I.seen m)) (sym count) is.known);
-      run = effects_are_run (I.caps m) (I.seen m) (law.lawful m (record { 0 = 0 }) acts) few;
+      run = run;
+      fifo = taken_put _ _ _ run;
       closed = λ b within. closed_by_order (I.seen m) (length (I.caps m)) b within;
     })
 
@@ -169,6 +172,7 @@ returns-clause-once g c =
     let fits = (is.each 0 first.0 first.1).holds.0 in
     subst (λ (s : Shown). StandsOnce s) c.self.view_is
     (once_of
-    (shown_in (told_by I g.I.Owned.owner m) (map (shown_by I) c.self.inside.cpus.items) c.self.inside.room c.self.inside.taken)
-    (length (I.caps m)) (I.lines m) refl (law.lists first.0.part m fits)
-    (λ t home at. let inside = is.within t home at in omega (arith, inside, count)) (law.moved m (record { 0 = 0 }) acts) (λ k p at. (each k p at).stands))
+    (shown_in (observed_by I g.I.Owned.owner m) (map (shown_by I) c.self.inside.cpus.items) c.self.inside.room c.self.inside.taken)
+    (length (I.caps m)) (I.wait_lists m) refl (law.lists first.0.part m fits)
+    (λ t home at. let inside = is.within t home at in omega (arith, inside, count)) (law.moves_legal m (record { 0 = 0 }) acts) (λ k p at.
+    (each k p at).stands))

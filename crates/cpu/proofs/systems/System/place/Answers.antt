@@ -1,7 +1,7 @@
 use Rattle.std.proofs.Common.{◌<◌, map, ◌∙◌, arith}
 use Rattle.event_log.specs.declared.ids.TheConstants.{CPUS}
 use Rattle.cpu.proofs.ListReads.{shows_at, there_is}
-use Rattle.cpu.proofs.Tellers.{item_at, own_place, berth_here, up_to, up_to_end}
+use Rattle.cpu.proofs.Observers.{item_at, own_place, wait_channel_here, up_to, up_to_end}
 use Rattle.cpu.proofs.systems.System.place.Goals as goal
 use Rattle.cpu.proofs.LayeredSteps.{shown_by}
 
@@ -14,7 +14,7 @@ returns-in-Some g c =
     let at = item_at items c.deref-at-items.result.now c.loop-at.at-index x c.deref-at-items.ensures.value c.loop-at-test.true c.at-item.is in
     let is = c.self.invariant.each c.loop-at.at-index x at in
     rw (← c.self.view_is) (own_place (map shown items) _ c.loop-at.at-index (shown x) (I.cpu_of x.part) c.args.thread c.in-Some.place
-    (shows_at shown items c.loop-at.at-index x at) (is.holds.1 ∙ is.number_is) (c.place_at.ensures.told c.in-Some.place c.in-Some.is))
+    (shows_at shown items c.loop-at.at-index x at) (is.holds.1 ∙ is.number_is) (c.place_at.ensures.observed c.in-Some.place c.in-Some.is))
 
 pub loop-at-preserved : goal.loop-at-preserved
 loop-at-preserved g c =
@@ -31,9 +31,9 @@ returns g c =
     let items = c.self.inside.cpus.items in
     let some : 0 < CPUS = let least = is.some in let most = is.most in omega (arith, least, most) in
     let first = there_is items 0 is.some in
-    let told = g.met.I.Owned.place first.0.part m c.args.thread (is.each 0 first.0 first.1).holds.0 (rw (← c.self.view_is) at c.requires) in
-    absurd (berth_here I m items
+    let observed = g.met.I.Owned.place first.0.part m c.args.thread (is.each 0 first.0 first.1).holds.0 (rw (← c.self.view_is) at c.requires) in
+    absurd (wait_channel_here I m items
     (λ k x at. let e = is.each k x at in (e.number_is, e.holds.0, e.holds.1)) is.rest (λ p. g.I.Owned.IsSilent p m c.args.thread) (I.homes_of m) (I.moves m)
-    c.args.thread (law.moved m (record { 0 = 0 }) (is.acts_for (record { 0 = 0 }) some)) is.within told
+    c.args.thread (law.moves_legal m (record { 0 = 0 }) (is.acts_for (record { 0 = 0 }) some)) is.within observed
     (up_to_end (λ x. g.I.Owned.IsSilent x.part m c.args.thread) items c.deref-at-items.result.now c.loop-at.at-index c.deref-at-items.ensures.value
     c.loop-at-test.false c.loop-at.invariant))

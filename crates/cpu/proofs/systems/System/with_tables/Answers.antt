@@ -34,7 +34,7 @@ assembled-requires g c =
     let threads = ap (λ (l : List CpuId). length l) (sym c.in_ok-machine.ensures.opened.homes_are) in
     let below : (k : ℕ) → k < length cpus → k < length tables =
     λ k within. let count = c.in_ok-cpus.ensures.count in omega (arith, so_many, within, count) in
-    let start = shown_of (I.caps m) (I.homes_of m) (I.seen m) (I.lines m) (g.I.Owned.owner m) (I.moves m) (I.acts m) (map shown cpus) c.args.room 0 in
+    let start = shown_of (I.caps m) (I.homes_of m) (I.seen m) (I.wait_lists m) (g.I.Owned.owner m) (I.moves m) (I.acts m) (map shown cpus) c.args.room 0 in
     let boots : I.IsStepwise → BootsByTable start = λ step. starts_by_table start (ap (λ (l : List (Action _)). named l) e.none) refl
     (shown_at shown (λ k p. IsNew (I.homes_of m) k p) cpus (λ k x at.
     let b = c.in_ok-cpus.ensures.booted k x at in

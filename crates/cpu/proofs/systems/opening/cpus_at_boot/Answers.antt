@@ -29,7 +29,7 @@ loop-number-preserved g c =
       booted = λ k z at. at_end (λ j (y : Cpu g.row.I.Denot g.row.I-Machine.Denot). IsBootedAs (λ p m. I.Fits p m) (λ m d. I.IsFresh m c.args.homes.now d)
           (λ m. length (I.caps m)) I.IsStepwise c.args.buffers c.args.homes.now j
           (slice_index_or (map (λ t. t.items) tables) j []) c.args.limit y.part (I.cpu_of y.part)
-          (I.own y.part) (I.threads y.part) (I.talks y.part) (I.doing y.part) y.number y.guests.items y.trace.items y.limit (vec_capacity y.trace))
+          (I.own y.part) (I.threads y.part) (I.call_states y.part) (I.under_way y.part) y.number y.guests.items y.trace.items y.limit (vec_capacity y.trace))
           c.loop-number.cpus.items x inv.booted
           (rw inv.so_many (record {
             booted = subst (λ (l : List (Option Guest)). IsBooted
@@ -37,8 +37,8 @@ loop-number-preserved g c =
                 guests e.booted;
             cpu_is = e.cpu;
             threads_are = e.threads;
-            nobody_talks = e.talks;
-            nothing_done = e.doing;
+            nobody_calls = e.call_states;
+            nothing_done = e.under_way;
             own_is = e.own;
             fits = e.fits;
           }))

@@ -14,6 +14,6 @@ invariant-loop-number g l = record {
       (λ m. length (g.I.IpcLayer.caps m)) g.I.IpcLayer.IsStepwise l.buffers
       l.homes k
       (slice_index_or (map (λ table. table.items) l.fn.tables.items) k []) l.limit x.part (g.I.IpcLayer.cpu_of x.part) (g.I.IpcLayer.own x.part)
-      (g.I.IpcLayer.threads x.part) (g.I.IpcLayer.talks x.part)
-      (g.I.IpcLayer.doing x.part) x.number x.guests.items x.trace.items x.limit (vec_capacity x.trace);
+      (g.I.IpcLayer.threads x.part) (g.I.IpcLayer.call_states x.part)
+      (g.I.IpcLayer.under_way x.part) x.number x.guests.items x.trace.items x.limit (vec_capacity x.trace);
 }

@@ -1,5 +1,5 @@
 use Rattle.std.proofs.Common.{◌≡◌, All, sym, subst, ◌∙◌, rules}
-use Rattle.table_machine.specs.Desks.{new_desks}
+use Rattle.table_machine.specs.SeatViews.{new_seat_views}
 use Rattle.cpu_workers.specs.declared.counting.AddOne.{AddOne}
 use Rattle.cpu_workers.specs.declared.counting.TheConstants.{NUMBER}
 use Rattle.cpu_workers.specs.Counts.{AllHaveMade, IsFresh}
@@ -8,11 +8,11 @@ use Rattle.cpu_workers.proofs.counting.tables.count_if_open.Goals as goal
 
 pub work_all-requires-clause-fresh : goal.work_all-requires-clause-fresh
 work_all-requires-clause-fresh g c κs within =
-    let keys : c.in-Ok.keys.items ≡ new_desks {E = AddOne} c.in-Ok.shared c.in-Ok.shared.cpus = first_of (cc, search rules) in
+    let keys : c.in-Ok.keys.items ≡ new_seat_views {E = AddOne} c.in-Ok.shared c.in-Ok.shared.cpus = first_of (cc, search rules) in
     subst (λ l. All (IsFresh c.in-Ok.shared) l) (sym keys) (new_fresh c.in-Ok.shared c.in-Ok.shared.cpus)
 
 pub number_left-left-requires-clause-came : goal.number_left-left-requires-clause-came
 number_left-left-requires-clause-came g c =
-    let keys : c.in-Ok.keys.items ≡ new_desks {E = AddOne} c.in-Ok.shared c.in-Ok.shared.cpus = first_of (cc, search rules) in
-    subst (λ l. AllHaveMade NUMBER (new_desks {E = AddOne} c.in-Ok.shared c.in-Ok.shared.cpus) l 0) (sym (c.in-Err.ensures.refused ∙ keys))
+    let keys : c.in-Ok.keys.items ≡ new_seat_views {E = AddOne} c.in-Ok.shared c.in-Ok.shared.cpus = first_of (cc, search rules) in
+    subst (λ l. AllHaveMade NUMBER (new_seat_views {E = AddOne} c.in-Ok.shared c.in-Ok.shared.cpus) l 0) (sym (c.in-Err.ensures.refused ∙ keys))
     (new_have_made_none AddOne NUMBER c.in-Ok.shared c.in-Ok.shared.cpus)

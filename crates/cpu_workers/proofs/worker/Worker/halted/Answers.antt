@@ -2,8 +2,8 @@ use Rattle.std.proofs.Common.{◌≡◌, sym, ◌∙◌, subst}
 use Rattle.cpu.specs.Table.Steps.{halted_at}
 use Rattle.cpu.proofs.CpuStates.{valid_cpu}
 use Rattle.cpu.proofs.Schedules.{current_within}
-use Rattle.cpu.proofs.Layered.{laws_of, layered, runs_home, told_cpu}
-use Rattle.cpu.proofs.TableCalls.{halted_told}
+use Rattle.cpu.proofs.Layered.{laws_of, layered, runs_home, observed_cpu}
+use Rattle.cpu.proofs.TableCalls.{halted_read}
 use Rattle.cpu_workers.specs.Working.{IsPlanned, Working}
 use Rattle.cpu_workers.proofs.Planning.{own_reason, planned}
 use Rattle.cpu_workers.proofs.worker.Worker.halted.Goals as goal
@@ -23,7 +23,7 @@ returns-clause-is g c = λ setup of.
     let p = c.self.inside.cpu in
     let is = c.self.invariant in
     let cpu = layered (laws_of g.met.I.IpcLayer) m p is.fits is.number is.is (λ step. is.tabled) in
-    let same = halted_told (told_cpu cpu is.stepwise) setup
+    let same = halted_read (observed_cpu cpu is.stepwise) setup
     (planned setup (I.homes_of m) (I.caps m) p.guests.items p.limit (subst (λ (w : Working). IsPlanned setup w.plan) (sym c.self.view_is) of)) in
     subst (λ (w : Working). halted_at setup w.cpu w.private ≡ c.halted.result) c.self.view_is (same ∙ sym c.halted.ensures)
 

@@ -4,7 +4,7 @@ use Rattle.event_log.specs.Sections.{sections_in}
 use Rattle.layer_traits.specs.BufferEffects.{effects_in}
 use Rattle.layer_traits.specs.Queues.{buffer_sections, event_of}
 use Rattle.cpu.specs.Cpus.{of_cpu}
-use Rattle.cpu.proofs.Layered.{laws_of, layered, told_cpu}
+use Rattle.cpu.proofs.Layered.{laws_of, layered, observed_cpu}
 use Rattle.cpu_workers.specs.Orders.{HasFollowed, IsTraceOf}
 use Rattle.cpu_workers.specs.Working.{Working}
 use Rattle.cpu_workers.proofs.Planning.{has_followed}
@@ -37,4 +37,4 @@ returns-clause-follows g c =
     let p = c.self.inside.cpu in
     let is = c.self.invariant in
     let cpu = layered (laws_of g.met.I.IpcLayer) m p is.fits is.number is.is (λ step. is.tabled) in
-    subst (λ (w : Working). HasFollowed w) c.self.view_is (has_followed (told_cpu cpu is.stepwise) (I.acts m) (I.site m))
+    subst (λ (w : Working). HasFollowed w) c.self.view_is (has_followed (observed_cpu cpu is.stepwise) (I.acts m) (I.site m))

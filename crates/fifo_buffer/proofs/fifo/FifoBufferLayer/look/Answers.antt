@@ -36,7 +36,7 @@ returns-clause-fits g c =
       c.look.ensures.fits,
       rw (c.look.ensures.opening, c.look.ensures.cpu, c.look.ensures.own, c.look.ensures.call)
           (part_grown (C.opening m) cpu grown.others (C.seen m) (C.seen c.look.new.m) (grown.foreign cpu acts) lawful grown.is
-          (C.own p.lower) p.talks.talks (C.under_way p.lower) p.calling c.requires.fits.1),
+          (C.own p.lower) p.call_states.call_states (C.under_way p.lower) p.calling c.requires.fits.1),
     )
 
 pub returns-clause-others : goal.returns-clause-others
@@ -52,6 +52,6 @@ returns-clause-others g c q other fits =
       c.look.ensures.others q.lower other fits.0,
       rw c.look.ensures.opening
           (part_grown (C.opening m) (C.cpu_of q.lower) grown.others (C.seen m) (C.seen c.look.new.m)
-          (grown.foreign (C.cpu_of q.lower) acts) lawful grown.is (C.own q.lower) q.talks.talks
+          (grown.foreign (C.cpu_of q.lower) acts) lawful grown.is (C.own q.lower) q.call_states.call_states
           (C.under_way q.lower) q.calling fits.1),
     )

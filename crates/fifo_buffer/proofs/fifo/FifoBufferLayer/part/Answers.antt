@@ -7,5 +7,5 @@ returns-clause-fits g c m acts outside none still homes pending boots =
     let empty = no_events (C.opening m) (C.seen m) still in (
       c.part.ensures.fits m acts.0 outside empty homes pending (all_rest (C.opening m) boots),
       rw c.part.ensures.call (start_fits (C.opening m) c.args.homes.now c.args.cpu (C.cpu_of c.part.result) (C.seen m)
-          (C.own c.part.result) c.new.result.talks boots empty c.part.ensures.own c.new.ensures),
+          (C.own c.part.result) c.new.result.call_states boots empty c.part.ensures.own c.new.ensures),
     )

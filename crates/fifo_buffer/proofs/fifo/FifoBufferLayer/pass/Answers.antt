@@ -1,7 +1,7 @@
 use Rattle.std.proofs.Common.{◌++◌, is_some}
 use Rattle.layer_traits.specs.QueueBlocks.{homes_in}
 use Rattle.layer_traits.specs.SleepLaw.{done_if}
-use Rattle.fifo_buffer.specs.Paces.{BufferOutcome}
+use Rattle.fifo_buffer.specs.SectionPolls.{BufferOutcome}
 use Rattle.fifo_buffer.proofs.Passes.{lawful_before, part_passed, pass_done, pass_events, pass_grown, pass_moved, pass_seen, passed_own}
 use Rattle.fifo_buffer.proofs.fifo.FifoBufferLayer.pass.Goals as goal
 
@@ -37,12 +37,13 @@ returns-clause-fits g c =
     let before = lawful_before (C.opening m) (pass_events (homes_in (C.opening m)) cpu c.args.call
     (is_some (done_if {O = BufferOutcome} c.pass.result))) (polled.others ++ C.seen m)
     (C.seen c.pass.new.m) grown lawful in
-    let on = part_passed pass cpu (polled.foreign cpu acts) before (C.own p.lower) p.talks.talks (C.under_way p.lower) p.calling c.requires.fits.1 in (
+    let on = part_passed pass cpu (polled.foreign cpu acts) before (C.own p.lower) p.call_states.call_states
+    (C.under_way p.lower) p.calling c.requires.fits.1 in (
       c.pass.ensures.fits,
       rw (c.pass.ensures.opening, c.pass.ensures.cpu, c.pass.ensures.call)
-          (passed_own (C.opening m) cpu (C.seen c.pass.new.m) (C.own p.lower) (C.own c.pass.new.self) p.talks.talks
+          (passed_own (C.opening m) cpu (C.seen c.pass.new.m) (C.own p.lower) (C.own c.pass.new.self) p.call_states.call_states
           (C.under_way p.lower) p.calling c.args.call (is_some c.pass.result)
-          c.requires.goes_on c.pass.ensures.kept c.pass.ensures.slept c.pass.ensures.waits on),
+          c.requires.goes_on c.pass.ensures.deferred c.pass.ensures.slept c.pass.ensures.waits on),
     )
 
 pub returns-clause-others : goal.returns-clause-others
@@ -62,6 +63,7 @@ returns-clause-others g c q other fits =
     (C.seen c.pass.new.m) grown lawful in (
       c.pass.ensures.others q.lower other fits.0,
       rw c.pass.ensures.opening
-          (part_passed pass (C.cpu_of q.lower) (polled.foreign (C.cpu_of q.lower) (law.own_cpu q.lower m fits.0)) before (C.own q.lower) q.talks.talks
+          (part_passed pass (C.cpu_of q.lower) (polled.foreign (C.cpu_of q.lower) (law.own_cpu q.lower m fits.0)) before
+          (C.own q.lower) q.call_states.call_states
           (C.under_way q.lower) q.calling fits.1),
     )

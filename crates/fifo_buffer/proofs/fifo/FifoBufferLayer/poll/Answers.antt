@@ -2,9 +2,9 @@ use Rattle.std.proofs.Common.{◌≡◌, ◌∙◌, ap, sym, subst, refl, true, 
 use Rattle.event_log.specs.declared.ids.CpuId.{CpuId}
 use Rattle.event_log.specs.declared.ids.Tid.{Tid}
 use Rattle.layer_traits.specs.declared.calls.Reply.{Reply}
-use Rattle.layer_traits.specs.declared.talks.Stage.{Stage}
-use Rattle.layer_traits.specs.declared.talks.Talk.{Talk}
-use Rattle.layer_traits.specs.BufferLaw.{Buffering, buffer_of, buffering, going, plan_at, plan_of, replied, talk_of}
+use Rattle.layer_traits.specs.declared.call_states.Stage.{Stage}
+use Rattle.layer_traits.specs.declared.call_states.CallState.{CallState}
+use Rattle.layer_traits.specs.BufferLaw.{Buffering, buffer_of, buffering, going, plan_at, plan_of, replied, call_state_of}
 use Rattle.layer_traits.specs.BufferProtocol.{buffer_rules}
 use Rattle.layer_traits.specs.Locking.{lock_moves, lock_rules}
 use Rattle.layer_traits.specs.Plans.{Follows, Left, table_of}
@@ -13,36 +13,40 @@ use Rattle.layer_traits.specs.QueueBlocks.{homes_in, inner}
 use Rattle.layer_traits.specs.Queues.{buffer_sections}
 use Rattle.thread_blocks.specs.Queues.{same_tid}
 use Rattle.fifo_buffer.specs.Stances.{called_at}
-use Rattle.fifo_buffer.specs.Paces.{MayPace, Paced, is_at_once}
+use Rattle.fifo_buffer.specs.SectionPolls.{MayPollSection, SectionPolled, is_at_once}
 use Rattle.fifo_buffer.proofs.Chains.{follows_for, one_follows, two_follows}
 use Rattle.fifo_buffer.proofs.Finish.{called_by, finish, others_after}
 use Rattle.fifo_buffer.proofs.First.{first_may, goes_called}
-use Rattle.fifo_buffer.proofs.Heard.{runs_home}
+use Rattle.fifo_buffer.proofs.Recorded.{runs_home}
 use Rattle.fifo_buffer.specs.OwnedLaws.{block_there}
 use Rattle.fifo_buffer.proofs.Parts.{moves_grown, other_part}
-use Rattle.fifo_buffer.proofs.PaceTaken.{taken}
-use Rattle.fifo_buffer.proofs.Twice.{apart_talk, ended_of, next_going, told_as, exit_free, marks_of, doing_by}
-use Rattle.fifo_buffer.proofs.Twice.{later_call, later_effect, next_may, other_talk, runs_by, sizes_of, why, why_slept}
+use Rattle.fifo_buffer.proofs.SectionPollTaken.{taken}
+use Rattle.fifo_buffer.proofs.Twice.{apart_call_state, ended_of, next_going, completes_as, exit_free, marks_of, under_way_by}
+use Rattle.fifo_buffer.proofs.Twice.{later_call, later_effect, next_may, other_call_state, runs_by, sizes_of, why, why_slept}
 use Rattle.fifo_buffer.proofs.fifo.FifoBufferLayer.poll.Goals as goal
 
 pub returns-clause-acts : goal.returns-clause-acts
 returns-clause-acts g c d both =
-    (c.pace-done.ensures.acts d both.0, rw c.pace-done.ensures.opening both.1)
+    (c.poll_section-done.ensures.acts d both.0, rw c.poll_section-done.ensures.opening both.1)
 
 pub returns-then-at_once-clause-acts : goal.returns-then-at_once-clause-acts
-returns-then-at_once-clause-acts g c d both =
-    (c.pace-last.ensures.acts d (c.pace-done.ensures.acts d both.0), rw (c.pace-last.ensures.opening, c.pace-done.ensures.opening) both.1)
+returns-then-at_once-clause-acts g c d both = (
+  c.poll_section-last.ensures.acts d (c.poll_section-done.ensures.acts d both.0),
+  rw
+      (c.poll_section-last.ensures.opening, c.poll_section-done.ensures.opening) both.1,
+)
 
-pub pace-done-requires-clause-buffer : goal.pace-done-requires-clause-buffer
-pace-done-requires-clause-buffer g c =
+pub poll_section-done-requires-clause-buffer : goal.poll_section-done-requires-clause-buffer
+poll_section-done-requires-clause-buffer g c =
     block_there (g.C.CvLayer.opening c.args.m.now) c.requires.fits.1.boots (buffer_of c.args.call.now) c.requires.buffer
 
-pub pace-last-requires-clause-buffer : goal.pace-last-requires-clause-buffer
-pace-last-requires-clause-buffer g c =
-    rw c.pace-done.ensures.opening (block_there (g.C.CvLayer.opening c.args.m.now) c.requires.fits.1.boots (buffer_of c.args.call.now) c.requires.buffer)
+pub poll_section-last-requires-clause-buffer : goal.poll_section-last-requires-clause-buffer
+poll_section-last-requires-clause-buffer g c =
+    rw c.poll_section-done.ensures.opening (block_there (g.C.CvLayer.opening c.args.m.now) c.requires.fits.1.boots
+    (buffer_of c.args.call.now) c.requires.buffer)
 
-pub pace-done-requires-clause-may : goal.pace-done-requires-clause-may
-pace-done-requires-clause-may g c =
+pub poll_section-done-requires-clause-may : goal.poll_section-done-requires-clause-may
+poll_section-done-requires-clause-may g c =
     let C = g.C.CvLayer in
     let law = g.met.C.CvLayer in
     let m = c.args.m.now in
@@ -50,20 +54,20 @@ pace-done-requires-clause-may g c =
     let cpu = C.cpu_of p.lower in
     let t = c.args.t in
     let call = c.args.call.now in
-    let talks = p.talks.talks in
+    let call_states = p.call_states.call_states in
     let own = C.own p.lower in
     let O = inner (C.opening m) in
     let homes = homes_in (C.opening m) in
     let acts = law.own_cpu p.lower m c.requires.fits.0 in
-    let home = runs_home (C.opening m) cpu (C.seen m) own.lock.sleep.threads t (law.moving m cpu acts)
+    let home = runs_home (C.opening m) cpu (C.seen m) own.lock.sleep.threads t (law.moves_legal m cpu acts)
     (law.stands p.lower m c.requires.fits.0) c.requires.runs in
-    let first = first_may homes cpu O (buffer_sections (C.seen m)) own talks (C.under_way p.lower) p.calling t call home c.requires.fits.1.calls
+    let first = first_may homes cpu O (buffer_sections (C.seen m)) own call_states (C.under_way p.lower) p.calling t call home c.requires.fits.1.calls
     c.requires.runs c.requires.hand c.requires.same c.requires.goes_on in
     let may = first.0 in
     may
 
-pub pace-last-requires-clause-may : goal.pace-last-requires-clause-may
-pace-last-requires-clause-may g c =
+pub poll_section-last-requires-clause-may : goal.poll_section-last-requires-clause-may
+poll_section-last-requires-clause-may g c =
     let C = g.C.CvLayer in
     let law = g.met.C.CvLayer in
     let m = c.args.m.now in
@@ -71,44 +75,44 @@ pace-last-requires-clause-may g c =
     let cpu = C.cpu_of p.lower in
     let t = c.args.t in
     let call = c.args.call.now in
-    let talks = p.talks.talks in
+    let call_states = p.call_states.call_states in
     let own = C.own p.lower in
     let O = inner (C.opening m) in
     let homes = homes_in (C.opening m) in
     let acts = law.own_cpu p.lower m c.requires.fits.0 in
-    let home = runs_home (C.opening m) cpu (C.seen m) own.lock.sleep.threads t (law.moving m cpu acts)
+    let home = runs_home (C.opening m) cpu (C.seen m) own.lock.sleep.threads t (law.moves_legal m cpu acts)
     (law.stands p.lower m c.requires.fits.0) c.requires.runs in
-    let first = first_may homes cpu O (buffer_sections (C.seen m)) own talks (C.under_way p.lower) p.calling t call home c.requires.fits.1.calls
+    let first = first_may homes cpu O (buffer_sections (C.seen m)) own call_states (C.under_way p.lower) p.calling t call home c.requires.fits.1.calls
     c.requires.runs c.requires.hand c.requires.same c.requires.goes_on in
     let may = first.0 in
-    let one = c.pace-done in
+    let one = c.poll_section-done in
     let m1 = one.new.m in
     let own1 = C.own one.new.self.lower in
     let under1 = C.under_way one.new.self.lower in
-    let talks1 = one.new.self.talks.talks in
-    let later1 = talk_of talks1 t in
-    let pace1 = taken one.ensures.paced in
+    let talks1 = one.new.self.call_states.call_states in
+    let later1 = call_state_of talks1 t in
+    let pace1 = taken one.ensures.section_polled in
     let at_once = (ap (λ (s : Stage). is_at_once s c.at_once.result) (sym c.next_stage-stage.ensures) ∙ sym c.answers_at_once-at_once.ensures)
     ∙ c.if-at_once.true in
     let next_is : going later1 call ≡ later1 = next_going pace1 c.at_once.result c.if-done.true at_once may.called in
     rw one.ensures.opening
-    (subst (λ (x : Talk). MayPace O (buffer_sections (C.seen m1)) t call x own1 under1) (sym next_is)
+    (subst (λ (x : CallState). MayPollSection O (buffer_sections (C.seen m1)) t call x own1 under1) (sym next_is)
     (next_may pace1 c.at_once.result c.if-done.true at_once may.called))
 
 pub returns-clause-runs : goal.returns-clause-runs
 returns-clause-runs g c =
-    let one = c.pace-done in
-    let pace1 = taken one.ensures.paced in
-    rw c.told-2.ensures.lower (runs_by pace1 c.told-2.result
-    (told_as pace1 c.next_stage-stage.result c.next_stage-stage.ensures c.told-2.result c.told-2.ensures.answer))
+    let one = c.poll_section-done in
+    let pace1 = taken one.ensures.section_polled in
+    rw c.complete-2.ensures.lower (runs_by pace1 c.complete-2.result
+    (completes_as pace1 c.next_stage-stage.result c.next_stage-stage.ensures c.complete-2.result c.complete-2.ensures.answer))
 
-pub returns-clause-doing : goal.returns-clause-doing
-returns-clause-doing g c =
-    let one = c.pace-done in
-    let pace1 = taken one.ensures.paced in
-    rw (c.told-2.ensures.calling, c.told-2.ensures.lower)
-    (doing_by pace1 c.told-2.result
-    (told_as pace1 c.next_stage-stage.result c.next_stage-stage.ensures c.told-2.result c.told-2.ensures.answer))
+pub returns-clause-under_way : goal.returns-clause-under_way
+returns-clause-under_way g c =
+    let one = c.poll_section-done in
+    let pace1 = taken one.ensures.section_polled in
+    rw (c.complete-2.ensures.calling, c.complete-2.ensures.lower)
+    (under_way_by pace1 c.complete-2.result
+    (completes_as pace1 c.next_stage-stage.result c.next_stage-stage.ensures c.complete-2.result c.complete-2.ensures.answer))
 
 pub returns-clause-moves : goal.returns-clause-moves
 returns-clause-moves g c =
@@ -116,10 +120,10 @@ returns-clause-moves g c =
     let m = c.args.m.now in
     let p = c.args.self.now in
     let cpu = C.cpu_of p.lower in
-    let one = c.pace-done in
+    let one = c.poll_section-done in
     let m1 = one.new.m in
     let Acts0 : CpuId → Type 0 = λ d. C.ActsFor m d in
-    let paced1 = one.ensures.paced in
+    let paced1 = one.ensures.section_polled in
     rw one.ensures.opening (moves_grown (C.opening m) Acts0 _ cpu paced1.mine paced1.others (C.seen m) (C.seen m1)
     (λ d both. both.0) paced1.foreign paced1.own_events paced1.is)
 
@@ -132,33 +136,34 @@ returns-clause-fits g c =
     let cpu = C.cpu_of p.lower in
     let t = c.args.t in
     let call = c.args.call.now in
-    let talks = p.talks.talks in
+    let call_states = p.call_states.call_states in
     let own = C.own p.lower in
     let O = inner (C.opening m) in
     let homes = homes_in (C.opening m) in
     let acts = law.own_cpu p.lower m c.requires.fits.0 in
-    let home = runs_home (C.opening m) cpu (C.seen m) own.lock.sleep.threads t (law.moving m cpu acts)
+    let home = runs_home (C.opening m) cpu (C.seen m) own.lock.sleep.threads t (law.moves_legal m cpu acts)
     (law.stands p.lower m c.requires.fits.0) c.requires.runs in
-    let first = first_may homes cpu O (buffer_sections (C.seen m)) own talks (C.under_way p.lower) p.calling t call home c.requires.fits.1.calls
+    let first = first_may homes cpu O (buffer_sections (C.seen m)) own call_states (C.under_way p.lower) p.calling t call home c.requires.fits.1.calls
     c.requires.runs c.requires.hand c.requires.same c.requires.goes_on in
     let may = first.0 in
-    let one = c.pace-done in
-    let talks1 = one.new.self.talks.talks in
-    let later1 = talk_of talks1 t in
-    let pace1 = taken one.ensures.paced in
-    let same1 : (u : Tid) → same_tid t u ≡ false → talk_of talks1 u ≡ talk_of talks u = λ u other. other_talk talks talks1 t u later1 one.ensures.talks other in
-    let sizes1 = sizes_of pace1 talks talks1 one.ensures.talks c.requires.fits.1.sizes in
-    let others1 = others_after pace1 home may.called talks talks1 refl same1 first.1 in (
-      rw c.told-2.ensures.lower one.ensures.fits,
-      rw (c.told-2.ensures.lower, c.told-2.ensures.talks, c.told-2.ensures.calling, one.ensures.opening, one.ensures.cpu)
+    let one = c.poll_section-done in
+    let talks1 = one.new.self.call_states.call_states in
+    let later1 = call_state_of talks1 t in
+    let pace1 = taken one.ensures.section_polled in
+    let same1 : (u : Tid) → same_tid t u ≡ false → call_state_of talks1 u ≡ call_state_of call_states u =
+    λ u other. other_call_state call_states talks1 t u later1 one.ensures.call_states other in
+    let sizes1 = sizes_of pace1 call_states talks1 one.ensures.call_states c.requires.fits.1.sizes in
+    let others1 = others_after pace1 home may.called call_states talks1 refl same1 first.1 in (
+      rw c.complete-2.ensures.lower one.ensures.fits,
+      rw (c.complete-2.ensures.lower, c.complete-2.ensures.call_states, c.complete-2.ensures.calling, one.ensures.opening, one.ensures.cpu)
           (record {
             boots = c.requires.fits.1.boots;
             sizes = sizes1;
             calls =
-                finish pace1 home may.called talks
+                finish pace1 home may.called call_states
                 talks1 refl same1 first.1
-                c.told-2.result (told_as pace1
-                c.next_stage-stage.result c.next_stage-stage.ensures c.told-2.result c.told-2.ensures.answer);
+                c.complete-2.result (completes_as pace1
+                c.next_stage-stage.result c.next_stage-stage.ensures c.complete-2.result c.complete-2.ensures.answer);
           }),
     )
 
@@ -171,28 +176,29 @@ returns-clause-called g c =
     let cpu = C.cpu_of p.lower in
     let t = c.args.t in
     let call = c.args.call.now in
-    let talks = p.talks.talks in
+    let call_states = p.call_states.call_states in
     let own = C.own p.lower in
     let O = inner (C.opening m) in
     let homes = homes_in (C.opening m) in
     let acts = law.own_cpu p.lower m c.requires.fits.0 in
-    let home = runs_home (C.opening m) cpu (C.seen m) own.lock.sleep.threads t (law.moving m cpu acts)
+    let home = runs_home (C.opening m) cpu (C.seen m) own.lock.sleep.threads t (law.moves_legal m cpu acts)
     (law.stands p.lower m c.requires.fits.0) c.requires.runs in
-    let first = first_may homes cpu O (buffer_sections (C.seen m)) own talks (C.under_way p.lower) p.calling t call home c.requires.fits.1.calls
+    let first = first_may homes cpu O (buffer_sections (C.seen m)) own call_states (C.under_way p.lower) p.calling t call home c.requires.fits.1.calls
     c.requires.runs c.requires.hand c.requires.same c.requires.goes_on in
-    let talk = going (talk_of talks t) call in
+    let call_state = going (call_state_of call_states t) call in
     let may = first.0 in
-    let one = c.pace-done in
-    let talks1 = one.new.self.talks.talks in
-    let later1 = talk_of talks1 t in
-    let pace1 = taken one.ensures.paced in
-    let same1 : (u : Tid) → same_tid t u ≡ false → talk_of talks1 u ≡ talk_of talks u = λ u other. other_talk talks talks1 t u later1 one.ensures.talks other in
-    rw (one.ensures.opening, c.told-2.ensures.talks)
-    (called_by pace1 home may.called talks talks1 refl
-    same1 _ (λ d both. both.0) talks
-    refl (λ u other. apart_talk talks talks1 t u later1 one.ensures.talks other)
-    (goes_called O (buffer_sections (C.seen m)) t call talk own (C.under_way p.lower) may.goes) c.told-2.result
-    (told_as pace1 c.next_stage-stage.result c.next_stage-stage.ensures c.told-2.result c.told-2.ensures.answer))
+    let one = c.poll_section-done in
+    let talks1 = one.new.self.call_states.call_states in
+    let later1 = call_state_of talks1 t in
+    let pace1 = taken one.ensures.section_polled in
+    let same1 : (u : Tid) → same_tid t u ≡ false → call_state_of talks1 u ≡ call_state_of call_states u =
+    λ u other. other_call_state call_states talks1 t u later1 one.ensures.call_states other in
+    rw (one.ensures.opening, c.complete-2.ensures.call_states)
+    (called_by pace1 home may.called call_states talks1 refl
+    same1 _ (λ d both. both.0) call_states
+    refl (λ u other. apart_call_state call_states talks1 t u later1 one.ensures.call_states other)
+    (goes_called O (buffer_sections (C.seen m)) t call call_state own (C.under_way p.lower) may.goes) c.complete-2.result
+    (completes_as pace1 c.next_stage-stage.result c.next_stage-stage.ensures c.complete-2.result c.complete-2.ensures.answer))
 
 pub returns-clause-others : goal.returns-clause-others
 returns-clause-others g c q other fits =
@@ -202,14 +208,14 @@ returns-clause-others g c q other fits =
     let p = c.args.self.now in
     let cpu = C.cpu_of p.lower in
     let acts = law.own_cpu p.lower m c.requires.fits.0 in
-    let one = c.pace-done in
+    let one = c.poll_section-done in
     let m1 = one.new.m in
-    let paced1 = one.ensures.paced in
+    let paced1 = one.ensures.section_polled in
     let lawful = rw one.ensures.opening at (law.lawful m1 cpu (one.ensures.acts cpu acts)) in (
       one.ensures.others q.lower other fits.0,
       rw one.ensures.opening
           (other_part (C.opening m) cpu (C.cpu_of q.lower) other paced1.mine paced1.others (C.seen m) (C.seen m1) paced1.own_events
-          (paced1.foreign (C.cpu_of q.lower) (law.own_cpu q.lower m fits.0)) paced1.is lawful (C.own q.lower) q.talks.talks
+          (paced1.foreign (C.cpu_of q.lower) (law.own_cpu q.lower m fits.0)) paced1.is lawful (C.own q.lower) q.call_states.call_states
           (C.under_way q.lower) q.calling fits.1),
     )
 
@@ -222,22 +228,22 @@ returns-then-at_once-clause-room g c =
     let cpu = C.cpu_of p.lower in
     let t = c.args.t in
     let call = c.args.call.now in
-    let talks = p.talks.talks in
+    let call_states = p.call_states.call_states in
     let own = C.own p.lower in
     let O = inner (C.opening m) in
     let homes = homes_in (C.opening m) in
     let acts = law.own_cpu p.lower m c.requires.fits.0 in
-    let home = runs_home (C.opening m) cpu (C.seen m) own.lock.sleep.threads t (law.moving m cpu acts)
+    let home = runs_home (C.opening m) cpu (C.seen m) own.lock.sleep.threads t (law.moves_legal m cpu acts)
     (law.stands p.lower m c.requires.fits.0) c.requires.runs in
-    let first = first_may homes cpu O (buffer_sections (C.seen m)) own talks (C.under_way p.lower) p.calling t call home c.requires.fits.1.calls
+    let first = first_may homes cpu O (buffer_sections (C.seen m)) own call_states (C.under_way p.lower) p.calling t call home c.requires.fits.1.calls
     c.requires.runs c.requires.hand c.requires.same c.requires.goes_on in
     let may = first.0 in
-    let one = c.pace-done in
+    let one = c.poll_section-done in
     let m1 = one.new.m in
-    let pace1 = taken one.ensures.paced in
+    let pace1 = taken one.ensures.section_polled in
     let at_once = (ap (λ (s : Stage). is_at_once s c.at_once.result) (sym c.next_stage-stage.ensures) ∙ sym c.answers_at_once-at_once.ensures)
     ∙ c.if-at_once.true in
-    let two = c.pace-last in
+    let two = c.poll_section-last in
     let m2 = two.new.m in
     let sm : m1 ≡ m = elim (why pace1 c.at_once.result c.if-done.true at_once may.called c.requires.runs c.at_once.ensures)
     [ inl some ↦ one.ensures.woken some | inr some ↦ one.ensures.handed some ] in
@@ -245,24 +251,24 @@ returns-then-at_once-clause-room g c =
 
 pub returns-then-at_once-clause-runs : goal.returns-then-at_once-clause-runs
 returns-then-at_once-clause-runs g c =
-    let one = c.pace-done in
-    let paced1 = one.ensures.paced in
-    let two = c.pace-last in
-    let paced2 = rw (one.ensures.opening, one.ensures.cpu) at two.ensures.paced in
+    let one = c.poll_section-done in
+    let paced1 = one.ensures.section_polled in
+    let two = c.poll_section-last in
+    let paced2 = rw (one.ensures.opening, one.ensures.cpu) at two.ensures.section_polled in
     let pace2 = taken paced2 in
-    let run = runs_by pace2 c.told.result
-    (told_as pace2 c.next_stage-next.result c.next_stage-next.ensures c.told.result c.told.ensures.answer) in
-    rw c.told.ensures.lower (record { current = run.current; hand = run.hand; ended = run.ended ∙ paced1.ended })
+    let run = runs_by pace2 c.complete.result
+    (completes_as pace2 c.next_stage-next.result c.next_stage-next.ensures c.complete.result c.complete.ensures.answer) in
+    rw c.complete.ensures.lower (record { current = run.current; hand = run.hand; ended = run.ended ∙ paced1.ended })
 
-pub returns-then-at_once-clause-doing : goal.returns-then-at_once-clause-doing
-returns-then-at_once-clause-doing g c =
-    let one = c.pace-done in
-    let two = c.pace-last in
-    let paced2 = rw (one.ensures.opening, one.ensures.cpu) at two.ensures.paced in
+pub returns-then-at_once-clause-under_way : goal.returns-then-at_once-clause-under_way
+returns-then-at_once-clause-under_way g c =
+    let one = c.poll_section-done in
+    let two = c.poll_section-last in
+    let paced2 = rw (one.ensures.opening, one.ensures.cpu) at two.ensures.section_polled in
     let pace2 = taken paced2 in
-    rw (c.told.ensures.calling, c.told.ensures.lower)
-    (doing_by pace2 c.told.result
-    (told_as pace2 c.next_stage-next.result c.next_stage-next.ensures c.told.result c.told.ensures.answer))
+    rw (c.complete.ensures.calling, c.complete.ensures.lower)
+    (under_way_by pace2 c.complete.result
+    (completes_as pace2 c.next_stage-next.result c.next_stage-next.ensures c.complete.result c.complete.ensures.answer))
 
 pub returns-then-at_once-clause-moves : goal.returns-then-at_once-clause-moves
 returns-then-at_once-clause-moves g c =
@@ -273,25 +279,25 @@ returns-then-at_once-clause-moves g c =
     let cpu = C.cpu_of p.lower in
     let t = c.args.t in
     let call = c.args.call.now in
-    let talks = p.talks.talks in
+    let call_states = p.call_states.call_states in
     let own = C.own p.lower in
     let O = inner (C.opening m) in
     let homes = homes_in (C.opening m) in
     let acts = law.own_cpu p.lower m c.requires.fits.0 in
-    let home = runs_home (C.opening m) cpu (C.seen m) own.lock.sleep.threads t (law.moving m cpu acts)
+    let home = runs_home (C.opening m) cpu (C.seen m) own.lock.sleep.threads t (law.moves_legal m cpu acts)
     (law.stands p.lower m c.requires.fits.0) c.requires.runs in
-    let first = first_may homes cpu O (buffer_sections (C.seen m)) own talks (C.under_way p.lower) p.calling t call home c.requires.fits.1.calls
+    let first = first_may homes cpu O (buffer_sections (C.seen m)) own call_states (C.under_way p.lower) p.calling t call home c.requires.fits.1.calls
     c.requires.runs c.requires.hand c.requires.same c.requires.goes_on in
     let may = first.0 in
-    let one = c.pace-done in
+    let one = c.poll_section-done in
     let m1 = one.new.m in
-    let pace1 = taken one.ensures.paced in
+    let pace1 = taken one.ensures.section_polled in
     let at_once = (ap (λ (s : Stage). is_at_once s c.at_once.result) (sym c.next_stage-stage.ensures) ∙ sym c.answers_at_once-at_once.ensures)
     ∙ c.if-at_once.true in
-    let two = c.pace-last in
+    let two = c.poll_section-last in
     let m2 = two.new.m in
     let Acts1 : CpuId → Type 0 = λ d. C.ActsFor m1 d in
-    let paced2 = rw (one.ensures.opening, one.ensures.cpu) at two.ensures.paced in
+    let paced2 = rw (one.ensures.opening, one.ensures.cpu) at two.ensures.section_polled in
     let sm : m1 ≡ m = elim (why pace1 c.at_once.result c.if-done.true at_once may.called c.requires.runs c.at_once.ensures)
     [ inl some ↦ one.ensures.woken some | inr some ↦ one.ensures.handed some ] in
     let is : C.seen m2 ≡ paced2.mine ++ (paced2.others ++ C.seen m) = paced2.is ∙ ap (λ l. paced2.mine ++ (paced2.others ++ l)) (ap C.seen sm) in
@@ -308,47 +314,56 @@ returns-then-at_once-clause-fits g c =
     let cpu = C.cpu_of p.lower in
     let t = c.args.t in
     let call = c.args.call.now in
-    let talks = p.talks.talks in
+    let call_states = p.call_states.call_states in
     let own = C.own p.lower in
     let O = inner (C.opening m) in
     let homes = homes_in (C.opening m) in
     let acts = law.own_cpu p.lower m c.requires.fits.0 in
-    let home = runs_home (C.opening m) cpu (C.seen m) own.lock.sleep.threads t (law.moving m cpu acts)
+    let home = runs_home (C.opening m) cpu (C.seen m) own.lock.sleep.threads t (law.moves_legal m cpu acts)
     (law.stands p.lower m c.requires.fits.0) c.requires.runs in
-    let first = first_may homes cpu O (buffer_sections (C.seen m)) own talks (C.under_way p.lower) p.calling t call home c.requires.fits.1.calls
+    let first = first_may homes cpu O (buffer_sections (C.seen m)) own call_states (C.under_way p.lower) p.calling t call home c.requires.fits.1.calls
     c.requires.runs c.requires.hand c.requires.same c.requires.goes_on in
     let may = first.0 in
-    let one = c.pace-done in
+    let one = c.poll_section-done in
     let m1 = one.new.m in
-    let talks1 = one.new.self.talks.talks in
-    let later1 = talk_of talks1 t in
-    let pace1 = taken one.ensures.paced in
-    let same1 : (u : Tid) → same_tid t u ≡ false → talk_of talks1 u ≡ talk_of talks u = λ u other. other_talk talks talks1 t u later1 one.ensures.talks other in
-    let sizes1 = sizes_of pace1 talks talks1 one.ensures.talks c.requires.fits.1.sizes in
-    let others1 = others_after pace1 home may.called talks talks1 refl same1 first.1 in
+    let talks1 = one.new.self.call_states.call_states in
+    let later1 = call_state_of talks1 t in
+    let pace1 = taken one.ensures.section_polled in
+    let same1 : (u : Tid) → same_tid t u ≡ false → call_state_of talks1 u ≡ call_state_of call_states u =
+    λ u other. other_call_state call_states talks1 t u later1 one.ensures.call_states other in
+    let sizes1 = sizes_of pace1 call_states talks1 one.ensures.call_states c.requires.fits.1.sizes in
+    let others1 = others_after pace1 home may.called call_states talks1 refl same1 first.1 in
     let at_once = (ap (λ (s : Stage). is_at_once s c.at_once.result) (sym c.next_stage-stage.ensures) ∙ sym c.answers_at_once-at_once.ensures)
     ∙ c.if-at_once.true in
-    let two = c.pace-last in
-    let talks2 = two.new.self.talks.talks in
-    let later2 = talk_of talks2 t in
+    let two = c.poll_section-last in
+    let talks2 = two.new.self.call_states.call_states in
+    let later2 = call_state_of talks2 t in
     let next = going later1 call in
     let next_is : going later1 call ≡ later1 = next_going pace1 c.at_once.result c.if-done.true at_once may.called in
     let called1 = later_call pace1 c.at_once.result c.if-done.true at_once may.called in
-    let called2 : next.call ≡ Some call = ap (λ (x : Talk). x.call) next_is ∙ called1 in
-    let paced2 = rw (one.ensures.opening, one.ensures.cpu) at two.ensures.paced in
+    let called2 : next.call ≡ Some call = ap (λ (x : CallState). x.call) next_is ∙ called1 in
+    let paced2 = rw (one.ensures.opening, one.ensures.cpu) at two.ensures.section_polled in
     let pace2 = taken paced2 in
-    let same2 : (u : Tid) → same_tid t u ≡ false → talk_of talks2 u ≡ talk_of talks1 u
-    = λ u other. other_talk talks1 talks2 t u later2 two.ensures.talks other in
+    let same2 : (u : Tid) → same_tid t u ≡ false → call_state_of talks2 u ≡ call_state_of talks1 u
+    = λ u other. other_call_state talks1 talks2 t u later2 two.ensures.call_states other in
     let sm : m1 ≡ m = elim (why pace1 c.at_once.result c.if-done.true at_once may.called c.requires.runs c.at_once.ensures)
     [ inl some ↦ one.ensures.woken some | inr some ↦ one.ensures.handed some ] in (
-      rw c.told.ensures.lower two.ensures.fits,
-      rw (c.told.ensures.lower, c.told.ensures.talks, c.told.ensures.calling, two.ensures.opening, two.ensures.cpu, one.ensures.opening, one.ensures.cpu)
+      rw c.complete.ensures.lower two.ensures.fits,
+      rw (
+        c.complete.ensures.lower,
+        c.complete.ensures.call_states,
+        c.complete.ensures.calling,
+        two.ensures.opening,
+        two.ensures.cpu,
+        one.ensures.opening,
+        one.ensures.cpu,
+      )
           (record {
             boots = c.requires.fits.1.boots;
-            sizes = sizes_of pace2 talks1 talks2 two.ensures.talks sizes1;
+            sizes = sizes_of pace2 talks1 talks2 two.ensures.call_states sizes1;
             calls =
                 finish pace2 home called2 talks1 talks2 refl same2 others1
-                c.told.result (told_as pace2 c.next_stage-next.result c.next_stage-next.ensures c.told.result c.told.ensures.answer);
+                c.complete.result (completes_as pace2 c.next_stage-next.result c.next_stage-next.ensures c.complete.result c.complete.ensures.answer);
           }),
     )
 
@@ -361,53 +376,54 @@ returns-then-at_once-clause-called g c =
     let cpu = C.cpu_of p.lower in
     let t = c.args.t in
     let call = c.args.call.now in
-    let talks = p.talks.talks in
+    let call_states = p.call_states.call_states in
     let own = C.own p.lower in
     let O = inner (C.opening m) in
     let homes = homes_in (C.opening m) in
     let acts = law.own_cpu p.lower m c.requires.fits.0 in
-    let home = runs_home (C.opening m) cpu (C.seen m) own.lock.sleep.threads t (law.moving m cpu acts)
+    let home = runs_home (C.opening m) cpu (C.seen m) own.lock.sleep.threads t (law.moves_legal m cpu acts)
     (law.stands p.lower m c.requires.fits.0) c.requires.runs in
-    let first = first_may homes cpu O (buffer_sections (C.seen m)) own talks (C.under_way p.lower) p.calling t call home c.requires.fits.1.calls
+    let first = first_may homes cpu O (buffer_sections (C.seen m)) own call_states (C.under_way p.lower) p.calling t call home c.requires.fits.1.calls
     c.requires.runs c.requires.hand c.requires.same c.requires.goes_on in
     let may = first.0 in
-    let one = c.pace-done in
+    let one = c.poll_section-done in
     let m1 = one.new.m in
     let own1 = C.own one.new.self.lower in
     let under1 = C.under_way one.new.self.lower in
-    let talks1 = one.new.self.talks.talks in
-    let later1 = talk_of talks1 t in
-    let pace1 = taken one.ensures.paced in
+    let talks1 = one.new.self.call_states.call_states in
+    let later1 = call_state_of talks1 t in
+    let pace1 = taken one.ensures.section_polled in
     let at_once = (ap (λ (s : Stage). is_at_once s c.at_once.result) (sym c.next_stage-stage.ensures) ∙ sym c.answers_at_once-at_once.ensures)
     ∙ c.if-at_once.true in
-    let two = c.pace-last in
+    let two = c.poll_section-last in
     let m2 = two.new.m in
     let own2 = C.own two.new.self.lower in
     let under2 = C.under_way two.new.self.lower in
-    let talks2 = two.new.self.talks.talks in
-    let later2 = talk_of talks2 t in
+    let talks2 = two.new.self.call_states.call_states in
+    let later2 = call_state_of talks2 t in
     let next = going later1 call in
     let next_is : going later1 call ≡ later1 = next_going pace1 c.at_once.result c.if-done.true at_once may.called in
     let called1 = later_call pace1 c.at_once.result c.if-done.true at_once may.called in
-    let called2 : next.call ≡ Some call = ap (λ (x : Talk). x.call) next_is ∙ called1 in
+    let called2 : next.call ≡ Some call = ap (λ (x : CallState). x.call) next_is ∙ called1 in
     let Acts1 : CpuId → Type 0 = λ d. C.ActsFor m1 d in
-    let paced2 = rw (one.ensures.opening, one.ensures.cpu) at two.ensures.paced in
+    let paced2 = rw (one.ensures.opening, one.ensures.cpu) at two.ensures.section_polled in
     let pace2 = taken paced2 in
-    let same2 : (u : Tid) → same_tid t u ≡ false → talk_of talks2 u ≡ talk_of talks1 u
-    = λ u other. other_talk talks1 talks2 t u later2 two.ensures.talks other in
+    let same2 : (u : Tid) → same_tid t u ≡ false → call_state_of talks2 u ≡ call_state_of talks1 u
+    = λ u other. other_call_state talks1 talks2 t u later2 two.ensures.call_states other in
     let sm : m1 ≡ m = elim (why pace1 c.at_once.result c.if-done.true at_once may.called c.requires.runs c.at_once.ensures)
     [ inl some ↦ one.ensures.woken some | inr some ↦ one.ensures.handed some ] in
-    let paced2m = subst (λ log. Paced homes Acts1 O cpu t call next log (C.seen m2) own1 own2 under2 two.result later2) (ap C.seen sm) paced2 in
+    let paced2m = subst (λ log. SectionPolled homes Acts1 O cpu t call next log (C.seen m2) own1 own2 under2 two.result later2) (ap C.seen sm) paced2 in
     let effect1 = later_effect pace1 c.at_once.result c.if-done.true at_once may.called in
     let may2 = next_may pace1 c.at_once.result c.if-done.true at_once may.called in
     let in_call2 = goes_called O (buffer_sections (C.seen m1)) t call later1 own1 under1 may2.goes in
-    rw (two.ensures.opening, one.ensures.opening, c.told.ensures.talks)
+    rw (two.ensures.opening, one.ensures.opening, c.complete.ensures.call_states)
     (called_by (taken paced2m) home called2 talks1 talks2 refl
-    same2 _ (λ d both. one.ensures.acts d both.0) talks
-    (ap (λ (x : Talk). x.effect) next_is ∙ effect1)
-    (λ u other. apart_talk talks1 talks2 t u later2 two.ensures.talks other ∙ apart_talk talks talks1 t u later1 one.ensures.talks other)
-    (subst (λ (x : Talk). called_at x.stage ≡ true) (sym next_is) in_call2) c.told.result
-    (told_as pace2 c.next_stage-next.result c.next_stage-next.ensures c.told.result c.told.ensures.answer))
+    same2 _ (λ d both. one.ensures.acts d both.0) call_states
+    (ap (λ (x : CallState). x.effect) next_is ∙ effect1)
+    (λ u other. apart_call_state talks1 talks2 t u later2 two.ensures.call_states other
+    ∙ apart_call_state call_states talks1 t u later1 one.ensures.call_states other)
+    (subst (λ (x : CallState). called_at x.stage ≡ true) (sym next_is) in_call2) c.complete.result
+    (completes_as pace2 c.next_stage-next.result c.next_stage-next.ensures c.complete.result c.complete.ensures.answer))
 
 pub returns-then-at_once-clause-others : goal.returns-then-at_once-clause-others
 returns-then-at_once-clause-others g c q other fits =
@@ -417,22 +433,22 @@ returns-then-at_once-clause-others g c q other fits =
     let p = c.args.self.now in
     let cpu = C.cpu_of p.lower in
     let acts = law.own_cpu p.lower m c.requires.fits.0 in
-    let one = c.pace-done in
+    let one = c.poll_section-done in
     let m1 = one.new.m in
-    let paced1 = one.ensures.paced in
-    let two = c.pace-last in
+    let paced1 = one.ensures.section_polled in
+    let two = c.poll_section-last in
     let m2 = two.new.m in
-    let paced2 = rw (one.ensures.opening, one.ensures.cpu) at two.ensures.paced in
+    let paced2 = rw (one.ensures.opening, one.ensures.cpu) at two.ensures.section_polled in
     let lawful1 = rw one.ensures.opening at (law.lawful m1 cpu (one.ensures.acts cpu acts)) in
     let lawful2 = rw (two.ensures.opening, one.ensures.opening) at (law.lawful m2 cpu (two.ensures.acts cpu (one.ensures.acts cpu acts))) in
     let far = one.ensures.others q.lower other fits.0 in
     let part1 = other_part (C.opening m) cpu (C.cpu_of q.lower) other paced1.mine paced1.others (C.seen m) (C.seen m1) paced1.own_events
-    (paced1.foreign (C.cpu_of q.lower) (law.own_cpu q.lower m fits.0)) paced1.is lawful1 (C.own q.lower) q.talks.talks
+    (paced1.foreign (C.cpu_of q.lower) (law.own_cpu q.lower m fits.0)) paced1.is lawful1 (C.own q.lower) q.call_states.call_states
     (C.under_way q.lower) q.calling fits.1 in (
       two.ensures.others q.lower (rw one.ensures.cpu other) far,
       rw (two.ensures.opening, one.ensures.opening)
           (other_part (C.opening m) cpu (C.cpu_of q.lower) other paced2.mine paced2.others (C.seen m1) (C.seen m2) paced2.own_events
-          (paced2.foreign (C.cpu_of q.lower) (law.own_cpu q.lower m1 far)) paced2.is lawful2 (C.own q.lower) q.talks.talks
+          (paced2.foreign (C.cpu_of q.lower) (law.own_cpu q.lower m1 far)) paced2.is lawful2 (C.own q.lower) q.call_states.call_states
           (C.under_way q.lower) q.calling part1),
     )
 
@@ -445,38 +461,39 @@ returns-clause-follows g c stepwise =
     let cpu = C.cpu_of p.lower in
     let t = c.args.t in
     let call = c.args.call.now in
-    let talks = p.talks.talks in
+    let call_states = p.call_states.call_states in
     let own = C.own p.lower in
     let O = inner (C.opening m) in
     let homes = homes_in (C.opening m) in
     let acts = law.own_cpu p.lower m c.requires.fits.0 in
-    let home = runs_home (C.opening m) cpu (C.seen m) own.lock.sleep.threads t (law.moving m cpu acts)
+    let home = runs_home (C.opening m) cpu (C.seen m) own.lock.sleep.threads t (law.moves_legal m cpu acts)
     (law.stands p.lower m c.requires.fits.0) c.requires.runs in
-    let first = first_may homes cpu O (buffer_sections (C.seen m)) own talks (C.under_way p.lower) p.calling t call home c.requires.fits.1.calls
+    let first = first_may homes cpu O (buffer_sections (C.seen m)) own call_states (C.under_way p.lower) p.calling t call home c.requires.fits.1.calls
     c.requires.runs c.requires.hand c.requires.same c.requires.goes_on in
-    let talk = going (talk_of talks t) call in
+    let call_state = going (call_state_of call_states t) call in
     let may = first.0 in
-    let one = c.pace-done in
+    let one = c.poll_section-done in
     let m1 = one.new.m in
     let Acts0 : CpuId → Type 0 = λ d. C.ActsFor m d in
-    let pace1 = taken one.ensures.paced in
+    let pace1 = taken one.ensures.section_polled in
     let table = table_of (queue_rules (lock_rules buffer_rules) (lock_moves buffer_rules)) in
-    let in_call = goes_called O (buffer_sections (C.seen m)) t call talk own (C.under_way p.lower) may.goes in
-    let marks = marks_of O (buffer_sections (C.seen m)) t call talk own (C.under_way p.lower) may.goes in
+    let in_call = goes_called O (buffer_sections (C.seen m)) t call call_state own (C.under_way p.lower) may.goes in
+    let marks = marks_of O (buffer_sections (C.seen m)) t call call_state own (C.under_way p.lower) may.goes in
     let free = exit_free pace1 c.at_once.result marks
     (elim c.else-done.either [
       | inl both ↦ inl
           (both.0, (ap (λ (s : Stage). is_at_once s c.at_once.result) (sym c.next_stage-stage.ensures) ∙ sym c.answers_at_once-at_once.ensures) ∙ both.1)
       | inr none ↦ inr none
     ]) c.requires.runs c.at_once.ensures in
-    let done = one_follows Acts0 table (C.opening m) cpu homes t call talk.stage talk (buffering own talks) (C.acts m) (C.acts m1) _
+    let done = one_follows Acts0 table (C.opening m) cpu homes t call call_state.stage call_state (buffering own call_states) (C.acts m) (C.acts m1) _
     in_call free.0 free.1 (one.ensures.follows stepwise) in
     rw (
-      c.told-2.ensures.lower,
-      c.told-2.ensures.talks,
-      (told_as pace1 c.next_stage-stage.result c.next_stage-stage.ensures c.told-2.result c.told-2.ensures.answer),
+      c.complete-2.ensures.lower,
+      c.complete-2.ensures.call_states,
+      (completes_as pace1 c.next_stage-stage.result c.next_stage-stage.ensures c.complete-2.result c.complete-2.ensures.answer),
     )
-    (follows_for Acts0 _ (λ d both. both.0) table (C.opening m) cpu (plan_at homes cpu t call talk.stage talk (buffering own talks)) (C.acts m)
+    (follows_for Acts0 _ (λ d both. both.0) table (C.opening m) cpu (plan_at homes cpu t call call_state.stage call_state (buffering own call_states))
+    (C.acts m)
     (C.acts m1) _ done)
 
 pub returns-then-at_once-clause-follows : goal.returns-then-at_once-clause-follows
@@ -488,59 +505,60 @@ returns-then-at_once-clause-follows g c stepwise =
     let cpu = C.cpu_of p.lower in
     let t = c.args.t in
     let call = c.args.call.now in
-    let talks = p.talks.talks in
+    let call_states = p.call_states.call_states in
     let own = C.own p.lower in
     let O = inner (C.opening m) in
     let homes = homes_in (C.opening m) in
     let acts = law.own_cpu p.lower m c.requires.fits.0 in
-    let home = runs_home (C.opening m) cpu (C.seen m) own.lock.sleep.threads t (law.moving m cpu acts)
+    let home = runs_home (C.opening m) cpu (C.seen m) own.lock.sleep.threads t (law.moves_legal m cpu acts)
     (law.stands p.lower m c.requires.fits.0) c.requires.runs in
-    let first = first_may homes cpu O (buffer_sections (C.seen m)) own talks (C.under_way p.lower) p.calling t call home c.requires.fits.1.calls
+    let first = first_may homes cpu O (buffer_sections (C.seen m)) own call_states (C.under_way p.lower) p.calling t call home c.requires.fits.1.calls
     c.requires.runs c.requires.hand c.requires.same c.requires.goes_on in
-    let talk = going (talk_of talks t) call in
+    let call_state = going (call_state_of call_states t) call in
     let may = first.0 in
-    let one = c.pace-done in
+    let one = c.poll_section-done in
     let m1 = one.new.m in
     let own1 = C.own one.new.self.lower in
-    let talks1 = one.new.self.talks.talks in
-    let later1 = talk_of talks1 t in
+    let talks1 = one.new.self.call_states.call_states in
+    let later1 = call_state_of talks1 t in
     let Acts0 : CpuId → Type 0 = λ d. C.ActsFor m d in
-    let paced1 = one.ensures.paced in
+    let paced1 = one.ensures.section_polled in
     let pace1 = taken paced1 in
     let table = table_of (queue_rules (lock_rules buffer_rules) (lock_moves buffer_rules)) in
-    let marks = marks_of O (buffer_sections (C.seen m)) t call talk own (C.under_way p.lower) may.goes in
+    let marks = marks_of O (buffer_sections (C.seen m)) t call call_state own (C.under_way p.lower) may.goes in
     let at_once = (ap (λ (s : Stage). is_at_once s c.at_once.result) (sym c.next_stage-stage.ensures) ∙ sym c.answers_at_once-at_once.ensures)
     ∙ c.if-at_once.true in
-    let two = c.pace-last in
+    let two = c.poll_section-last in
     let m2 = two.new.m in
     let own2 = C.own two.new.self.lower in
-    let talks2 = two.new.self.talks.talks in
+    let talks2 = two.new.self.call_states.call_states in
     let end = ended_of pace1 c.if-done.true in
-    let got1 : Left Buffering Reply = record { own = buffering own1 talks1; answer = if one.result then replied call talk talk.stage else None } in
+    let got1 : Left Buffering Reply = record { own = buffering own1 talks1; answer = if one.result then replied call call_state call_state.stage else None } in
     let next = going later1 call in
     let next_is : going later1 call ≡ later1 = next_going pace1 c.at_once.result c.if-done.true at_once may.called in
     let cpu1 = C.cpu_of one.new.self.lower in
-    let paced2 = rw (one.ensures.opening, one.ensures.cpu) at two.ensures.paced in
+    let paced2 = rw (one.ensures.opening, one.ensures.cpu) at two.ensures.section_polled in
     let pace2 = taken paced2 in
     let got2n : Left Buffering Reply = record { own = buffering own2 talks2; answer = if two.result then replied call next next.stage else None } in
     let second = follows_for (λ d. C.ActsFor m1 d) Acts0 (λ d a. one.ensures.acts d a) table (C.opening m1) cpu1
     (plan_of (homes_in (C.opening m1)) cpu1 t call next.stage next (buffering own1 talks1)) (C.acts m1) (C.acts m2) got2n (two.ensures.follows stepwise) in
-    let second1 = subst (λ (x : Talk). Follows Acts0 table (C.opening m1) cpu1
+    let second1 = subst (λ (x : CallState). Follows Acts0 table (C.opening m1) cpu1
     (plan_of (homes_in (C.opening m1)) cpu1 t call x.stage x (buffering own1 talks1)) (C.acts m1) (C.acts m2) got2n)
     next_is second in
     let second0 = subst (λ o. Follows Acts0 table o cpu (plan_of (homes_in o) cpu t call later1.stage later1 (buffering own1 talks1)) (C.acts m1)
     (C.acts m2) got2n) one.ensures.opening
     (subst (λ d. Follows Acts0 table (C.opening m1) d (plan_of (homes_in (C.opening m1)) d t call later1.stage later1 (buffering own1 talks1))
     (C.acts m1) (C.acts m2) got2n) one.ensures.cpu second1) in
-    let both = two_follows Acts0 table (C.opening m) cpu homes t call talk.stage talk (buffering own talks) (C.acts m) (C.acts m1)
-    (C.acts m2) got1 got2n c.at_once.result end.heard_is.0
-    at_once end.heard_is.1 (λ w. sym (paced1.over w) ∙ c.if-done.true)
-    (why_slept t talk.stage own c.at_once.result at_once marks c.requires.runs c.at_once.ensures)
+    let both = two_follows Acts0 table (C.opening m) cpu homes t call call_state.stage call_state (buffering own call_states) (C.acts m) (C.acts m1)
+    (C.acts m2) got1 got2n c.at_once.result end.recorded_is.0
+    at_once end.recorded_is.1 (λ w. sym (paced1.over w) ∙ c.if-done.true)
+    (why_slept t call_state.stage own c.at_once.result at_once marks c.requires.runs c.at_once.ensures)
     end.free.0 end.free.1 (one.ensures.follows stepwise) second0 in
     rw (
-      c.told.ensures.lower,
-      c.told.ensures.talks,
-      (told_as pace2 c.next_stage-next.result c.next_stage-next.ensures c.told.result c.told.ensures.answer),
+      c.complete.ensures.lower,
+      c.complete.ensures.call_states,
+      (completes_as pace2 c.next_stage-next.result c.next_stage-next.ensures c.complete.result c.complete.ensures.answer),
     )
-    (follows_for Acts0 _ (λ d both. both.0) table (C.opening m) cpu (plan_at homes cpu t call talk.stage talk (buffering own talks)) (C.acts m)
+    (follows_for Acts0 _ (λ d both. both.0) table (C.opening m) cpu (plan_at homes cpu t call call_state.stage call_state (buffering own call_states))
+    (C.acts m)
     (C.acts m2) got2n both)

@@ -5,14 +5,14 @@ use Rattle.layer_traits.specs.Places.{Asleep, At, Pend, home_of, where_is}
 use Rattle.event_log.specs.declared.ids.LockId.TheVariants.{Buffer}
 use Rattle.layer_traits.specs.Plans.{is_in_section}
 use Rattle.layer_traits.specs.QueueBlocks.{homes_in}
-use Rattle.layer_traits.specs.Told.{queue_place}
-use Rattle.ipc_calls.specs.Parts.{pends_told}
-use Rattle.ipc_calls.specs.PlaceLaws.{sleeps_there, told_pends, told_sleeps}
+use Rattle.layer_traits.specs.Observed.{queue_place}
+use Rattle.ipc_calls.specs.Parts.{pends_read}
+use Rattle.ipc_calls.specs.PlaceLaws.{sleeps_there, read_pends, read_sleeps}
 use Rattle.ipc_calls.proofs.ipc.IpcOwned.place_at.Goals as goal
 
 -- who is told to stand in the pending queue of its home stands there
-pub returns-then-pends-clause-told : goal.returns-then-pends-clause-told
-returns-then-pends-clause-told g c x is =
+pub returns-then-pends-clause-observed : goal.returns-then-pends-clause-observed
+returns-then-pends-clause-observed g c x is =
     let B = g.B.BufferLayer in
     let O = g.B.OwnedBuffers in
     let law = g.met.B.BufferLayer in
@@ -25,8 +25,8 @@ returns-then-pends-clause-told g c x is =
     let home = c.home-home.result in
     let home_is : home_of (homes_in (B.opening m)) t ≡ Some home = subst (λ homes. home_of homes t ≡ Some home) fits.1.homes_are c.home-home.ensures in
     let pends : where_is (homes_in (B.opening m)) (B.moves m) t ≡ Pend home
-    = told_pends (λ q. B.Fits q m) (λ q. B.cpu_of q) (λ d. B.IsStepwise × (is_in_section (phase d (B.acts m)) ≡ true)) (homes_in (B.opening m)) (B.moves m)
-    t home p (λ q. O.queue_with q home) (O.queue_at m home) (law.moved m cpu acts) fits.0
+    = read_pends (λ q. B.Fits q m) (λ q. B.cpu_of q) (λ d. B.IsStepwise × (is_in_section (phase d (B.acts m)) ≡ true)) (homes_in (B.opening m)) (B.moves m)
+    t home p (λ q. O.queue_with q home) (O.queue_at m home) (law.moves_legal m cpu acts) fits.0
     (g.met.B.OwnedBuffers.queues m cpu home acts ((law.opens m cpu acts).queues t home home_is)) (sym c.pends.ensures ∙ c.if-pends.true) in
     inr (ap queue_place pends ∙ is)
 
@@ -43,14 +43,14 @@ returns-in_err-buffer-clause-silent g c none =
     = subst (λ homes. home_of homes t ≡ Some home) c.requires.fits.1.homes_are c.home-home.ensures in
     record {
       away = c.in_default.ensures.away refl;
-      pends = λ d at. subst (λ e. pends_told t (O.queue_at m e) (O.queue_with p e) ≡ false) (same_Some home d (sym home_is ∙ at))
+      pends = λ d at. subst (λ e. pends_read t (O.queue_at m e) (O.queue_with p e) ≡ false) (same_Some home d (sym home_is ∙ at))
           (sym c.pends.ensures ∙ c.if-pends.false);
-      lines = c.in_err-buffer.ensures.none refl;
+      wait_lists = c.in_err-buffer.ensures.none refl;
     }
 
 -- who is told to stand in a line of a buffer sleeps there
-pub returns-clause-told : goal.returns-clause-told
-returns-clause-told g c x is =
+pub returns-clause-observed : goal.returns-clause-observed
+returns-clause-observed g c x is =
     let B = g.B.BufferLayer in
     let O = g.B.OwnedBuffers in
     let law = g.met.B.BufferLayer in
@@ -61,11 +61,11 @@ returns-clause-told g c x is =
     let cpu = B.cpu_of p in
     let acts = law.own_cpu p m fits.0 in
     let buffer = c.in_ok-buffer.buffer in
-    let line = c.in_ok-buffer.line in
-    let within = c.in_ok-buffer.ensures.within (buffer, line) refl in
-    let found = c.in_ok-buffer.ensures.found (buffer, line) refl in
-    let sleeps : where_is (homes_in (B.opening m)) (B.moves m) t ≡ Asleep (At (Buffer buffer) line)
-    = told_sleeps (λ q. B.Fits q m) (λ q. B.cpu_of q) (λ d. B.IsStepwise × (is_in_section (phase d (B.acts m)) ≡ true)) (homes_in (B.opening m)) (B.moves m)
-    (length (B.caps m)) (B.lines m) (law.lists p m fits.0) buffer within t line p (λ q. O.lines_with q buffer) (O.lines_at m buffer) fits.0
-    (g.met.B.OwnedBuffers.beds m cpu buffer acts within) found in
-    inr (ap queue_place sleeps ∙ (sleeps_there buffer line ∙ (ap Some (sym c.bed.ensures) ∙ is)))
+    let wait_list = c.in_ok-buffer.wait_list in
+    let within = c.in_ok-buffer.ensures.within (buffer, wait_list) refl in
+    let found = c.in_ok-buffer.ensures.found (buffer, wait_list) refl in
+    let sleeps : where_is (homes_in (B.opening m)) (B.moves m) t ≡ Asleep (At (Buffer buffer) wait_list)
+    = read_sleeps (λ q. B.Fits q m) (λ q. B.cpu_of q) (λ d. B.IsStepwise × (is_in_section (phase d (B.acts m)) ≡ true)) (homes_in (B.opening m)) (B.moves m)
+    (length (B.caps m)) (B.wait_lists m) (law.lists p m fits.0) buffer within t wait_list p (λ q. O.wait_lists_with q buffer) (O.wait_lists_at m buffer) fits.0
+    (g.met.B.OwnedBuffers.waiters_law m cpu buffer acts within) found in
+    inr (ap queue_place sleeps ∙ (sleeps_there buffer wait_list ∙ (ap Some (sym c.waiters_of.ensures) ∙ is)))

@@ -7,7 +7,7 @@ use Rattle.layer_traits.specs.BufferEffects.{opening_locks}
 use Rattle.layer_traits.specs.QueueBlocks.{homes_in, inner}
 use Rattle.layer_traits.specs.Renaming.{viewed}
 use Rattle.layer_traits.proofs.KernelRenaming.{homes_viewed}
-use Rattle.queuing_lock.specs.Nested.{lock_of}
+use Rattle.queuing_lock.specs.Nested.{nested_lock_of}
 use Rattle.ipc_calls.proofs.Opened.{both_ok}
 use Rattle.ipc_calls.proofs.tower.FifoCondQLockOpensBuffers.open.Goals as goal
 
@@ -22,17 +22,17 @@ returns-clause-opened g c =
     let most = c.requires.buffers in
     let few : length caps ≤ 256 = omega (arith, most) in
     IfOk-weaker r
-    (λ m. ((inner (viewed lock_of (S.opening m)) ≡ opening_locks caps) × (homes_in (S.opening m) ≡ homes)) × ((S.seen m ≡ []) × (c.args.room ≤ S.room m))) _
+    (λ m. ((inner (viewed nested_lock_of (S.opening m)) ≡ opening_locks caps) × (homes_in (S.opening m) ≡ homes)) × ((S.seen m ≡ []) × (c.args.room ≤ S.room m))) _
     (λ m it. record {
-      caps_are = caps_are (viewed lock_of (S.opening m)) caps it.0.0 few;
-      homes_are = homes_viewed lock_of (S.opening m) ∙ it.0.1;
+      caps_are = caps_are (viewed nested_lock_of (S.opening m)) caps it.0.0 few;
+      homes_are = homes_viewed nested_lock_of (S.opening m) ∙ it.0.1;
       none_seen = rw it.1.0 refl;
       none_moved = rw it.1.0 refl;
       room_is = it.1.1;
     })
-    (both_ok r (λ m. (inner (viewed lock_of (S.opening m)) ≡ opening_locks caps) × (homes_in (S.opening m) ≡ homes))
+    (both_ok r (λ m. (inner (viewed nested_lock_of (S.opening m)) ≡ opening_locks caps) × (homes_in (S.opening m) ≡ homes))
     (λ m. (S.seen m ≡ []) × (c.args.room ≤ S.room m))
-    (both_ok r (λ m. inner (viewed lock_of (S.opening m)) ≡ opening_locks caps) (λ m. homes_in (S.opening m) ≡ homes) opens.locks opens.homes)
+    (both_ok r (λ m. inner (viewed nested_lock_of (S.opening m)) ≡ opening_locks caps) (λ m. homes_in (S.opening m) ≡ homes) opens.locks opens.homes)
     (both_ok r (λ m. S.seen m ≡ []) (λ m. c.args.room ≤ S.room m) opens.seen opens.room))
 
 -- its locks are those of the capacities that it tells
@@ -42,8 +42,8 @@ returns-clause-boot g c =
     let caps = c.args.caps.now in
     let most = c.requires.buffers in
     let few : length caps ≤ 256 = omega (arith, most) in
-    IfOk-weaker c.open.result (λ m. inner (viewed lock_of (S.opening m)) ≡ opening_locks caps) _
-    (λ m is. boots_well (viewed lock_of (S.opening m)) caps is few) c.open.ensures.locks
+    IfOk-weaker c.open.result (λ m. inner (viewed nested_lock_of (S.opening m)) ≡ opening_locks caps) _
+    (λ m is. boots_well (viewed nested_lock_of (S.opening m)) caps is few) c.open.ensures.locks
 
 -- and each CPU may act on it
 pub returns-clause-acts : goal.returns-clause-acts
@@ -53,7 +53,7 @@ returns-clause-acts g c =
     let caps = c.args.caps.now in
     let most = c.requires.buffers in
     let few : length caps ≤ 256 = omega (arith, most) in
-    IfOk-weaker r (λ m. ((d : CpuId) → d.0 < CPUS → S.ActsFor m d) × (inner (viewed lock_of (S.opening m)) ≡ opening_locks caps)) _
-    (λ m it d within. (it.0 d within, boots_well (viewed lock_of (S.opening m)) caps it.1 few))
-    (both_ok r (λ m. (d : CpuId) → d.0 < CPUS → S.ActsFor m d) (λ m. inner (viewed lock_of (S.opening m)) ≡ opening_locks caps)
+    IfOk-weaker r (λ m. ((d : CpuId) → d.0 < CPUS → S.ActsFor m d) × (inner (viewed nested_lock_of (S.opening m)) ≡ opening_locks caps)) _
+    (λ m it d within. (it.0 d within, boots_well (viewed nested_lock_of (S.opening m)) caps it.1 few))
+    (both_ok r (λ m. (d : CpuId) → d.0 < CPUS → S.ActsFor m d) (λ m. inner (viewed nested_lock_of (S.opening m)) ≡ opening_locks caps)
     c.open.ensures.acts c.open.ensures.locks)

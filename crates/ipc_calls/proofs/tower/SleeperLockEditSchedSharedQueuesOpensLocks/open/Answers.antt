@@ -3,7 +3,7 @@ use Rattle.std.proofs.lemmas.Result.{IfOk-weaker}
 use Rattle.layer_traits.specs.OneLock.{opened}
 use Rattle.layer_traits.specs.QueueBlocks.{inner}
 use Rattle.layer_traits.specs.Renaming.{viewed}
-use Rattle.queuing_lock.specs.Nested.{lock_of}
+use Rattle.queuing_lock.specs.Nested.{nested_lock_of}
 use Rattle.sleep_wakeup.specs.Nested.{state_of}
 use Rattle.ipc_calls.proofs.tower.SleeperLockEditSchedSharedQueuesOpensLocks.open.Goals as goal
 
@@ -12,4 +12,4 @@ pub returns-clause-locks : goal.returns-clause-locks
 returns-clause-locks g c =
     let opening = g.L.LockLayer.opening in
     IfOk-weaker c.open.result (λ m. opening m ≡ opened c.in_ok-tower_blocks.field-0.items) _
-    (λ m is. ap (λ at. inner (viewed lock_of (viewed state_of at))) is ∙ c.in_ok-tower_blocks.ensures.locks) c.open.ensures.opening
+    (λ m is. ap (λ at. inner (viewed nested_lock_of (viewed state_of at))) is ∙ c.in_ok-tower_blocks.ensures.locks) c.open.ensures.opening

@@ -1,14 +1,14 @@
 use Rattle.std.proofs.Common.{ap, sym, ◌∙◌}
 use Rattle.std.proofs.lemmas.List.{length-replicate}
 use Rattle.event_log.specs.declared.ids.TheConstants.{THREADS}
-use Rattle.layer_traits.specs.BufferLaw.{quiet}
+use Rattle.layer_traits.specs.BufferLaw.{no_call}
 use Rattle.plain_layers.specs.declared.attempts.Tried.{Tried}
 use Rattle.event_log.specs.declared.ids.LockId.TheVariants.{Pending}
 use Rattle.layer_traits.specs.SleepLaw.{Sleeping, sleep_kernel}
 use Rattle.layer_traits.proofs.KernelRenaming.{homes_viewed, there_viewed}
 use Rattle.plain_layers.specs.Attempts.{attempts}
 use Rattle.plain_layers.specs.Fifos.{shown}
-use Rattle.plain_layers.proofs.FifoLemmas.{no_events, nobody_waits, quiet_waits}
+use Rattle.plain_layers.proofs.FifoLemmas.{no_events, nobody_waits, no_call_waits}
 use Rattle.plain_layers.proofs.fifos.PlainFifoBufferLayer.part.Goals as goal
 
 pub returns-clause-fits : goal.returns-clause-fits
@@ -21,8 +21,8 @@ returns-clause-fits g c = λ m acts outside seen still homes pending boots.
       acts.2,
       record {
         none = c.part.ensures.call;
-        kept = ap (λ (s : Sleeping Tried). s.kept) c.part.ensures.own;
-        waits = quiet_waits;
-        slots = length-replicate THREADS quiet;
+        deferred = ap (λ (s : Sleeping Tried). s.deferred) c.part.ensures.own;
+        waits = no_call_waits;
+        slots = length-replicate THREADS no_call;
       },
     )

@@ -75,7 +75,7 @@ returns-clause-fits g c =
       owned_after (λ e. S.ActsFor m e) (λ e. S.ActsFor n e) (S.opening m) (S.opening n) said.opening said.acts fits.2,
       record {
         none = nothing_under c.pass.result (S.under_way c.pass.new.self) _ (said.prompt fits.1) said.call;
-        kept = said.kept ∙ fits.3.kept;
+        deferred = said.deferred ∙ fits.3.deferred;
         waits = fits.3.waits;
         slots = fits.3.slots;
       },

@@ -3,17 +3,17 @@ use Rattle.std.proofs.Math.ListN.{length-set}
 use Rattle.event_log.specs.declared.ids.CpuId.{CpuId}
 use Rattle.event_log.specs.declared.ids.Tid.{Tid}
 use Rattle.event_log.specs.declared.ids.TheConstants.{THREADS}
-use Rattle.layer_traits.specs.BufferLaw.{Called, IsRefused, MovesGrow, talk_of}
+use Rattle.layer_traits.specs.BufferLaw.{Called, IsRefused, MovesGrow, call_state_of}
 use Rattle.layer_traits.specs.declared.calls.Effect.{Effect}
-use Rattle.layer_traits.specs.declared.talks.Stage.TheVariants.{Between}
-use Rattle.layer_traits.specs.declared.talks.Talk.{Talk}
+use Rattle.layer_traits.specs.declared.call_states.Stage.TheVariants.{Idle}
+use Rattle.layer_traits.specs.declared.call_states.CallState.{CallState}
 use Rattle.layer_traits.specs.Plans.{IsWhole}
 use Rattle.layer_traits.specs.QueueBlocks.{homes_in, inner}
 use Rattle.layer_traits.specs.Queues.{buffer_sections, moves_in}
 use Rattle.layer_traits.specs.SleepLaw.{sleep_kernel}
 use Rattle.plain_layers.specs.Attempts.{attempts, effect_in}
-use Rattle.plain_layers.specs.Fifos.{IsOwned, caps_in, entries_in, reply_to, talk_after}
-use Rattle.plain_layers.proofs.FifoLemmas.{buffer_there, done_called, done_kept, done_moves, done_refused}
+use Rattle.plain_layers.specs.Fifos.{IsOwned, caps_in, entries_in, reply_to, call_state_after}
+use Rattle.plain_layers.proofs.FifoLemmas.{buffer_there, done_called, done_deferred, done_moves, done_refused}
 use Rattle.plain_layers.proofs.FifoLemmas.{done_sleeps, owned_after, reply_none, runs_small, set_waits}
 use Rattle.plain_layers.proofs.fifos.PlainFifoBufferLayer.poll.Goals as goal
 
@@ -34,7 +34,7 @@ bounds-self-from g c =
     let fits = c.requires.fits in
     let said = c.whole-outcome.ensures in
     let small = runs_small (homes_in (S.opening m)) (S.cpu_of lower) (moves_in (sleep_kernel attempts (S.opening m)) (S.seen m)) (S.own lower).threads
-    (g.met.S.SleepLayer.moving m (S.cpu_of lower) (g.met.S.SleepLayer.own_cpu lower m fits.0)) (g.met.S.SleepLayer.stands lower m fits.0)
+    (g.met.S.SleepLayer.moves_legal m (S.cpu_of lower) (g.met.S.SleepLayer.own_cpu lower m fits.0)) (g.met.S.SleepLayer.stands lower m fits.0)
     (g.met.S.SleepLayer.opens m (S.cpu_of lower) (g.met.S.SleepLayer.own_cpu lower m fits.0)).room c.args.t c.requires.runs in
     subst (λ k. k < THREADS) (sym c.from.ensures) small
 
@@ -51,19 +51,20 @@ returns-clause-called g c =
     let said = c.whole-outcome.ensures in
     let Acts = λ (d : CpuId). S.ActsFor m d × IsWhole S.IsStepwise × IsOwned (λ e. S.ActsFor m e) (inner (S.opening m)) in
     let small = runs_small (homes_in (S.opening m)) (S.cpu_of lower) (moves_in (sleep_kernel attempts (S.opening m)) (S.seen m)) (S.own lower).threads
-    (g.met.S.SleepLayer.moving m (S.cpu_of lower) (g.met.S.SleepLayer.own_cpu lower m fits.0)) (g.met.S.SleepLayer.stands lower m fits.0)
+    (g.met.S.SleepLayer.moves_legal m (S.cpu_of lower) (g.met.S.SleepLayer.own_cpu lower m fits.0)) (g.met.S.SleepLayer.stands lower m fits.0)
     (g.met.S.SleepLayer.opens m (S.cpu_of lower) (g.met.S.SleepLayer.own_cpu lower m fits.0)).room c.args.t c.requires.runs in
-    let after : c.next.result ≡ talk_after c.args.call.now (effect_in c.whole-outcome.result.out)
-    = subst (λ (f : Option Effect). c.next.result ≡ talk_after c.args.call.now f) c.effect-effect.ensures c.next.ensures in
-    let set : slice_set c.args.self.now.talks c.from.result c.next.result
-    ≡ slice_set c.args.self.now.talks c.args.t.0 (talk_after c.args.call.now (effect_in c.whole-outcome.result.out))
-    = λ i. slice_set c.args.self.now.talks (c.from.ensures i) (after i) in
-    let within : c.args.t.0 < length c.args.self.now.talks = subst (λ k. c.args.t.0 < k) (sym fits.3.slots) small in
-    subst (λ o. Called Acts (S.cpu_of lower) c.args.t c.args.call.now c.args.self.now.talks (slice_set c.args.self.now.talks c.from.result c.next.result)
+    let after : c.next.result ≡ call_state_after c.args.call.now (effect_in c.whole-outcome.result.out)
+    = subst (λ (f : Option Effect). c.next.result ≡ call_state_after c.args.call.now f) c.effect-effect.ensures c.next.ensures in
+    let set : slice_set c.args.self.now.call_states c.from.result c.next.result
+    ≡ slice_set c.args.self.now.call_states c.args.t.0 (call_state_after c.args.call.now (effect_in c.whole-outcome.result.out))
+    = λ i. slice_set c.args.self.now.call_states (c.from.ensures i) (after i) in
+    let within : c.args.t.0 < length c.args.self.now.call_states = subst (λ k. c.args.t.0 < k) (sym fits.3.slots) small in
+    subst (λ o. Called Acts (S.cpu_of lower) c.args.t c.args.call.now c.args.self.now.call_states
+    (slice_set c.args.self.now.call_states c.from.result c.next.result)
     (entries_in (inner (S.opening m)) (buffer_sections (S.seen m))) (entries_in (inner o) (buffer_sections (S.seen n))) c.reply.result) (sym said.opening)
     (done_called (S.opening m) (S.cpu_of lower) c.buffer_in.result c.attempt_in.result (S.seen m) (S.seen n) (S.own lower).threads
-    (S.own c.whole-outcome.new.part) c.whole-outcome.result said.done Acts c.args.t c.args.call.now c.args.self.now.talks
-    (slice_set c.args.self.now.talks c.from.result c.next.result) c.attempt_in.ensures c.buffer_in.ensures within c.requires.same fits.3.waits set
+    (S.own c.whole-outcome.new.part) c.whole-outcome.result said.done Acts c.args.t c.args.call.now c.args.self.now.call_states
+    (slice_set c.args.self.now.call_states c.from.result c.next.result) c.attempt_in.ensures c.buffer_in.ensures within c.requires.same fits.3.waits set
     c.reply.result (subst (λ (f : Option Effect). c.reply.result ≡ reply_to c.args.call.now f) c.effect-effect.ensures c.reply.ensures))
 
 pub returns-clause-moves : goal.returns-clause-moves
@@ -88,24 +89,24 @@ returns-clause-fits g c =
     let fits = c.requires.fits in
     let said = c.whole-outcome.ensures in
     let small = runs_small (homes_in (S.opening m)) (S.cpu_of lower) (moves_in (sleep_kernel attempts (S.opening m)) (S.seen m)) (S.own lower).threads
-    (g.met.S.SleepLayer.moving m (S.cpu_of lower) (g.met.S.SleepLayer.own_cpu lower m fits.0)) (g.met.S.SleepLayer.stands lower m fits.0)
+    (g.met.S.SleepLayer.moves_legal m (S.cpu_of lower) (g.met.S.SleepLayer.own_cpu lower m fits.0)) (g.met.S.SleepLayer.stands lower m fits.0)
     (g.met.S.SleepLayer.opens m (S.cpu_of lower) (g.met.S.SleepLayer.own_cpu lower m fits.0)).room c.args.t c.requires.runs in
-    let after : c.next.result ≡ talk_after c.args.call.now (effect_in c.whole-outcome.result.out)
-    = subst (λ (f : Option Effect). c.next.result ≡ talk_after c.args.call.now f) c.effect-effect.ensures c.next.ensures in
-    let set : slice_set c.args.self.now.talks c.from.result c.next.result
-    ≡ slice_set c.args.self.now.talks c.args.t.0 (talk_after c.args.call.now (effect_in c.whole-outcome.result.out))
-    = λ i. slice_set c.args.self.now.talks (c.from.ensures i) (after i) in
-    let within : c.args.t.0 < length c.args.self.now.talks = subst (λ k. c.args.t.0 < k) (sym fits.3.slots) small in (
+    let after : c.next.result ≡ call_state_after c.args.call.now (effect_in c.whole-outcome.result.out)
+    = subst (λ (f : Option Effect). c.next.result ≡ call_state_after c.args.call.now f) c.effect-effect.ensures c.next.ensures in
+    let set : slice_set c.args.self.now.call_states c.from.result c.next.result
+    ≡ slice_set c.args.self.now.call_states c.args.t.0 (call_state_after c.args.call.now (effect_in c.whole-outcome.result.out))
+    = λ i. slice_set c.args.self.now.call_states (c.from.ensures i) (after i) in
+    let within : c.args.t.0 < length c.args.self.now.call_states = subst (λ k. c.args.t.0 < k) (sym fits.3.slots) small in (
       said.fits,
       fits.1,
       owned_after (λ e. S.ActsFor m e) (λ e. S.ActsFor n e) (S.opening m) (S.opening n) said.opening said.acts fits.2,
       record {
         none = said.none;
-        kept = done_kept (S.opening m) (S.cpu_of lower) c.buffer_in.result c.attempt_in.result (S.seen m) (S.seen n) (S.own lower).threads
+        deferred = done_deferred (S.opening m) (S.cpu_of lower) c.buffer_in.result c.attempt_in.result (S.seen m) (S.seen n) (S.own lower).threads
             (S.own c.whole-outcome.new.part) c.whole-outcome.result said.done;
-        waits = subst (λ (l : List Talk). (u : Tid) → (talk_of l u).stage ≢ Between → (talk_of l u).effect ≡ None) (sym set)
-            (set_waits c.args.self.now.talks c.args.t c.args.call.now (effect_in c.whole-outcome.result.out) within fits.3.waits);
-        slots = length-set c.args.self.now.talks c.from.result c.next.result ∙ fits.3.slots;
+        waits = subst (λ (l : List CallState). (u : Tid) → (call_state_of l u).stage ≢ Idle → (call_state_of l u).effect ≡ None) (sym set)
+            (set_waits c.args.self.now.call_states c.args.t c.args.call.now (effect_in c.whole-outcome.result.out) within fits.3.waits);
+        slots = length-set c.args.self.now.call_states c.from.result c.next.result ∙ fits.3.slots;
       },
     )
 

@@ -6,7 +6,7 @@ use Rattle.layer_traits.specs.QueueBlocks.{homes_in, inner}
 use Rattle.layer_traits.proofs.KernelRenaming.{homes_viewed}
 use Rattle.plain_layers.specs.Fifos.{fresh_buffers, shown}
 use Rattle.plain_layers.proofs.OpeningLemmas.{both_ok}
-use Rattle.plain_layers.proofs.PlainOpenings.{boots_shown, caps_told, fresh_told, half_room}
+use Rattle.plain_layers.proofs.PlainOpenings.{boots_shown, caps_observed, fresh_read, half_room}
 use Rattle.plain_layers.proofs.ipcs.PlainFifoOpensBuffers.open.Goals as goal
 
 -- the machine has the capacities and homes of the plan, and nothing was done in it
@@ -24,7 +24,7 @@ returns-clause-opened g c =
     (both_ok r (λ m. inner (S.opening m) ≡ fresh_buffers caps) (λ m. homes_in (S.opening m) ≡ homes) _ opens.buffers opens.homes (λ m one other. (one, other)))
     (both_ok r (λ m. S.seen m ≡ []) (λ m. c.args.room * 2 ≤ S.room m) _ opens.seen opens.room (λ m one other. (one, other)))
     (λ m it been. record {
-      caps_are = caps_told (S.opening m) caps it.0 few;
+      caps_are = caps_observed (S.opening m) caps it.0 few;
       homes_are = homes_viewed shown (S.opening m) ∙ it.1;
       none_seen = rw been.0 refl;
       none_moved = rw been.0 refl;
@@ -50,4 +50,4 @@ returns-clause-acts g c =
     let most = c.requires.buffers in
     let few : length caps ≤ 256 = omega (arith, most) in
     both_ok r (λ m. (d : CpuId) → d.0 < CPUS → S.ActsFor m d) (λ m. inner (S.opening m) ≡ fresh_buffers caps) _ c.open.ensures.acts c.open.ensures.buffers
-    (λ m acts fresh d within. (acts d within, g.met.S.OpensAttempts.whole, record { all = acts; fresh = fresh_told (S.opening m) caps fresh few }))
+    (λ m acts fresh d within. (acts d within, g.met.S.OpensAttempts.whole, record { all = acts; fresh = fresh_read (S.opening m) caps fresh few }))

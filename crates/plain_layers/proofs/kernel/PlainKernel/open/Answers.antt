@@ -1,7 +1,7 @@
 use Rattle.std.proofs.Common.{ap, length, reverse, subst, sym, ◌∙◌}
 use Rattle.plain_layers.specs.declared.kernel.Lists.{Lists}
 use Rattle.plain_layers.specs.declared.kernel.Opening.{Opening}
-use Rattle.plain_layers.proofs.KernelLemmas.{OpensWith, kernel_fresh, homes_told, queue_is_there, buffer_opens}
+use Rattle.plain_layers.proofs.KernelLemmas.{OpensWith, kernel_fresh, homes_read, queue_is_there, buffer_opens}
 use Rattle.plain_layers.specs.Kernels.{IsKernel}
 use Rattle.plain_layers.proofs.kernel.PlainKernel.open.Goals as goal
 
@@ -32,7 +32,7 @@ returns-clause-homes g c =
       told = ap (λ v. v.items) c.of-homes.ensures ∙ c.kept_homes-told.ensures;
       empty = c.in_ok-pending.ensures;
     } in
-    homes_told start lists c.args.cpus c.args.homes.now opens
+    homes_read start lists c.args.cpus c.args.homes.now opens
 
 pub returns-clause-queues : goal.returns-clause-queues
 returns-clause-queues g c =

@@ -1,7 +1,7 @@
 use Rattle.std.proofs.Common.{IsSome, arith, subst, sym}
 use Rattle.layer_traits.specs.OneLock.{opened}
 use Rattle.plain_layers.specs.Tables.{IsSlot, opening_in, sections_noted}
-use Rattle.plain_layers.proofs.TableLemmas.{block_is_there, slot_tells, slot_within}
+use Rattle.plain_layers.proofs.TableLemmas.{block_is_there, slot_reads, slot_within}
 use Rattle.plain_layers.proofs.lock_table.LockTable.block.Goals as goal
 
 pub slot_of-slot-requires : goal.slot_of-slot-requires
@@ -21,6 +21,6 @@ pub returns : goal.returns
 returns g c =
     let blocks = c.args.self.now.blocks.items in
     let slot = c.slot_of-slot.result in
-    let tells = slot_tells c.args.lock slot blocks c.index.result.now
+    let tells = slot_reads c.args.lock slot blocks c.index.result.now
     (subst (λ l. IsSlot c.args.lock slot l) c.deref.ensures.value c.slot_of-slot.ensures) c.index.ensures in
     sym tells.1

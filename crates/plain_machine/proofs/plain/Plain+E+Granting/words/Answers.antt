@@ -1,7 +1,7 @@
 use Rattle.std.proofs.Common.{◌%◌, ◌^◌, ap, sym, ◌∙◌}
 use Rattle.layer_traits.specs.OneLock.{opened}
 use Rattle.layer_traits.specs.WordsProtocol.{words_legal}
-use Rattle.layer_traits.proofs.GrantLemmas.{tickets_told, words_told}
+use Rattle.layer_traits.proofs.GrantLemmas.{tickets_as_grants, words_as_grants}
 use Rattle.plain_machine.specs.Fits.{GrantsFit}
 use Rattle.plain_machine.specs.Machine.{history}
 use Rattle.plain_machine.proofs.MachineLemmas.{at_lock, shown_words}
@@ -15,7 +15,7 @@ returns-clause-next g c =
     let sound = c.requires.acts.1.1 in
     let fits = shown_words (at_lock GrantsFit rules opening (history w.log) w.cells.items sound c.args.lock c.requires.lock)
     c.words-granting.result c.words-granting.ensures in
-    fits.0 ∙ ap (λ n. n % 2 ^ 64) (sym (tickets_told (history w.log) (words_legal (rules.allowed opening) (history w.log) sound.legal) c.args.lock))
+    fits.0 ∙ ap (λ n. n % 2 ^ 64) (sym (tickets_as_grants (history w.log) (words_legal (rules.allowed opening) (history w.log) sound.legal) c.args.lock))
 
 pub returns-clause-words : goal.returns-clause-words
 returns-clause-words g c =
@@ -25,4 +25,4 @@ returns-clause-words g c =
     let sound = c.requires.acts.1.1 in
     let fits = shown_words (at_lock GrantsFit rules opening (history w.log) w.cells.items sound c.args.lock c.requires.lock)
     c.words-granting.result c.words-granting.ensures in
-    words_told (history w.log) (words_legal (rules.allowed opening) (history w.log) sound.legal) c.args.lock c.words-granting.result.lock.words fits.3
+    words_as_grants (history w.log) (words_legal (rules.allowed opening) (history w.log) sound.legal) c.args.lock c.words-granting.result.lock.words fits.3

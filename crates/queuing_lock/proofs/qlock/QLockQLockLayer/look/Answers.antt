@@ -7,9 +7,9 @@ use Rattle.layer_traits.specs.Queues.{QueueAllowed}
 use Rattle.layer_traits.specs.Renaming.{renamed_edit, renamed_events, renamed_sched, viewed}
 use Rattle.layer_traits.specs.Sleeping.{SleepState}
 use Rattle.queuing_lock.specs.declared.edits.QBlock.{QBlock}
-use Rattle.queuing_lock.specs.Nested.{edit_in, lock_of}
+use Rattle.queuing_lock.specs.Nested.{edit_in, nested_lock_of}
 use Rattle.queuing_lock.specs.NestedLaws.{beneath, locks_lawful}
-use Rattle.queuing_lock.specs.Parts.{KeptFits, SleptFits}
+use Rattle.queuing_lock.specs.Parts.{DeferredFits, SleptFits}
 use Rattle.layer_traits.proofs.KernelRenaming.{grows_renamed}
 use Rattle.layer_traits.proofs.LookLemmas.{tries_renamed}
 use Rattle.queuing_lock.proofs.SleptLemmas.{slept_goes}
@@ -32,11 +32,12 @@ returns-clause-fits g c =
     (met.lawful n cpu (said.acts cpu acts)) in
     let grown = grows_renamed edit_in (λ d. S.ActsFor m d) (S.seen m) (S.seen n) said.seen in (
       said.fits,
-      transport (λ i. SleptFits rules (viewed lock_of (sym said.opening i)) (sym said.cpu i) (renamed_events edit_in (S.seen n)) self.slept.buffers)
-          (slept_goes rules (viewed lock_of (S.opening m)) cpu grown.others (renamed_events edit_in (S.seen m)) (renamed_events edit_in (S.seen n))
+      transport (λ i. SleptFits rules (viewed nested_lock_of (sym said.opening i)) (sym said.cpu i) (renamed_events edit_in (S.seen n)) self.slept.buffers)
+          (slept_goes rules (viewed nested_lock_of (S.opening m)) cpu grown.others (renamed_events edit_in (S.seen m)) (renamed_events edit_in (S.seen n))
           (grown.foreign cpu acts) grown.is
           (locks_lawful rules (S.opening m) (S.seen n) lawful) self.slept.buffers c.requires.fits.1),
-      transport (λ i. KeptFits (option_map (renamed_sched edit_in) (sym said.call i)) (sym said.own i).kept (sym said.own i).threads.hand) c.requires.fits.2,
+      transport (λ i. DeferredFits (option_map (renamed_sched edit_in) (sym said.call i)) (sym said.own i).deferred
+          (sym said.own i).threads.hand) c.requires.fits.2,
     )
 
 pub returns-clause-seen : goal.returns-clause-seen
@@ -62,8 +63,8 @@ returns-clause-others g c = λ p apart fits.
     (met.lawful n cpu (said.acts cpu acts)) in
     let grown = grows_renamed edit_in (λ d. S.ActsFor m d) (S.seen m) (S.seen n) said.seen in (
       said.others p.lower apart fits.0,
-      transport (λ i. SleptFits rules (viewed lock_of (sym said.opening i)) (S.cpu_of p.lower) (renamed_events edit_in (S.seen n)) p.slept.buffers)
-          (slept_goes rules (viewed lock_of (S.opening m)) (S.cpu_of p.lower) grown.others (renamed_events edit_in (S.seen m))
+      transport (λ i. SleptFits rules (viewed nested_lock_of (sym said.opening i)) (S.cpu_of p.lower) (renamed_events edit_in (S.seen n)) p.slept.buffers)
+          (slept_goes rules (viewed nested_lock_of (S.opening m)) (S.cpu_of p.lower) grown.others (renamed_events edit_in (S.seen m))
           (renamed_events edit_in (S.seen n))
           (grown.foreign (S.cpu_of p.lower) (met.own_cpu p.lower m fits.0)) grown.is
           (locks_lawful rules (S.opening m) (S.seen n) lawful) p.slept.buffers fits.1),

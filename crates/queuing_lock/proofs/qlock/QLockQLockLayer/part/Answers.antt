@@ -3,9 +3,9 @@ use Rattle.event_log.specs.declared.ids.LockId.TheVariants.{Pending}
 use Rattle.event_log.specs.declared.ids.TheConstants.{THREADS}
 use Rattle.layer_traits.specs.Renaming.{renamed_events, viewed}
 use Rattle.layer_traits.proofs.KernelRenaming.{homes_viewed, there_viewed}
-use Rattle.queuing_lock.specs.Nested.{edit_in, lock_of}
+use Rattle.queuing_lock.specs.Nested.{edit_in, nested_lock_of}
 use Rattle.queuing_lock.specs.NestedLaws.{nothing_seen}
-use Rattle.queuing_lock.proofs.KeptLemmas.{fresh_kept, nobody_beneath}
+use Rattle.queuing_lock.proofs.DeferredLemmas.{fresh_deferred, nobody_beneath}
 use Rattle.queuing_lock.proofs.SleptLemmas.{slept_none}
 use Rattle.queuing_lock.proofs.qlock.QLockQLockLayer.part.Goals as goal
 
@@ -13,8 +13,8 @@ pub returns-clause-fits : goal.returns-clause-fits
 returns-clause-fits g c = λ m acts outside none homes queue rest.
     let S = g.S.SleepLayer in
     let part = c.part.result in (
-      c.part.ensures.fits m acts outside (nothing_seen (S.seen m) none) (sym (homes_viewed lock_of (S.opening m)) ∙ homes)
-          (there_viewed lock_of (S.opening m) (Pending c.args.cpu) queue) (nobody_beneath (S.opening m) rest),
-      slept_none g.F.Locked.rules (viewed lock_of (S.opening m)) (S.cpu_of part) (renamed_events edit_in (S.seen m)) c.new.result.buffers THREADS c.new.ensures,
-      fresh_kept (S.under_way part) (S.own part).kept (S.own part).threads.hand c.part.ensures.call (ap (λ o. o.kept) c.part.ensures.own),
+      c.part.ensures.fits m acts outside (nothing_seen (S.seen m) none) (sym (homes_viewed nested_lock_of (S.opening m)) ∙ homes)
+          (there_viewed nested_lock_of (S.opening m) (Pending c.args.cpu) queue) (nobody_beneath (S.opening m) rest),
+      slept_none g.F.Locked.rules (viewed nested_lock_of (S.opening m)) (S.cpu_of part) (renamed_events edit_in (S.seen m)) c.new.result.buffers THREADS c.new.ensures,
+      fresh_deferred (S.under_way part) (S.own part).deferred (S.own part).threads.hand c.part.ensures.call (ap (λ o. o.deferred) c.part.ensures.own),
     )

@@ -11,10 +11,10 @@ use Rattle.layer_traits.specs.Renaming.{renamed_events, renamed_sched, viewed}
 use Rattle.layer_traits.specs.SleepLaw.{Sleeping, done_if}
 use Rattle.layer_traits.specs.Sleeping.{SleepState}
 use Rattle.queuing_lock.specs.declared.edits.QBlock.{QBlock}
-use Rattle.queuing_lock.specs.Nested.{edit_in, lock_of}
+use Rattle.queuing_lock.specs.Nested.{edit_in, nested_lock_of}
 use Rattle.queuing_lock.specs.NestedLaws.{beneath, locks_lawful}
-use Rattle.queuing_lock.specs.Parts.{KeptFits, SleptFits}
-use Rattle.queuing_lock.proofs.KeptLemmas.{kept_passed}
+use Rattle.queuing_lock.specs.Parts.{DeferredFits, SleptFits}
+use Rattle.queuing_lock.proofs.DeferredLemmas.{deferred_passed}
 use Rattle.queuing_lock.proofs.PartLemmas.{locks_pass_follow, pass_here, pass_is}
 use Rattle.queuing_lock.proofs.PollLemmas.{slept_passed}
 use Rattle.queuing_lock.proofs.qlock.QLockQLockLayer.pass.Goals as goal
@@ -35,15 +35,15 @@ returns-clause-fits g c =
     = subst (λ (o : LockId → Option (QueueBlock (SleepState (QBlock g.row.F-Block.Denot)))). IsLawful (QueueAllowed (beneath rules o)) (S.seen n)) said.opening
     (met.lawful n cpu (said.acts cpu acts)) in (
       said.fits,
-      transport (λ i. SleptFits rules (viewed lock_of (sym said.opening i)) (sym said.cpu i) (renamed_events edit_in (S.seen n)) self.slept.buffers)
-          (slept_passed rules (viewed lock_of (S.opening m)) (λ d. S.ActsFor m d) cpu c.args.call (done_if c.pass.result) cpu acts
+      transport (λ i. SleptFits rules (viewed nested_lock_of (sym said.opening i)) (sym said.cpu i) (renamed_events edit_in (S.seen n)) self.slept.buffers)
+          (slept_passed rules (viewed nested_lock_of (S.opening m)) (λ d. S.ActsFor m d) cpu c.args.call (done_if c.pass.result) cpu acts
           (renamed_events edit_in (S.seen m)) (renamed_events edit_in (S.seen n))
           (S.own self.lower).threads (S.own part).threads
           (pass_here rules (S.opening m) (λ d. S.ActsFor m d) cpu c.args.call (done_if c.pass.result) (S.seen m) (S.seen n) (S.own self.lower).threads
           (S.own part).threads said.seen)
           (locks_lawful rules (S.opening m) (S.seen n) lawful) self.slept.buffers c.requires.fits.1),
-      transport (λ i. KeptFits (sym (pass_is (S.under_way part) c.pass.result c.args.call said.call) i) (sym said.kept i) (S.own part).threads.hand)
-          (kept_passed (option_map (renamed_sched edit_in) (S.under_way self.lower)) (S.own self.lower).kept (S.own self.lower).threads.hand
+      transport (λ i. DeferredFits (sym (pass_is (S.under_way part) c.pass.result c.args.call said.call) i) (sym said.deferred i) (S.own part).threads.hand)
+          (deferred_passed (option_map (renamed_sched edit_in) (S.under_way self.lower)) (S.own self.lower).deferred (S.own self.lower).threads.hand
           (S.own part).threads.hand c.args.call
           (MayPass c.args.call (S.own self.lower).threads) (is_some c.pass.result) c.requires.fits.2 c.requires.call),
     )
@@ -73,8 +73,8 @@ returns-clause-others g c = λ p apart fits.
     = subst (λ (o : LockId → Option (QueueBlock (SleepState (QBlock g.row.F-Block.Denot)))). IsLawful (QueueAllowed (beneath rules o)) (S.seen n)) said.opening
     (met.lawful n cpu (said.acts cpu acts)) in (
       said.others p.lower apart fits.0,
-      transport (λ i. SleptFits rules (viewed lock_of (sym said.opening i)) (S.cpu_of p.lower) (renamed_events edit_in (S.seen n)) p.slept.buffers)
-          (slept_passed rules (viewed lock_of (S.opening m)) (λ d. S.ActsFor m d) cpu c.args.call (done_if c.pass.result) (S.cpu_of p.lower)
+      transport (λ i. SleptFits rules (viewed nested_lock_of (sym said.opening i)) (S.cpu_of p.lower) (renamed_events edit_in (S.seen n)) p.slept.buffers)
+          (slept_passed rules (viewed nested_lock_of (S.opening m)) (λ d. S.ActsFor m d) cpu c.args.call (done_if c.pass.result) (S.cpu_of p.lower)
           (met.own_cpu p.lower m fits.0)
           (renamed_events edit_in (S.seen m)) (renamed_events edit_in (S.seen n)) (S.own self.lower).threads (S.own part).threads
           (pass_here rules (S.opening m) (λ d. S.ActsFor m d) cpu c.args.call (done_if c.pass.result) (S.seen m) (S.seen n) (S.own self.lower).threads

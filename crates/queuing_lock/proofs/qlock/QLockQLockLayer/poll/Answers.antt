@@ -18,12 +18,13 @@ use Rattle.layer_traits.specs.Renaming.{renamed_edit, renamed_events, renamed_sc
 use Rattle.layer_traits.specs.SleepLaw.{Sleeping}
 use Rattle.layer_traits.specs.Sleeping.{SleepState}
 use Rattle.queuing_lock.specs.declared.edits.QBlock.{QBlock}
-use Rattle.queuing_lock.specs.Nested.{edit_in, lock_of}
+use Rattle.queuing_lock.specs.Nested.{edit_in, nested_lock_of}
 use Rattle.queuing_lock.specs.NestedLaws.{beneath, here}
-use Rattle.queuing_lock.specs.Parts.{KeptFits, SleptFits, kept_by}
-use Rattle.queuing_lock.proofs.PartLemmas.{Before, caller_small, handed, kept_after, locks, locks_follow, none, others_after, owed, slept_after, slept_told}
+use Rattle.queuing_lock.specs.Parts.{DeferredFits, SleptFits, slept_left_by}
+use Rattle.queuing_lock.proofs.PartLemmas.{Before, caller_small, handed, deferred_after, locks}
+use Rattle.queuing_lock.proofs.PartLemmas.{locks_follow, none, others_after, owed, slept_after, slept_reported}
 use Rattle.queuing_lock.proofs.PartLemmas.{under_is}
-use Rattle.queuing_lock.proofs.PollLemmas.{told_is}
+use Rattle.queuing_lock.proofs.PollLemmas.{reported_is}
 use Rattle.queuing_lock.proofs.SleptLemmas.{slept_less}
 use Rattle.queuing_lock.proofs.qlock.QLockQLockLayer.poll.Goals as goal
 
@@ -36,8 +37,8 @@ returns-then-has-clause-fits g c =
     let self = c.args.self.now in
     let m = c.args.m.now in (
       c.requires.fits.0,
-      subst (λ l. SleptFits rules (viewed lock_of (S.opening m)) (S.cpu_of self.lower) (renamed_events edit_in (S.seen m)) l) (sym c.over.ensures)
-          (slept_less rules (viewed lock_of (S.opening m)) (S.cpu_of self.lower) c.caller-t.result
+      subst (λ l. SleptFits rules (viewed nested_lock_of (S.opening m)) (S.cpu_of self.lower) (renamed_events edit_in (S.seen m)) l) (sym c.over.ensures)
+          (slept_less rules (viewed nested_lock_of (S.opening m)) (S.cpu_of self.lower) c.caller-t.result
           (renamed_events edit_in (S.seen m)) self.slept.buffers c.requires.fits.1),
       c.requires.fits.2,
     )
@@ -65,11 +66,11 @@ returns-then-has-clause-seen g c =
       under = under;
       slept = slept;
       starts = met.opens m cpu acts;
-      moving = met.moving m cpu acts;
+      moves_legal = met.moves_legal m cpu acts;
       stands = met.stands self.lower m c.requires.fits.0;
       lists = met.lists self.lower m c.requires.fits.0;
       fits = c.requires.fits.1;
-      kept = c.requires.fits.2;
+      deferred = c.requires.fits.2;
       caller = c.requires.caller;
       may = c.requires.call;
     } in
@@ -108,11 +109,11 @@ poll-requires-clause-call g c =
       under = under;
       slept = slept;
       starts = met.opens m cpu acts;
-      moving = met.moving m cpu acts;
+      moves_legal = met.moves_legal m cpu acts;
       stands = met.stands self.lower m c.requires.fits.0;
       lists = met.lists self.lower m c.requires.fits.0;
       fits = c.requires.fits.1;
-      kept = c.requires.fits.2;
+      deferred = c.requires.fits.2;
       caller = c.requires.caller;
       may = c.requires.call;
     } in
@@ -120,8 +121,8 @@ poll-requires-clause-call g c =
     = ap (λ t. is_some (slept_for slept t)) (sym c.caller-t.ensures) ∙ (sym c.has.ensures ∙ c.if-has.false) in
     owed rules (S.opening m) before awake
 
-pub told-requires : goal.told-requires
-told-requires g c =
+pub complete-requires : goal.complete-requires
+complete-requires g c =
     let S = g.S.SleepLayer in
     let met = g.met.S.SleepLayer in
     let rules = g.F.Locked.rules in
@@ -143,11 +144,11 @@ told-requires g c =
       under = under;
       slept = slept;
       starts = met.opens m cpu acts;
-      moving = met.moving m cpu acts;
+      moves_legal = met.moves_legal m cpu acts;
       stands = met.stands self.lower m c.requires.fits.0;
       lists = met.lists self.lower m c.requires.fits.0;
       fits = c.requires.fits.1;
-      kept = c.requires.fits.2;
+      deferred = c.requires.fits.2;
       caller = c.requires.caller;
       may = c.requires.call;
     } in
@@ -178,11 +179,11 @@ returns-in-None-clause-fits g c =
       under = under;
       slept = slept;
       starts = met.opens m cpu acts;
-      moving = met.moving m cpu acts;
+      moves_legal = met.moves_legal m cpu acts;
       stands = met.stands self.lower m c.requires.fits.0;
       lists = met.lists self.lower m c.requires.fits.0;
       fits = c.requires.fits.1;
-      kept = c.requires.fits.2;
+      deferred = c.requires.fits.2;
       caller = c.requires.caller;
       may = c.requires.call;
     } in
@@ -196,10 +197,10 @@ returns-in-None-clause-fits g c =
     = subst (λ (o : LockId → Option (QueueBlock (SleepState (QBlock g.row.F-Block.Denot)))). IsLawful (QueueAllowed (beneath rules o)) (S.seen n)) said.opening
     (met.lawful n cpu (said.acts cpu acts)) in (
       said.fits,
-      transport (λ i. SleptFits rules (viewed lock_of (sym said.opening i)) (sym said.cpu i) (renamed_events edit_in (S.seen n)) slept)
+      transport (λ i. SleptFits rules (viewed nested_lock_of (sym said.opening i)) (sym said.cpu i) (renamed_events edit_in (S.seen n)) slept)
           (slept_after rules (S.opening m) before awake (λ d. S.ActsFor m d) (S.seen n) got said.seen acts lawful),
-      subst (λ u. KeptFits u (S.own part).kept (S.own part).threads.hand) (sym (under_is (S.under_way part) c.poll.result b e said.call))
-          (kept_after rules (S.opening m) before awake (λ d. S.ActsFor m d) (S.seen n) got said.seen),
+      subst (λ u. DeferredFits u (S.own part).deferred (S.own part).threads.hand) (sym (under_is (S.under_way part) c.poll.result b e said.call))
+          (deferred_after rules (S.opening m) before awake (λ d. S.ActsFor m d) (S.seen n) got said.seen),
     )
 
 pub returns-in-None-clause-seen : goal.returns-in-None-clause-seen
@@ -225,11 +226,11 @@ returns-in-None-clause-seen g c =
       under = under;
       slept = slept;
       starts = met.opens m cpu acts;
-      moving = met.moving m cpu acts;
+      moves_legal = met.moves_legal m cpu acts;
       stands = met.stands self.lower m c.requires.fits.0;
       lists = met.lists self.lower m c.requires.fits.0;
       fits = c.requires.fits.1;
-      kept = c.requires.fits.2;
+      deferred = c.requires.fits.2;
       caller = c.requires.caller;
       may = c.requires.call;
     } in
@@ -267,7 +268,7 @@ returns-in-None-clause-others g c = λ p apart fits.
     = subst (λ (o : LockId → Option (QueueBlock (SleepState (QBlock g.row.F-Block.Denot)))). IsLawful (QueueAllowed (beneath rules o)) (S.seen n)) said.opening
     (met.lawful n cpu (said.acts cpu acts)) in (
       said.others p.lower apart fits.0,
-      transport (λ i. SleptFits rules (viewed lock_of (sym said.opening i)) (S.cpu_of p.lower) (renamed_events edit_in (S.seen n)) p.slept.buffers)
+      transport (λ i. SleptFits rules (viewed nested_lock_of (sym said.opening i)) (S.cpu_of p.lower) (renamed_events edit_in (S.seen n)) p.slept.buffers)
           (others_after rules (S.opening m) (S.cpu_of p.lower) cpu apart (λ d. S.ActsFor m d) (met.own_cpu p.lower m fits.0) b e (S.seen m) (S.seen n)
           (S.own self.lower) got said.seen lawful
           p.slept.buffers fits.1),
@@ -297,11 +298,11 @@ returns-in-None-clause-follows g c = λ step.
       under = under;
       slept = slept;
       starts = met.opens m cpu acts;
-      moving = met.moving m cpu acts;
+      moves_legal = met.moves_legal m cpu acts;
       stands = met.stands self.lower m c.requires.fits.0;
       lists = met.lists self.lower m c.requires.fits.0;
       fits = c.requires.fits.1;
-      kept = c.requires.fits.2;
+      deferred = c.requires.fits.2;
       caller = c.requires.caller;
       may = c.requires.call;
     } in
@@ -316,8 +317,8 @@ returns-in-None-clause-follows g c = λ step.
     (met.lawful n cpu (said.acts cpu acts)) in
     let leaves : locking (S.own part) slept None ≡ left_after (lock_caller rules e) b slept (S.own part) c.poll.result
     = ap (left_after (lock_caller rules e) b slept (S.own part)) (sym c.in-None.is) in
-    subst (λ l. Follows (λ d. S.ActsFor m d) (table_of (queue_rules (lock_rules rules) (lock_moves rules))) (viewed lock_of (S.opening m)) cpu
-    (lock_plan (lock_moves rules) (homes_in (viewed lock_of (S.opening m))) cpu b e (record { sleep = own; slept = slept }))
+    subst (λ l. Follows (λ d. S.ActsFor m d) (table_of (queue_rules (lock_rules rules) (lock_moves rules))) (viewed nested_lock_of (S.opening m)) cpu
+    (lock_plan (lock_moves rules) (homes_in (viewed nested_lock_of (S.opening m))) cpu b e (record { sleep = own; slept = slept }))
     (map (renamed (renamed_edit edit_in)) (S.acts m)) (map (renamed (renamed_edit edit_in)) (S.acts n)) l) (sym leaves)
     (locks_follow rules (S.opening m) (λ d. S.ActsFor m d) cpu (S.acts m) (S.acts n) b e own slept got
     (none rules (S.opening m) before awake) (said.follows step))
@@ -347,11 +348,11 @@ returns-in-Some-clause-fits g c =
       under = under;
       slept = slept;
       starts = met.opens m cpu acts;
-      moving = met.moving m cpu acts;
+      moves_legal = met.moves_legal m cpu acts;
       stands = met.stands self.lower m c.requires.fits.0;
       lists = met.lists self.lower m c.requires.fits.0;
       fits = c.requires.fits.1;
-      kept = c.requires.fits.2;
+      deferred = c.requires.fits.2;
       caller = c.requires.caller;
       may = c.requires.call;
     } in
@@ -365,15 +366,15 @@ returns-in-Some-clause-fits g c =
     = subst (λ (o : LockId → Option (QueueBlock (SleepState (QBlock g.row.F-Block.Denot)))). IsLawful (QueueAllowed (beneath rules o)) (S.seen n)) said.opening
     (met.lawful n cpu (said.acts cpu acts)) in
     let outcome = c.in-Some.outcome in
-    let keeps : c.told.new.self.buffers ≡ kept_by (lock_caller rules e) b slept outcome
-    = c.told.ensures.slept ∙ ap (λ t. kept_by t b slept outcome) c.caller-t.ensures in (
+    let keeps : c.complete.new.self.buffers ≡ slept_left_by (lock_caller rules e) b slept outcome
+    = c.complete.ensures.slept ∙ ap (λ t. slept_left_by t b slept outcome) c.caller-t.ensures in (
       said.fits,
-      transport (λ i. SleptFits rules (viewed lock_of (sym said.opening i)) (sym said.cpu i) (renamed_events edit_in (S.seen n)) c.told.new.self.buffers)
-          (subst (λ l. SleptFits rules (viewed lock_of (S.opening m)) cpu (renamed_events edit_in (S.seen n)) l) (sym keeps)
-          (slept_told rules (S.opening m) before awake (λ d. S.ActsFor m d)
+      transport (λ i. SleptFits rules (viewed nested_lock_of (sym said.opening i)) (sym said.cpu i) (renamed_events edit_in (S.seen n)) c.complete.new.self.buffers)
+          (subst (λ l. SleptFits rules (viewed nested_lock_of (S.opening m)) cpu (renamed_events edit_in (S.seen n)) l) (sym keeps)
+          (slept_reported rules (S.opening m) before awake (λ d. S.ActsFor m d)
           (S.seen n) got said.seen acts lawful outcome c.in-Some.is)),
-      subst (λ u. KeptFits u (S.own part).kept (S.own part).threads.hand) (sym (under_is (S.under_way part) c.poll.result b e said.call))
-          (kept_after rules (S.opening m) before awake (λ d. S.ActsFor m d) (S.seen n) got said.seen),
+      subst (λ u. DeferredFits u (S.own part).deferred (S.own part).threads.hand) (sym (under_is (S.under_way part) c.poll.result b e said.call))
+          (deferred_after rules (S.opening m) before awake (λ d. S.ActsFor m d) (S.seen n) got said.seen),
     )
 
 pub returns-in-Some-clause-seen : goal.returns-in-Some-clause-seen
@@ -399,11 +400,11 @@ returns-in-Some-clause-seen g c =
       under = under;
       slept = slept;
       starts = met.opens m cpu acts;
-      moving = met.moving m cpu acts;
+      moves_legal = met.moves_legal m cpu acts;
       stands = met.stands self.lower m c.requires.fits.0;
       lists = met.lists self.lower m c.requires.fits.0;
       fits = c.requires.fits.1;
-      kept = c.requires.fits.2;
+      deferred = c.requires.fits.2;
       caller = c.requires.caller;
       may = c.requires.call;
     } in
@@ -417,15 +418,15 @@ returns-in-Some-clause-seen g c =
     = subst (λ (o : LockId → Option (QueueBlock (SleepState (QBlock g.row.F-Block.Denot)))). IsLawful (QueueAllowed (beneath rules o)) (S.seen n)) said.opening
     (met.lawful n cpu (said.acts cpu acts)) in
     let outcome = c.in-Some.outcome in
-    let keeps : c.told.new.self.buffers ≡ kept_by (lock_caller rules e) b slept outcome
-    = c.told.ensures.slept ∙ ap (λ t. kept_by t b slept outcome) c.caller-t.ensures in
-    let leaves : locking (S.own part) c.told.new.self.buffers c.told.result ≡ left_after (lock_caller rules e) b slept (S.own part) c.poll.result
-    = (λ i. locking (S.own part) (keeps i) (c.told.ensures.told i))
-    ∙ (sym (told_is (lock_caller rules e) b slept (S.own part) outcome.out outcome)
+    let keeps : c.complete.new.self.buffers ≡ slept_left_by (lock_caller rules e) b slept outcome
+    = c.complete.ensures.slept ∙ ap (λ t. slept_left_by t b slept outcome) c.caller-t.ensures in
+    let leaves : locking (S.own part) c.complete.new.self.buffers c.complete.result ≡ left_after (lock_caller rules e) b slept (S.own part) c.poll.result
+    = (λ i. locking (S.own part) (keeps i) (c.complete.ensures.complete i))
+    ∙ (sym (reported_is (lock_caller rules e) b slept (S.own part) outcome.out outcome)
     ∙ ap (left_after (lock_caller rules e) b slept (S.own part)) (sym c.in-Some.is)) in
     locks rules (S.opening m) before awake (λ d. S.ActsFor m d) (S.seen n) got said.seen
     (option_map (renamed_sched edit_in) (S.under_way part))
-    (locking (S.own part) c.told.new.self.buffers c.told.result) (under_is (S.under_way part) c.poll.result b e said.call) leaves
+    (locking (S.own part) c.complete.new.self.buffers c.complete.result) (under_is (S.under_way part) c.poll.result b e said.call) leaves
 
 pub returns-in-Some-clause-others : goal.returns-in-Some-clause-others
 returns-in-Some-clause-others g c = λ p apart fits.
@@ -446,7 +447,7 @@ returns-in-Some-clause-others g c = λ p apart fits.
     = subst (λ (o : LockId → Option (QueueBlock (SleepState (QBlock g.row.F-Block.Denot)))). IsLawful (QueueAllowed (beneath rules o)) (S.seen n)) said.opening
     (met.lawful n cpu (said.acts cpu acts)) in (
       said.others p.lower apart fits.0,
-      transport (λ i. SleptFits rules (viewed lock_of (sym said.opening i)) (S.cpu_of p.lower) (renamed_events edit_in (S.seen n)) p.slept.buffers)
+      transport (λ i. SleptFits rules (viewed nested_lock_of (sym said.opening i)) (S.cpu_of p.lower) (renamed_events edit_in (S.seen n)) p.slept.buffers)
           (others_after rules (S.opening m) (S.cpu_of p.lower) cpu apart (λ d. S.ActsFor m d) (met.own_cpu p.lower m fits.0) b e (S.seen m) (S.seen n)
           (S.own self.lower) got said.seen lawful
           p.slept.buffers fits.1),
@@ -476,11 +477,11 @@ returns-in-Some-clause-follows g c = λ step.
       under = under;
       slept = slept;
       starts = met.opens m cpu acts;
-      moving = met.moving m cpu acts;
+      moves_legal = met.moves_legal m cpu acts;
       stands = met.stands self.lower m c.requires.fits.0;
       lists = met.lists self.lower m c.requires.fits.0;
       fits = c.requires.fits.1;
-      kept = c.requires.fits.2;
+      deferred = c.requires.fits.2;
       caller = c.requires.caller;
       may = c.requires.call;
     } in
@@ -494,14 +495,14 @@ returns-in-Some-clause-follows g c = λ step.
     = subst (λ (o : LockId → Option (QueueBlock (SleepState (QBlock g.row.F-Block.Denot)))). IsLawful (QueueAllowed (beneath rules o)) (S.seen n)) said.opening
     (met.lawful n cpu (said.acts cpu acts)) in
     let outcome = c.in-Some.outcome in
-    let keeps : c.told.new.self.buffers ≡ kept_by (lock_caller rules e) b slept outcome
-    = c.told.ensures.slept ∙ ap (λ t. kept_by t b slept outcome) c.caller-t.ensures in
-    let leaves : locking (S.own part) c.told.new.self.buffers c.told.result ≡ left_after (lock_caller rules e) b slept (S.own part) c.poll.result
-    = (λ i. locking (S.own part) (keeps i) (c.told.ensures.told i))
-    ∙ (sym (told_is (lock_caller rules e) b slept (S.own part) outcome.out outcome)
+    let keeps : c.complete.new.self.buffers ≡ slept_left_by (lock_caller rules e) b slept outcome
+    = c.complete.ensures.slept ∙ ap (λ t. slept_left_by t b slept outcome) c.caller-t.ensures in
+    let leaves : locking (S.own part) c.complete.new.self.buffers c.complete.result ≡ left_after (lock_caller rules e) b slept (S.own part) c.poll.result
+    = (λ i. locking (S.own part) (keeps i) (c.complete.ensures.complete i))
+    ∙ (sym (reported_is (lock_caller rules e) b slept (S.own part) outcome.out outcome)
     ∙ ap (left_after (lock_caller rules e) b slept (S.own part)) (sym c.in-Some.is)) in
-    subst (λ l. Follows (λ d. S.ActsFor m d) (table_of (queue_rules (lock_rules rules) (lock_moves rules))) (viewed lock_of (S.opening m)) cpu
-    (lock_plan (lock_moves rules) (homes_in (viewed lock_of (S.opening m))) cpu b e (record { sleep = own; slept = slept }))
+    subst (λ l. Follows (λ d. S.ActsFor m d) (table_of (queue_rules (lock_rules rules) (lock_moves rules))) (viewed nested_lock_of (S.opening m)) cpu
+    (lock_plan (lock_moves rules) (homes_in (viewed nested_lock_of (S.opening m))) cpu b e (record { sleep = own; slept = slept }))
     (map (renamed (renamed_edit edit_in)) (S.acts m)) (map (renamed (renamed_edit edit_in)) (S.acts n)) l) (sym leaves)
     (locks_follow rules (S.opening m) (λ d. S.ActsFor m d) cpu (S.acts m) (S.acts n) b e own slept got
     (none rules (S.opening m) before awake) (said.follows step))

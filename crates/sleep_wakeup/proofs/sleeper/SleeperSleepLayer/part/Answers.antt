@@ -3,7 +3,7 @@ use Rattle.event_log.specs.declared.ids.LockId.TheVariants.{Pending}
 use Rattle.layer_traits.proofs.KernelRenaming.{homes_viewed, there_viewed}
 use Rattle.sleep_wakeup.specs.Nested.{state_of}
 use Rattle.sleep_wakeup.specs.NestedLaws.{nothing_seen}
-use Rattle.sleep_wakeup.proofs.PollLemmas.{fresh_kept, nobody_beneath}
+use Rattle.sleep_wakeup.proofs.PollLemmas.{fresh_deferred, nobody_beneath}
 use Rattle.sleep_wakeup.proofs.sleeper.SleeperSleepLayer.part.Goals as goal
 
 pub returns-clause-fits : goal.returns-clause-fits
@@ -13,6 +13,6 @@ returns-clause-fits g c = λ m acts outside none homes queue nobody.
       c.part.ensures.fits m acts outside (nothing_seen (S.seen m) none) (sym (homes_viewed state_of (S.opening m)) ∙ homes)
           (there_viewed state_of (S.opening m) (Pending c.args.cpu) queue),
       nobody_beneath (S.opening m) nobody,
-      fresh_kept g.row.E-Out.Denot (S.under_way part) (S.threads part).hand c.part.ensures.call,
+      fresh_deferred g.row.E-Out.Denot (S.under_way part) (S.threads part).hand c.part.ensures.call,
       tt,
     )

@@ -17,5 +17,6 @@ returns-clause-follows g c = λ step.
     let self = c.args.self.now in
     let m = c.args.m.now in
     let said = c.poll-answer.ensures in
-    nested_pass_follows g.E.Sleeps.rules (S.opening m) (λ d. S.ActsFor m d) (S.cpu_of self.lower) c.args.call (S.acts m) (S.acts c.poll-answer.new.m) self.kept
+    nested_pass_follows g.E.Sleeps.rules (S.opening m) (λ d. S.ActsFor m d) (S.cpu_of self.lower) c.args.call (S.acts m)
+    (S.acts c.poll-answer.new.m) self.deferred
     (S.threads self.lower) (S.threads c.poll-answer.new.self) c.poll-answer.result c.done.result c.done.ensures (said.follows step)

@@ -8,11 +8,11 @@ use Rattle.layer_traits.specs.Renaming.{renamed_edit, renamed_events, viewed}
 use Rattle.layer_traits.specs.Scheds.{MaySched, SchedPolled, sched_plan, left as sched_left}
 use Rattle.layer_traits.specs.SleepLaw.{MaySleep, SleepPolled, due, sleep_plan}
 use Rattle.layer_traits.specs.Sleeping.{sleep_moves, sleep_rules}
-use Rattle.layer_traits.proofs.SleepLemmas.{HandKept}
+use Rattle.layer_traits.proofs.SleepLemmas.{HandDefers}
 use Rattle.sleep_wakeup.specs.Nested.{edit_in, nested_moves, nested_rules, state_of}
 use Rattle.sleep_wakeup.specs.NestedLaws.{beneath, here}
-use Rattle.sleep_wakeup.specs.Parts.{KeptFits, as_edit, outcome_in, own_of}
-use Rattle.sleep_wakeup.proofs.PollLemmas.{hand_kept, nested_may, nested_sleep_follows, nested_sleeps, told_is}
+use Rattle.sleep_wakeup.specs.Parts.{DeferredFits, as_edit, outcome_in, own_of}
+use Rattle.sleep_wakeup.proofs.PollLemmas.{hand_defers, nested_may, nested_sleep_follows, nested_sleeps, reported_is}
 use Rattle.sleep_wakeup.proofs.sleeper.SleeperSleepLayer.poll.Goals as goal
 
 -- nobody stands in the hand: the section is polled
@@ -28,14 +28,14 @@ poll-requires-clause-call g c =
     let is : hand ≡ threads.hand = sym c.in-None.is ∙ c.hand.ensures in
     let buffer = c.args.buffer in
     let edit = c.args.edit in
-    let fits : KeptFits self.kept (S.under_way self.lower) hand = subst (λ h. KeptFits self.kept (S.under_way self.lower) h)
+    let fits : DeferredFits self.deferred (S.under_way self.lower) hand = subst (λ h. DeferredFits self.deferred (S.under_way self.lower) h)
     (sym is) c.requires.fits.2 in
     let met = g.met.S.SchedLayer in
     let acts = met.own_cpu self.lower m c.requires.fits.0 in
     subst (λ s. MaySched (beneath rules (S.opening m)) cpu (S.seen m) threads (S.under_way self.lower) s) (sym c.section.ensures)
     (nested_may rules (S.opening m) cpu (S.seen m) threads buffer edit (met.opens m cpu acts) (met.lawful m cpu acts) c.requires.fits.1
     (met.stands self.lower m c.requires.fits.0)
-    self.kept (S.under_way self.lower) hand is fits c.requires.call)
+    self.deferred (S.under_way self.lower) hand is fits c.requires.call)
 
 pub returns-in-None-poll-clause-seen : goal.returns-in-None-poll-clause-seen
 returns-in-None-poll-clause-seen g c =
@@ -49,10 +49,10 @@ returns-in-None-poll-clause-seen g c =
     let is : hand ≡ threads.hand = sym c.in-None.is ∙ c.hand.ensures in
     let buffer = c.args.buffer in
     let edit = c.args.edit in
-    let fits : KeptFits self.kept (S.under_way self.lower) hand = subst (λ h. KeptFits self.kept (S.under_way self.lower) h)
+    let fits : DeferredFits self.deferred (S.under_way self.lower) hand = subst (λ h. DeferredFits self.deferred (S.under_way self.lower) h)
     (sym is) c.requires.fits.2 in
-    let keeps : HandKept hand (outcome_in self.kept)
-    = hand_kept self.kept (S.under_way self.lower) hand buffer edit
+    let keeps : HandDefers hand (outcome_in self.deferred)
+    = hand_defers self.deferred (S.under_way self.lower) hand buffer edit
     (MaySleep (here rules (S.opening m)) cpu (renamed_events edit_in (S.seen m)) threads buffer edit) fits c.requires.call
     (λ may. is ∙ may.hand) in
     let n = c.poll.new.m in
@@ -60,7 +60,7 @@ returns-in-None-poll-clause-seen g c =
     let polled : SchedPolled (beneath rules (S.opening m)) (λ d. S.ActsFor m d) cpu (due hand buffer (as_edit edit)) None (S.seen m) (S.seen n) threads after
     = transport (λ i. SchedPolled (beneath rules (S.opening m)) (λ d. S.ActsFor m d) cpu (c.section.ensures i) (c.in-None-poll.is i) (S.seen m)
     (S.seen n) threads after) c.poll.ensures.seen in
-    nested_sleeps rules (S.opening m) (λ d. S.ActsFor m d) cpu buffer edit None (S.seen m) (S.seen n) threads after self.kept hand is keeps polled
+    nested_sleeps rules (S.opening m) (λ d. S.ActsFor m d) cpu buffer edit None (S.seen m) (S.seen n) threads after self.deferred hand is keeps polled
 
 pub returns-in-None-poll-clause-follows : goal.returns-in-None-poll-clause-follows
 returns-in-None-poll-clause-follows g c = λ step.
@@ -82,7 +82,7 @@ returns-in-None-poll-clause-follows g c = λ step.
     (sched_plan (nested_moves rules) (homes_in (S.opening m)) cpu (c.section.ensures i) threads) (S.acts m) (S.acts n) (sched_left after (c.in-None-poll.is i)))
     (c.poll.ensures.follows step) in
     nested_sleep_follows rules (S.opening m) (λ d. S.ActsFor m d) cpu buffer edit (S.acts m)
-    (S.acts n) self.kept threads after hand None is followed
+    (S.acts n) self.deferred threads after hand None is followed
 
 pub returns-in-None-clause-seen : goal.returns-in-None-clause-seen
 returns-in-None-clause-seen g c =
@@ -96,10 +96,10 @@ returns-in-None-clause-seen g c =
     let is : hand ≡ threads.hand = sym c.in-None.is ∙ c.hand.ensures in
     let buffer = c.args.buffer in
     let edit = c.args.edit in
-    let fits : KeptFits self.kept (S.under_way self.lower) hand = subst (λ h. KeptFits self.kept (S.under_way self.lower) h)
+    let fits : DeferredFits self.deferred (S.under_way self.lower) hand = subst (λ h. DeferredFits self.deferred (S.under_way self.lower) h)
     (sym is) c.requires.fits.2 in
-    let keeps : HandKept hand (outcome_in self.kept)
-    = hand_kept self.kept (S.under_way self.lower) hand buffer edit
+    let keeps : HandDefers hand (outcome_in self.deferred)
+    = hand_defers self.deferred (S.under_way self.lower) hand buffer edit
     (MaySleep (here rules (S.opening m)) cpu (renamed_events edit_in (S.seen m)) threads buffer edit) fits c.requires.call
     (λ may. is ∙ may.hand) in
     let n = c.poll.new.m in
@@ -108,12 +108,12 @@ returns-in-None-clause-seen g c =
     (S.seen n) threads after
     = transport (λ i. SchedPolled (beneath rules (S.opening m)) (λ d. S.ActsFor m d) cpu (c.section.ensures i) (c.in-Some-poll.is i) (S.seen m)
     (S.seen n) threads after) c.poll.ensures.seen in
-    let left = told_is self.kept after buffer edit c.of-meant.result c.in-Some-poll.answer c.poll.new.tray.message c.hand-hand.result
-    c.told.new.kept c.told.result c.of-meant.ensures c.hand-hand.ensures c.told.ensures.kept c.told.ensures.answer in
+    let left = reported_is self.deferred after buffer edit c.of-ghost_of.result c.in-Some-poll.answer c.poll.new.payload.message c.hand-hand.result
+    c.complete.new.deferred c.complete.result c.of-ghost_of.ensures c.hand-hand.ensures c.complete.ensures.deferred c.complete.ensures.answer in
     subst (λ l. SleepPolled (here rules (S.opening m)) (λ d. S.ActsFor m d) cpu buffer edit (renamed_events edit_in (S.seen m))
-    (renamed_events edit_in (S.seen n)) (own_of self.kept threads) l) left
+    (renamed_events edit_in (S.seen n)) (own_of self.deferred threads) l) left
     (nested_sleeps rules (S.opening m) (λ d. S.ActsFor m d) cpu buffer edit (Some c.in-Some-poll.answer) (S.seen m)
-    (S.seen n) threads after self.kept hand is keeps polled)
+    (S.seen n) threads after self.deferred hand is keeps polled)
 
 pub returns-in-None-clause-follows : goal.returns-in-None-clause-follows
 returns-in-None-clause-follows g c = λ step.
@@ -135,12 +135,12 @@ returns-in-None-clause-follows g c = λ step.
     = transport (λ i. Follows (λ d. S.ActsFor m d) (table_of (queue_rules (nested_rules rules) (nested_moves rules))) (S.opening m) cpu
     (sched_plan (nested_moves rules) (homes_in (S.opening m)) cpu (c.section.ensures i) threads) (S.acts m) (S.acts n) (sched_left after (c.in-Some-poll.is i)))
     (c.poll.ensures.follows step) in
-    let left = told_is self.kept after buffer edit c.of-meant.result c.in-Some-poll.answer c.poll.new.tray.message c.hand-hand.result
-    c.told.new.kept c.told.result c.of-meant.ensures c.hand-hand.ensures c.told.ensures.kept c.told.ensures.answer in
+    let left = reported_is self.deferred after buffer edit c.of-ghost_of.result c.in-Some-poll.answer c.poll.new.payload.message c.hand-hand.result
+    c.complete.new.deferred c.complete.result c.of-ghost_of.ensures c.hand-hand.ensures c.complete.ensures.deferred c.complete.ensures.answer in
     subst (λ l. Follows (λ d. S.ActsFor m d) (table_of (queue_rules (sleep_rules rules) (sleep_moves rules))) (viewed state_of (S.opening m)) cpu
-    (sleep_plan (sleep_moves rules) (homes_in (viewed state_of (S.opening m))) cpu buffer edit (own_of self.kept threads))
+    (sleep_plan (sleep_moves rules) (homes_in (viewed state_of (S.opening m))) cpu buffer edit (own_of self.deferred threads))
     (map (renamed (renamed_edit edit_in)) (S.acts m)) (map (renamed (renamed_edit edit_in)) (S.acts n)) l) left
-    (nested_sleep_follows rules (S.opening m) (λ d. S.ActsFor m d) cpu buffer edit (S.acts m) (S.acts n) self.kept threads after hand
+    (nested_sleep_follows rules (S.opening m) (λ d. S.ActsFor m d) cpu buffer edit (S.acts m) (S.acts n) self.deferred threads after hand
     (Some c.in-Some-poll.answer) is followed)
 
 -- the thread in the hand is sent home first
@@ -156,13 +156,13 @@ poll-requires-in-Some-clause-call g c =
     let is : hand ≡ threads.hand = sym c.in-Some.is ∙ c.hand.ensures in
     let buffer = c.args.buffer in
     let edit = c.args.edit in
-    let fits : KeptFits self.kept (S.under_way self.lower) hand = subst (λ h. KeptFits self.kept (S.under_way self.lower) h)
+    let fits : DeferredFits self.deferred (S.under_way self.lower) hand = subst (λ h. DeferredFits self.deferred (S.under_way self.lower) h)
     (sym is) c.requires.fits.2 in
     let met = g.met.S.SchedLayer in
     let acts = met.own_cpu self.lower m c.requires.fits.0 in
     nested_may rules (S.opening m) cpu (S.seen m) threads buffer edit (met.opens m cpu acts) (met.lawful m cpu acts) c.requires.fits.1
     (met.stands self.lower m c.requires.fits.0)
-    self.kept (S.under_way self.lower) hand is fits c.requires.call
+    self.deferred (S.under_way self.lower) hand is fits c.requires.call
 
 pub returns-in-None-poll-2-clause-seen : goal.returns-in-None-poll-2-clause-seen
 returns-in-None-poll-2-clause-seen g c =
@@ -176,10 +176,10 @@ returns-in-None-poll-2-clause-seen g c =
     let is : hand ≡ threads.hand = sym c.in-Some.is ∙ c.hand.ensures in
     let buffer = c.args.buffer in
     let edit = c.args.edit in
-    let fits : KeptFits self.kept (S.under_way self.lower) hand = subst (λ h. KeptFits self.kept (S.under_way self.lower) h)
+    let fits : DeferredFits self.deferred (S.under_way self.lower) hand = subst (λ h. DeferredFits self.deferred (S.under_way self.lower) h)
     (sym is) c.requires.fits.2 in
-    let keeps : HandKept hand (outcome_in self.kept)
-    = hand_kept self.kept (S.under_way self.lower) hand buffer edit
+    let keeps : HandDefers hand (outcome_in self.deferred)
+    = hand_defers self.deferred (S.under_way self.lower) hand buffer edit
     (MaySleep (here rules (S.opening m)) cpu (renamed_events edit_in (S.seen m)) threads buffer edit) fits c.requires.call
     (λ may. is ∙ may.hand) in
     let n = c.poll-in-Some.new.m in
@@ -187,7 +187,7 @@ returns-in-None-poll-2-clause-seen g c =
     let polled : SchedPolled (beneath rules (S.opening m)) (λ d. S.ActsFor m d) cpu (due hand buffer (as_edit edit)) None (S.seen m) (S.seen n) threads after
     = transport (λ i. SchedPolled (beneath rules (S.opening m)) (λ d. S.ActsFor m d) cpu (due hand buffer (as_edit edit)) (c.in-None-poll-2.is i) (S.seen m)
     (S.seen n) threads after) c.poll-in-Some.ensures.seen in
-    nested_sleeps rules (S.opening m) (λ d. S.ActsFor m d) cpu buffer edit None (S.seen m) (S.seen n) threads after self.kept hand is keeps polled
+    nested_sleeps rules (S.opening m) (λ d. S.ActsFor m d) cpu buffer edit None (S.seen m) (S.seen n) threads after self.deferred hand is keeps polled
 
 pub returns-in-None-poll-2-clause-follows : goal.returns-in-None-poll-2-clause-follows
 returns-in-None-poll-2-clause-follows g c = λ step.
@@ -210,7 +210,7 @@ returns-in-None-poll-2-clause-follows g c = λ step.
     (sched_left after (c.in-None-poll-2.is i)))
     (c.poll-in-Some.ensures.follows step) in
     nested_sleep_follows rules (S.opening m) (λ d. S.ActsFor m d) cpu buffer edit (S.acts m)
-    (S.acts n) self.kept threads after hand None is followed
+    (S.acts n) self.deferred threads after hand None is followed
 
 pub returns-clause-seen : goal.returns-clause-seen
 returns-clause-seen g c =
@@ -224,10 +224,10 @@ returns-clause-seen g c =
     let is : hand ≡ threads.hand = sym c.in-Some.is ∙ c.hand.ensures in
     let buffer = c.args.buffer in
     let edit = c.args.edit in
-    let fits : KeptFits self.kept (S.under_way self.lower) hand = subst (λ h. KeptFits self.kept (S.under_way self.lower) h)
+    let fits : DeferredFits self.deferred (S.under_way self.lower) hand = subst (λ h. DeferredFits self.deferred (S.under_way self.lower) h)
     (sym is) c.requires.fits.2 in
-    let keeps : HandKept hand (outcome_in self.kept)
-    = hand_kept self.kept (S.under_way self.lower) hand buffer edit
+    let keeps : HandDefers hand (outcome_in self.deferred)
+    = hand_defers self.deferred (S.under_way self.lower) hand buffer edit
     (MaySleep (here rules (S.opening m)) cpu (renamed_events edit_in (S.seen m)) threads buffer edit) fits c.requires.call
     (λ may. is ∙ may.hand) in
     let n = c.poll-in-Some.new.m in
@@ -236,13 +236,13 @@ returns-clause-seen g c =
     (S.seen n) threads after
     = transport (λ i. SchedPolled (beneath rules (S.opening m)) (λ d. S.ActsFor m d) cpu (due hand buffer (as_edit edit)) (c.in-Some-poll-2.is i) (S.seen m)
     (S.seen n) threads after) c.poll-in-Some.ensures.seen in
-    let left = told_is self.kept after buffer edit c.of-meant-in-Some.result c.in-Some-poll-2.answer c.poll-in-Some.new.tray.message
-    c.hand-hand-in-Some-poll-2.result c.told-in-Some-poll-2.new.kept c.told-in-Some-poll-2.result
-    c.of-meant-in-Some.ensures c.hand-hand-in-Some-poll-2.ensures c.told-in-Some-poll-2.ensures.kept c.told-in-Some-poll-2.ensures.answer in
+    let left = reported_is self.deferred after buffer edit c.of-ghost_of-in-Some.result c.in-Some-poll-2.answer c.poll-in-Some.new.payload.message
+    c.hand-hand-in-Some-poll-2.result c.complete-in-Some-poll-2.new.deferred c.complete-in-Some-poll-2.result
+    c.of-ghost_of-in-Some.ensures c.hand-hand-in-Some-poll-2.ensures c.complete-in-Some-poll-2.ensures.deferred c.complete-in-Some-poll-2.ensures.answer in
     subst (λ l. SleepPolled (here rules (S.opening m)) (λ d. S.ActsFor m d) cpu buffer edit (renamed_events edit_in (S.seen m))
-    (renamed_events edit_in (S.seen n)) (own_of self.kept threads) l) left
+    (renamed_events edit_in (S.seen n)) (own_of self.deferred threads) l) left
     (nested_sleeps rules (S.opening m) (λ d. S.ActsFor m d) cpu buffer edit (Some c.in-Some-poll-2.answer) (S.seen m)
-    (S.seen n) threads after self.kept hand is keeps polled)
+    (S.seen n) threads after self.deferred hand is keeps polled)
 
 pub returns-clause-follows : goal.returns-clause-follows
 returns-clause-follows g c = λ step.
@@ -265,11 +265,11 @@ returns-clause-follows g c = λ step.
     (sched_plan (nested_moves rules) (homes_in (S.opening m)) cpu (due hand buffer (as_edit edit)) threads) (S.acts m) (S.acts n)
     (sched_left after (c.in-Some-poll-2.is i)))
     (c.poll-in-Some.ensures.follows step) in
-    let left = told_is self.kept after buffer edit c.of-meant-in-Some.result c.in-Some-poll-2.answer c.poll-in-Some.new.tray.message
-    c.hand-hand-in-Some-poll-2.result c.told-in-Some-poll-2.new.kept c.told-in-Some-poll-2.result
-    c.of-meant-in-Some.ensures c.hand-hand-in-Some-poll-2.ensures c.told-in-Some-poll-2.ensures.kept c.told-in-Some-poll-2.ensures.answer in
+    let left = reported_is self.deferred after buffer edit c.of-ghost_of-in-Some.result c.in-Some-poll-2.answer c.poll-in-Some.new.payload.message
+    c.hand-hand-in-Some-poll-2.result c.complete-in-Some-poll-2.new.deferred c.complete-in-Some-poll-2.result
+    c.of-ghost_of-in-Some.ensures c.hand-hand-in-Some-poll-2.ensures c.complete-in-Some-poll-2.ensures.deferred c.complete-in-Some-poll-2.ensures.answer in
     subst (λ l. Follows (λ d. S.ActsFor m d) (table_of (queue_rules (sleep_rules rules) (sleep_moves rules))) (viewed state_of (S.opening m)) cpu
-    (sleep_plan (sleep_moves rules) (homes_in (viewed state_of (S.opening m))) cpu buffer edit (own_of self.kept threads))
+    (sleep_plan (sleep_moves rules) (homes_in (viewed state_of (S.opening m))) cpu buffer edit (own_of self.deferred threads))
     (map (renamed (renamed_edit edit_in)) (S.acts m)) (map (renamed (renamed_edit edit_in)) (S.acts n)) l) left
-    (nested_sleep_follows rules (S.opening m) (λ d. S.ActsFor m d) cpu buffer edit (S.acts m) (S.acts n) self.kept threads after hand
+    (nested_sleep_follows rules (S.opening m) (λ d. S.ActsFor m d) cpu buffer edit (S.acts m) (S.acts n) self.deferred threads after hand
     (Some c.in-Some-poll-2.answer) is followed)

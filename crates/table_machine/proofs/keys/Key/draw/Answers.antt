@@ -1,4 +1,4 @@
-use Rattle.table_machine.proofs.Asking.{at_word, draw_asks, draw_tells}
+use Rattle.table_machine.proofs.Asking.{at_word, draw_asks, draw_reads}
 use Rattle.table_machine.proofs.keys.Key.draw.Goals as goal
 
 pub fetch_add-ticket-requires : goal.fetch_add-ticket-requires
@@ -8,5 +8,5 @@ fetch_add-ticket-requires g c = draw_asks g.E.Edit.rules g.K.TableWords.kind
 
 pub returns-clause-adds : goal.returns-clause-adds
 returns-clause-adds g c =
-    (draw_tells g.E.Edit.rules _ _ _ _ _ _ _ _ c.args.lock c.args.self.now c.args.shared.now c.self.view_is c.self.invariant c.requires.of c.requires.lock
+    (draw_reads g.E.Edit.rules _ _ _ _ _ _ _ _ c.args.lock c.args.self.now c.args.shared.now c.self.view_is c.self.invariant c.requires.of c.requires.lock
     c.requires.outside c.word-word.ensures c.fetch_add-ticket.ensures.2).1

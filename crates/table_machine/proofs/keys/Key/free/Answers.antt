@@ -2,7 +2,7 @@ use Rattle.std.proofs.Common.{◌+◌, ◌%◌, ◌^◌, ap, sym, ◌∙◌}
 use Rattle.table_machine.specs.Kinds.{given_on}
 use Rattle.table_machine.specs.Layout.{rank_of, word_at}
 use Rattle.table_machine.proofs.Asking.{at_word}
-use Rattle.table_machine.proofs.Holding.{free_asks, free_tells}
+use Rattle.table_machine.proofs.Holding.{free_asks, free_reads}
 use Rattle.table_machine.proofs.keys.Key.free.Goals as goal
 
 pub store-requires : goal.store-requires
@@ -15,7 +15,7 @@ store-requires g c = free_asks g.E.Edit.rules g.K.TableWords.kind
 
 pub returns-in-Some-clause-adds : goal.returns-in-Some-clause-adds
 returns-in-Some-clause-adds g c =
-    (free_tells g.E.Edit.rules _ _ _ _ _ _ _ c.args.lock c.requires.inside.0 c.args.block c.args.edit c.args.self.now c.self.view_is c.self.invariant
+    (free_reads g.E.Edit.rules _ _ _ _ _ _ _ c.args.lock c.requires.inside.0 c.args.block c.args.edit c.args.self.now c.self.view_is c.self.invariant
     c.requires.inside.1 c.exchange-empty.ensures.3 c.store.ensures.2).adds
 
 pub fetch_add-requires : goal.fetch_add-requires
@@ -28,5 +28,5 @@ fetch_add-requires g c = free_asks g.E.Edit.rules g.K.TableWords.kind
 
 pub returns-clause-adds : goal.returns-clause-adds
 returns-clause-adds g c =
-    (free_tells g.E.Edit.rules _ _ _ _ _ _ _ c.args.lock c.requires.inside.0 c.args.block c.args.edit c.args.self.now c.self.view_is c.self.invariant
+    (free_reads g.E.Edit.rules _ _ _ _ _ _ _ c.args.lock c.requires.inside.0 c.args.block c.args.edit c.args.self.now c.self.view_is c.self.invariant
     c.requires.inside.1 c.exchange-empty.ensures.3 c.fetch_add.ensures.2).adds

@@ -1,6 +1,6 @@
 use Rattle.std.proofs.Common.{sym, ap, ◌∙◌}
 use Rattle.table_machine.proofs.Stepping.{notes_join}
-use Rattle.table_machine.proofs.Meeting.{one_table, has_words, meet_asks, meet_tells}
+use Rattle.table_machine.proofs.Meeting.{one_table, has_words, meet_asks, meet_reads}
 use Rattle.table_machine.proofs.keys.Key.take_in.Goals as goal
 
 pub join_seat-requires : goal.join_seat-requires
@@ -23,10 +23,10 @@ load-requires g c =
     c.join_seat.ensures.0 c.join_seat.ensures.2
 
 pub invariant_of-self : goal.invariant_of-self
-invariant_of-self g c = (meet_tells g.E.Edit.rules _ _ _ _ _ _ c.args.notes.me.0 _ _ c.args.self.now c.self.view_is c.self.invariant c.requires.notes.1
+invariant_of-self g c = (meet_reads g.E.Edit.rules _ _ _ _ _ _ c.args.notes.me.0 _ _ c.args.self.now c.self.view_is c.self.invariant c.requires.notes.1
     c.join_seat.ensures.2 c.load.ensures.2).key
 
 pub returns-clause-grows : goal.returns-clause-grows
 returns-clause-grows g c =
-    (meet_tells g.E.Edit.rules _ _ _ _ _ _ c.args.notes.me.0 _ _ c.args.self.now c.self.view_is c.self.invariant c.requires.notes.1 c.join_seat.ensures.2
+    (meet_reads g.E.Edit.rules _ _ _ _ _ _ c.args.notes.me.0 _ _ c.args.self.now c.self.view_is c.self.invariant c.requires.notes.1 c.join_seat.ensures.2
     c.load.ensures.2).grows

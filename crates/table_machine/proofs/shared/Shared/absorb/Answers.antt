@@ -1,7 +1,7 @@
 use Rattle.std.proofs.Common.{sym, ap, ◌∙◌}
 use Rattle.table_machine.proofs.Stepping.{notes_join}
 use Rattle.table_machine.proofs.Meeting.{has_words, meet_asks}
-use Rattle.table_machine.proofs.Closing.{absorb_tells, absorb_carries}
+use Rattle.table_machine.proofs.Closing.{absorb_reads, absorb_carries}
 use Rattle.table_machine.proofs.shared.Shared.absorb.Goals as goal
 
 pub join_seat-requires : goal.join_seat-requires
@@ -24,7 +24,7 @@ load-requires g c = meet_asks g.E.Edit.rules g.K.TableWords.kind c.args.seat.now
     c.join_seat.ensures.2
 
 pub returns-clause-gathered : goal.returns-clause-gathered
-returns-clause-gathered g c = absorb_tells g.E.Edit.rules c.args.self.now.start c.key.inside.cpu c.key.inside.ticket c.key.inside.token.table_id
+returns-clause-gathered g c = absorb_reads g.E.Edit.rules c.args.self.now.start c.key.inside.cpu c.key.inside.ticket c.key.inside.token.table_id
     c.args.seat.now.me
     c.join_seat.new.seat.me c.load.new.seat.me c.key.inside.token.me _ _ c.args.key c.key.view_is c.key.invariant c.requires.over.outside c.join_seat.ensures.2
     c.load.ensures.2

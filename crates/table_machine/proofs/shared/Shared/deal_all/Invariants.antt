@@ -1,6 +1,6 @@
 use Rattle.std.proofs.Common.{◌≡◌, ◌-◌, []}
 use Rattle.table_machine.specs.Views.{viewed, cpus_from}
-use Rattle.table_machine.specs.Desks.{new_desks}
+use Rattle.table_machine.specs.SeatViews.{new_seat_views}
 use Rattle.table_machine.proofs.shared.Shared.deal_all.Given as goal
 
 abbrev pub invariant-loop-cpu : goal.invariant-loop-cpu
@@ -8,5 +8,5 @@ invariant-loop-cpu g l = record {
   count : l.cpus ≡ l.self.cpus;
   table : l.dealer.table_id ≡ l.self.table;
   dealer : l.dealer.me ≡ (viewed l.self.start (cpus_from l.cpu (l.self.cpus - l.cpu)) [], []);
-  dealt : l.keys.items ≡ new_desks l.self l.cpu;
+  dealt : l.keys.items ≡ new_seat_views l.self l.cpu;
 }

@@ -1,6 +1,6 @@
 use Rattle.std.proofs.Common.{refl, subst, [], ◌≡◌}
 use Rattle.table_machine.specs.Views.{viewed, cpus_from}
-use Rattle.table_machine.specs.Desks.{IsOver, Gathered}
+use Rattle.table_machine.specs.SeatViews.{IsOver, Gathered}
 use Rattle.table_machine.proofs.Stepping.{enters}
 use Rattle.table_machine.proofs.Meeting.{has_words}
 use Rattle.table_machine.proofs.Returning.{yield_more, no_more, all_tail}

@@ -1,5 +1,5 @@
 use Rattle.std.proofs.Common.{◌≡◌, ◌++◌, All}
-use Rattle.table_machine.specs.Desks.{IsOver, Gathered}
+use Rattle.table_machine.specs.SeatViews.{IsOver, Gathered}
 use Rattle.table_machine.proofs.shared.Shared.gathered.Given as goal
 
 abbrev pub invariant-loop-key : goal.invariant-loop-key

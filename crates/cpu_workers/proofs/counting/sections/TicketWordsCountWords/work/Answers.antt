@@ -1,7 +1,7 @@
 use Rattle.std.proofs.Common.{◌+◌, ℕ, ap, subst, sym, ◌∙◌}
 use Rattle.layer_traits.proofs.PlanLemmas.{sections_acts}
 use Rattle.layer_traits.specs.WordsProtocol.{sections}
-use Rattle.table_machine.specs.Desks.{Desk}
+use Rattle.table_machine.specs.SeatViews.{SeatView}
 use Rattle.cpu_workers.specs.declared.counting.AddOne.{AddOne}
 use Rattle.cpu_workers.specs.declared.counting.TheConstants.{NUMBER}
 use Rattle.cpu_workers.specs.Counts.{HasMade, made}
@@ -15,6 +15,6 @@ returns g c =
     let same = c.seat-seat.ensures.seat in
     let more = ap (made cpu NUMBER) (sections_acts c.work_at.new.seat.seen)
     ∙ (c.work_at.ensures.made ∙ (ap (λ l. made cpu NUMBER l + times) (sym (sections_acts c.seat-seat.result.seen))
-    ∙ ap (λ (d : Desk AddOne ℕ). made cpu NUMBER (sections d.seen) + times) same)) in
-    subst (λ (d : Desk AddOne ℕ). HasMade NUMBER c.args.key d times) (sym c.back.ensures)
+    ∙ ap (λ (d : SeatView AddOne ℕ). made cpu NUMBER (sections d.seen) + times) same)) in
+    subst (λ (d : SeatView AddOne ℕ). HasMade NUMBER c.args.key d times) (sym c.back.ensures)
     (has_made NUMBER c.args.key c.work_at.new.seat cpu times (cc) (cc) (cc) (cc) more)

@@ -1,11 +1,11 @@
 use Rattle.std.proofs.Common.{◌≡◌, ◌+◌, ℕ, ap, subst, sym, ◌∙◌}
-use Rattle.event_log.specs.Grants.{grant_standing}
-use Rattle.event_log.specs.WordsLog.{IsLegalWords, Outside, standing}
+use Rattle.event_log.specs.Grants.{grant_lock_phase}
+use Rattle.event_log.specs.WordsLog.{IsLegalWords, Idle, lock_phase}
 use Rattle.layer_traits.specs.GrantProtocol.{grant_sections}
 use Rattle.layer_traits.specs.OneLock.{opened}
 use Rattle.layer_traits.proofs.Seen.{words_legal}
-use Rattle.layer_traits.specs.GrantsTold.{grants_told, sections_told, stands_told}
-use Rattle.table_machine.specs.Desks.{Desk}
+use Rattle.layer_traits.specs.AsGrants.{as_grants, sections_as_grants, stands_as_grants}
+use Rattle.table_machine.specs.SeatViews.{SeatView}
 use Rattle.cpu_workers.specs.Counts.{counting}
 use Rattle.cpu_workers.specs.declared.counting.AddOne.{AddOne}
 use Rattle.cpu_workers.specs.declared.counting.TheConstants.{NUMBER}
@@ -18,8 +18,8 @@ work_at-requires-clause-outside g c =
     let cpu = c.cpu-cpu.result in
     let key = c.args.key in
     let before : IsLegalWords key.seen = words_legal (counting.allowed (opened key.start)) key.seen c.seat-seat.ensures.lawful in
-    let outside : standing cpu key.seen ≡ Outside = subst (λ k. standing k key.seen ≡ Outside) (sym c.cpu-cpu.ensures) c.requires.outside in
-    ap (λ (d : Desk AddOne ℕ). grant_standing cpu (grants_told d.seen)) c.seat-seat.ensures.seat ∙ (stands_told key.seen before cpu ∙ outside)
+    let outside : lock_phase cpu key.seen ≡ Idle = subst (λ k. lock_phase k key.seen ≡ Idle) (sym c.cpu-cpu.ensures) c.requires.outside in
+    ap (λ (d : SeatView AddOne ℕ). grant_lock_phase cpu (as_grants d.seen)) c.seat-seat.ensures.seat ∙ (stands_as_grants key.seen before cpu ∙ outside)
 
 pub returns : goal.returns
 returns g c =
@@ -29,8 +29,8 @@ returns g c =
     let new = c.work_at.new.seat.seen in
     let before : IsLegalWords key.seen = words_legal (counting.allowed (opened key.start)) key.seen c.seat-seat.ensures.lawful in
     let after : IsLegalWords new = words_legal (counting.allowed (opened c.work_at.new.seat.start)) new c.work_at.ensures.acts.1 in
-    let more = ap (made cpu NUMBER) (sym (sections_told new after))
-    ∙ (c.work_at.ensures.made ∙ (ap (λ (d : Desk AddOne ℕ). made cpu NUMBER (grant_sections (grants_told d.seen)) + times) c.seat-seat.ensures.seat
-    ∙ ap (λ l. made cpu NUMBER l + times) (sections_told key.seen before))) in
-    subst (λ (d : Desk AddOne ℕ). HasMade NUMBER key d times) (sym c.back.ensures)
-    (has_made NUMBER key c.work_at.new.seat cpu times (cc) (cc) (cc) (sym (stands_told new after cpu) ∙ c.work_at.ensures.outside) more)
+    let more = ap (made cpu NUMBER) (sym (sections_as_grants new after))
+    ∙ (c.work_at.ensures.made ∙ (ap (λ (d : SeatView AddOne ℕ). made cpu NUMBER (grant_sections (as_grants d.seen)) + times) c.seat-seat.ensures.seat
+    ∙ ap (λ l. made cpu NUMBER l + times) (sections_as_grants key.seen before))) in
+    subst (λ (d : SeatView AddOne ℕ). HasMade NUMBER key d times) (sym c.back.ensures)
+    (has_made NUMBER key c.work_at.new.seat cpu times (cc) (cc) (cc) (sym (stands_as_grants new after cpu) ∙ c.work_at.ensures.outside) more)

@@ -17,7 +17,7 @@ loop-worker-init g c =
 
 pub spawn_with-started-requires-clause-keeps : goal.spawn_with-started-requires-clause-keeps
 spawn_with-started-requires-clause-keeps g c = λ κs longer r kept.
-    keeps_so r (λ came. came.worker) (λ came. came.did.taken) (λ came. came.did.stop) (λ gate. g.G.Gate.MayLimit gate) c.in-Some.worker c.of.result.value
+    keeps_so r (λ came. came.worker) (λ came. came.did.taken) (λ came. came.did.stop) (λ gate. g.G.Gate.MayAnswer gate) c.in-Some.worker c.of.result.value
     c.captures.gate.now c.of-in-loop-worker.result.value c.captures.turns c.of.ensures c.of-in-loop-worker.ensures kept
 
 pub push_reserved-requires : goal.push_reserved-requires
@@ -64,9 +64,9 @@ returns g c =
     let whole : c.loop-worker.yielded ≡ c.captures.workers.items = no_more c.loop-worker.yielded left.items c.into_iter-worker-iterator.result.rest.items
     left.len known.all left.ok.0 c.in-None.ensures.steps.0 ∙ c.into_iter-worker-iterator.ensures.into_iter_gives.0 in
     both_then (λ w h. (h.promise.worker.value ≡ w) × (h.promise.gate.value ≡ c.captures.gate.now) × (h.promise.turns ≡ c.captures.turns))
-    (λ h r. HasRun (g.G.Gate.MayLimit h.promise.gate.value) h.promise.turns h.promise.worker.value r.worker r.did.taken r.did.stop)
-    (λ w r. HasRun (g.G.Gate.MayLimit c.captures.gate.now) c.captures.turns w r.worker r.did.taken r.did.stop)
-    (λ w h r p q. kept_for (λ gate. g.G.Gate.MayLimit gate) w h.promise.worker.value r.worker c.captures.gate.now h.promise.gate.value c.captures.turns
+    (λ h r. HasRun (g.G.Gate.MayAnswer h.promise.gate.value) h.promise.turns h.promise.worker.value r.worker r.did.taken r.did.stop)
+    (λ w r. HasRun (g.G.Gate.MayAnswer c.captures.gate.now) c.captures.turns w r.worker r.did.taken r.did.stop)
+    (λ w h r p q. kept_for (λ gate. g.G.Gate.MayAnswer gate) w h.promise.worker.value r.worker c.captures.gate.now h.promise.gate.value c.captures.turns
     h.promise.turns r.did.taken r.did.stop p.0 p.1 p.2 q)
     c.captures.workers.items c.loop-worker.children.items c.join_all.result.items
     (subst (λ l. Both (λ w h. (h.promise.worker.value ≡ w) × (h.promise.gate.value ≡ c.captures.gate.now) × (h.promise.turns ≡ c.captures.turns)) l

@@ -1,0 +1,91 @@
+-- What the machine and the parts of a system tell of its buffers and of where its threads stand: some of them tells.
+use Rattle.std.proofs.Common.{◌≡◌, ◌⊎◌, inl, inr, ℕ, ◌+◌, ◌<◌, ◌≤◌, true, false, List, length, Option, Some, None, refl, ap, sym, ◌∙◌, subst, arith}
+use Rattle.std.specs.Prelude.{slice_get, slice_index_or}
+use Rattle.std.proofs.lemmas.Bool.{cases_eq, cases_lt}
+use Rattle.std.proofs.lemmas.Option.{slice_get_read, slice_get_within}
+use Rattle.event_log.specs.declared.ids.CpuId.{CpuId}
+use Rattle.event_log.specs.declared.ids.Tid.{Tid}
+use Rattle.event_log.specs.declared.ids.TheConstants.{CPUS}
+use Rattle.event_log.specs.Actions.{Action, Rests, phase}
+use Rattle.layer_traits.specs.declared.calls.Place.{Place}
+use Rattle.layer_traits.specs.declared.ipc_layers.IpcLayer.{Ghosts}
+use Rattle.layer_traits.specs.OnePlace.{cpu_at}
+use Rattle.layer_traits.specs.Owned.{IsHeld}
+use Rattle.layer_traits.specs.Places.{AreMoves, Step, home_of, where_is}
+use Rattle.layer_traits.specs.Plans.{is_in_section}
+use Rattle.layer_traits.specs.Observed.{IsOwnPlace, MayObserve, ReadsPlace}
+use Rattle.layer_traits.proofs.PlaceLemmas.{hand_home}
+use Rattle.cpu.specs.declared.cpus.Cpu.{Cpu}
+use Rattle.cpu.specs.Claims.{CpuShown}
+use Rattle.cpu.proofs.ListReads.{there_is}
+
+-- a CPU that is in a section is one of the first n, if all others rest
+inside_within : {N : Type 0} (n : ℕ) (acts : List (Action N)) (c : CpuId) → (n ≤ c.0 → c.0 < CPUS → phase c acts ≡ Rests) → c.0 < CPUS
+    → is_in_section (phase c acts) ≡ true → c.0 < n
+inside_within n acts c rest known inside = go (cases_lt c.0 n)
+  where
+    go : (c.0 < n) ⊎ (n ≤ c.0) → c.0 < n
+    go (inl within) = within
+    go (inr past) = let resting : is_in_section (phase c acts) ≡ false = ap is_in_section (rest past known) in absurd (cc (resting, inside))
+
+module _ {P M : Type 0} (I : Ghosts P M) (m : M) (cpus : List (Cpu P M))
+    (each : (k : ℕ) (x : Cpu P M) → slice_get cpus k ≡ Some x → (x.number ≡ cpu_at k) × I.Fits x.part m × (I.cpu_of x.part ≡ x.number))
+    (rest : I.IsStepwise → (c : CpuId) → length cpus ≤ c.0 → c.0 < CPUS → phase c (I.acts m) ≡ Rests) where
+  -- whether a CPU has a section under way, where a poll is one action
+  abbrev IsInside : CpuId → Type 0
+  IsInside d = I.IsStepwise × (is_in_section (phase d (I.acts m)) ≡ true)
+
+  -- what a CPU has in its hands, some part of the system's tells
+  pub held_here : {A : Type 0} (here : P → Option A) → IsHeld (λ p. I.Fits p m) (λ p. I.cpu_of p) IsInside here
+      → ((k : ℕ) (x : Cpu P M) → slice_get cpus k ≡ Some x → here x.part ≡ None) → ⊥
+  held_here here held nobody =
+      let within = inside_within (length cpus) (I.acts m) held.cpu (rest held.inside.0 held.cpu) held.known held.inside.1 in
+      let there = there_is cpus held.cpu.0 within in
+      let is = each held.cpu.0 there.0 there.1 in
+      held.has there.0.part (is.2 ∙ is.0) is.1 (nobody held.cpu.0 there.0 there.1)
+
+  -- of a thread at home in the system some part is not silent
+  pub wait_channel_here : (IsSilent : P → Type 0) (homes : List CpuId) (moves : List Step) (t : Tid) → AreMoves homes moves
+      → ((u : Tid) (home : CpuId) → home_of homes u ≡ Some home → home.0 < length cpus)
+      → ReadsPlace (λ p. I.Fits p m) (λ p. I.cpu_of p) IsInside IsSilent (home_of homes t) (where_is homes moves t)
+      → ((k : ℕ) (x : Cpu P M) → slice_get cpus k ≡ Some x → IsSilent x.part) → ⊥
+  wait_channel_here IsSilent homes moves t moved within tells silent =
+      let there = there_is cpus tells.cpu.0 (may_within tells.may) in
+      let is = each tells.cpu.0 there.0 there.1 in
+      tells.has there.0.part (is.2 ∙ is.0) is.1 (silent tells.cpu.0 there.0 there.1)
+    where
+      may_within : MayObserve IsInside (home_of homes t) (where_is homes moves t) tells.cpu
+          → tells.cpu.0 < length cpus
+      may_within (inl home) = within t tells.cpu home
+      may_within (inr (inl hand)) = let u = hand_home homes moves t tells.cpu moved hand in within u.0 tells.cpu u.1
+      may_within (inr (inr inside)) = inside_within (length cpus) (I.acts m) tells.cpu (rest inside.1.0 tells.cpu) inside.0 inside.1.1
+
+-- a loop over the CPUs: what holds of those before and of this one holds of those up to here
+pub up_to : {X : Type 0} (P : X → Type 0) (xs : List X) (i : ℕ) (y : X) → i < length xs → y ≡ slice_index_or xs i y → P y
+    → ((k : ℕ) (x : X) → k < i → slice_get xs k ≡ Some x → P x) → (k : ℕ) (x : X) → k < i + 1 → slice_get xs k ≡ Some x → P x
+up_to P xs i y within reads here before k x below at = go (cases_eq k i)
+  where
+    go : (k ≡ i) ⊎ (k ≡ i → ⊥) → P x
+    go (inl same) =
+        let both : Some y ≡ Some x = sym (slice_get_read xs (length xs) i y refl within reads) ∙ ap (λ (j : ℕ). slice_get xs j) (sym same) ∙ at in
+        let equal : y ≡ x = cc both in
+        subst (λ z. P z) equal here
+    go (inr other) = before k x (grind (arith, below, other)) at
+
+-- and of all of them once it has come to the end
+pub up_to_end : {X : Type 0} (P : X → Type 0) (xs ys : List X) (i : ℕ) → ys ≡ xs → length ys ≤ i → ((k : ℕ) (x : X) → k < i → slice_get ys k ≡ Some x → P x)
+    → (k : ℕ) (x : X) → slice_get xs k ≡ Some x → P x
+up_to_end P xs ys i same over before k x at =
+    let there : slice_get ys k ≡ Some x = ap (λ l. slice_get l k) same ∙ at in
+    before k x (let within = slice_get_within ys k x there in omega (arith, over, within)) there
+
+-- an element that a loop reads
+pub item_at : {X : Type 0} (xs ys : List X) (i : ℕ) (x : X) → ys ≡ xs → i < length ys → x ≡ slice_index_or ys i x → slice_get xs i ≡ Some x
+item_at xs ys i x same within reads = subst (λ l. slice_get l i ≡ Some x) same (slice_get_read ys (length ys) i x refl within reads)
+
+-- a part's own word for a place is one of the system's CPUs'
+pub own_place : (cpus : List CpuShown) (Queue : Type 0) (k : ℕ) (p : CpuShown) (c : CpuId) (t : Tid) (place : Place) → slice_get cpus k ≡ Some p → c ≡ cpu_at k
+    → IsOwnPlace c p.own t place ⊎ Queue
+    → ((j : ℕ) × (q : CpuShown) × (slice_get cpus j ≡ Some q) × IsOwnPlace (cpu_at j) q.own t place) ⊎ Queue
+own_place cpus Queue k p c t place at is (inl mine) = inl (k, p, at, subst (λ (d : CpuId). IsOwnPlace d p.own t place) is mine)
+own_place cpus Queue k p c t place at is (inr queue) = inr queue

@@ -1,0 +1,135 @@
+-- All that is known of every state that a system reaches.
+use Rattle.std.proofs.Common.{◌≡◌, ℕ, zero, suc, ◌+◌, ◌<◌, ◌==◌, Bool, true, false, List, [], ◌∷◌, ◌++◌, length}
+use Rattle.std.proofs.Common.{slice_get, slice_set, Option, Some, None, refl, sym, ap, ◌∙◌, subst, arith}
+use Rattle.std.proofs.lemmas.Bool.{eqb-true, eqb-false}
+use Rattle.std.proofs.lemmas.List.{length-set}
+use Rattle.event_log.specs.declared.ids.CpuId.{CpuId}
+use Rattle.event_log.specs.declared.ids.Tid.{Tid}
+use Rattle.event_log.specs.History.{same_cpu}
+use Rattle.event_log.specs.Sections.{sections_in}
+use Rattle.event_log.specs.Actions.{Action, Take, Try, Give, phase}
+use Rattle.layer_traits.specs.declared.steps.Step.{Step}
+use Rattle.layer_traits.specs.declared.steps.Step.TheVariants.{Stepped, Halted}
+use Rattle.layer_traits.specs.Plans.{is_in_section}
+use Rattle.cpu.specs.Table.Blocks.{Name}
+use Rattle.cpu.specs.Table.Setups.{Setup, Private, thread_at, at_boot}
+use Rattle.cpu.specs.Table.Choice.{Choice, Halts, Alone, Goes, choice}
+use Rattle.cpu.specs.Table.Steps.{chosen, step_in, cpu_step, Whole, cpu_numbered, boots_from, whole_at_boot}
+use Rattle.cpu.specs.Table.Steps.{whole_after, roomy, answered_by, step_at, system_step, IsReached, boots, steps}
+use Rattle.cpu.proofs.Wakeups.Posts.{post, visit}
+use Rattle.cpu.proofs.Wakeups.Placed.{Placed, placed_none, placed_at}
+use Rattle.cpu.proofs.Wakeups.Agreement.{Agrees, runs, within}
+use Rattle.cpu.proofs.Wakeups.Chosen.{ChoiceOk, choice_ok}
+use Rattle.cpu.proofs.Wakeups.Says.{AllFine, fine_at_boot, FineChoice, fine_choice, fine_acting}
+use Rattle.cpu.proofs.Wakeups.Reaching.{IsFairLog, Ok, StepOk, step_ok, AllDo, Sound, sound_step, reached_sound, get_set, get_set_other, boots_at}
+
+-- what a step of a system leaves: the same, or the state after its CPU's step
+pub data NextIs (setup : Setup) (c : CpuId) (s : Whole) : Whole → Type 0 where
+  same : NextIs setup c s s
+  went : (p : Private) → slice_get s.cpus c.0 ≡ Some p → NextIs setup c s (whole_after c s (cpu_step setup c p s.log))
+
+pub next_is : (setup : Setup) (c : CpuId) (s : Whole) → NextIs setup c s (system_step setup c s).next
+next_is setup c s = by_cpu (slice_get s.cpus c.0) refl
+  where
+    by_cpu : (o : Option Private) → slice_get s.cpus c.0 ≡ o → NextIs setup c s (step_at setup c s o).next
+    by_cpu None here = same
+    by_cpu (Some p) here = by_answer (cpu_step setup c p s.log).answer
+      where
+        by_room : (full : Bool) → NextIs setup c s (roomy c s (cpu_step setup c p s.log) full).next
+        by_room true = same
+        by_room false = went p here
+
+        by_answer : (answer : Step) → NextIs setup c s (answered_by c s (cpu_step setup c p s.log) answer).next
+        by_answer (Halted reason) = same
+        by_answer Stepped = by_room (s.taken == s.room)
+
+-- the CPU's actions
+pub placed_acts : (setup : Setup) (c : CpuId) → c.0 < setup.cpus → (log acts : List (Action Name)) → AllDo c acts → IsFairLog setup (acts ++ log)
+    → Placed setup (sections_in log) → Placed setup (sections_in (acts ++ log))
+placed_acts setup c known log [] does fair placed = placed
+placed_acts setup c known log (Take cpu lock ∷ acts) does fair placed = placed_acts setup c known log acts does.1 fair.1 placed
+placed_acts setup c known log (Try cpu lock hit ∷ acts) does fair placed = placed_acts setup c known log acts does.1 fair.1 placed
+placed_acts setup c known log (Give cpu lock name ∷ acts) does fair placed =
+    placed_at setup (sections_in (acts ++ log)) (placed_acts setup c known log acts does.1 fair.1 placed) cpu
+    (subst (λ d. d.0 < setup.cpus) (sym does.0) known) name lock fair.0
+
+-- a CPU's step keeps what its threads say
+fine_step : (setup : Setup) (c : CpuId) (p : Private) (log : List (Action Name)) → Ok setup c p log
+    → AllFine setup p → AllFine setup (cpu_step setup c p log).next
+fine_step setup c p log ok fine = by_section (is_in_section (phase c log))
+  where
+    known : (q : Private) → Agrees setup c q (λ u. visit setup u (sections_in log)) (λ u. post setup u (sections_in log))
+        → (t : Tid) → q.current ≡ Some t → t.0 < length q.threads
+    known q agrees t runs_now =
+        within setup c q (λ u. visit setup u (sections_in log)) (λ u. post setup u (sections_in log)) agrees t
+        (runs setup c q (λ u. visit setup u (sections_in log)) (λ u. post setup u (sections_in log)) agrees t runs_now).0
+
+    alive : (t : Tid) → p.current ≡ Some t → (thread_at p t).ended ≡ false
+    alive t runs_now = (runs setup c p (λ u. visit setup u (sections_in log)) (λ u. post setup u (sections_in log)) ok.agrees t runs_now).2
+
+    by_choice : (what : Choice) → ChoiceOk setup c (λ u. visit setup u (sections_in log)) (λ u. post setup u (sections_in log)) what → FineChoice setup c what
+        → AllFine setup (chosen setup c p what log).next
+    by_choice (Halts reason) agrees now = fine
+    by_choice (Alone q) agrees now = now
+    by_choice (Goes q) agrees now = fine_acting setup c q now (known q agrees.0) log
+
+    by_section : (inside : Bool) → AllFine setup (step_in setup c p log inside).next
+    by_section true = fine_acting setup c p fine (known p ok.agrees) log
+    by_section false =
+        by_choice (choice setup c p) (choice_ok setup c p (λ u. visit setup u (sections_in log)) (λ u. post setup u (sections_in log)) ok.agrees ok.settled)
+        (fine_choice setup c p fine alive)
+
+pub record SystemInv (setup : Setup) (s : Whole) : Type 0 where
+  pub sound : Sound setup s
+  pub placed : Placed setup (sections_in s.log)
+  pub fine : (e : CpuId) (p : Private) → slice_get s.cpus e.0 ≡ Some p → AllFine setup p
+  pub size : length s.cpus ≡ setup.cpus
+
+boots_length : (setup : Setup) (n k : ℕ) → length (boots_from setup n k) ≡ k
+boots_length setup n zero = refl
+boots_length setup n (suc k) = let more = boots_length setup (n + 1) k in omega (arith, more)
+
+inv_at_boot : (setup : Setup) (room : ℕ) → SystemInv setup (whole_at_boot setup room)
+inv_at_boot setup room = record {
+  sound = reached_sound setup room (whole_at_boot setup room) boots;
+  placed = placed_none setup;
+  fine = λ e p is.
+      let zero_plus : 0 + e.0 ≡ e.0 = omega arith in
+      let at : at_boot setup e ≡ p = ap (λ m. at_boot setup (cpu_numbered m)) (sym zero_plus) ∙ boots_at setup 0 setup.cpus e.0 p is in
+      subst (AllFine setup) at (fine_at_boot setup e);
+  size = boots_length setup 0 setup.cpus;
+}
+
+inv_next : (setup : Setup) (c : CpuId) (s next : Whole) → c.0 < setup.cpus → SystemInv setup s → Sound setup next → NextIs setup c s next → SystemInv setup next
+inv_next setup c s next known kept sound same = kept
+inv_next setup c s next known kept sound (went p here) = record {
+  sound = sound;
+  placed = placed_acts setup c known s.log (cpu_step setup c p s.log).acts step.does step.fair kept.placed;
+  fine = λ e q is. by_test e q is (same_cpu c e) refl;
+  size = length-set s.cpus c.0 (cpu_step setup c p s.log).next ∙ kept.size;
+}
+  where
+    step : StepOk setup c s.log (cpu_step setup c p s.log)
+    step = step_ok setup c s.log kept.sound.fair p (kept.sound.cpus c p here)
+
+    by_test : (e : CpuId) (q : Private) → slice_get (slice_set s.cpus c.0 (cpu_step setup c p s.log).next) e.0 ≡ Some q
+        → (mine : Bool) → same_cpu c e ≡ mine → AllFine setup q
+    by_test e q is true own =
+        subst (AllFine setup) (get_set s.cpus c.0 e.0 (cpu_step setup c p s.log).next q is (eqb-true c.0 e.0 own))
+        (fine_step setup c p s.log (kept.sound.cpus c p here) (kept.fine c p here))
+    by_test e q is false off = kept.fine e q (sym (get_set_other s.cpus c.0 e.0 (cpu_step setup c p s.log).next (eqb-false c.0 e.0 off)) ∙ is)
+
+pub reached_inv : (setup : Setup) (room : ℕ) (s : Whole) → IsReached setup room s → SystemInv setup s
+reached_inv setup room s boots = inv_at_boot setup room
+reached_inv setup room s (steps {s = before} c reached within) =
+    inv_next setup c before (system_step setup c before).next within (reached_inv setup room before reached)
+    (sound_step setup before (reached_sound setup room before reached) c) (next_is setup c before)
+
+-- a CPU of the machine is there
+pub cpu_there : (setup : Setup) (s : Whole) → SystemInv setup s → (c : CpuId) → c.0 < setup.cpus → (p : Private) × (slice_get s.cpus c.0 ≡ Some p)
+cpu_there setup s kept c known = get_within s.cpus c.0 (subst (λ n. c.0 < n) (sym kept.size) known)
+  where
+    get_within : (xs : List Private) (i : ℕ) → i < length xs → (p : Private) × (slice_get xs i ≡ Some p)
+    get_within [] i below = absurd (omega (arith, below))
+    get_within (x ∷ xs) zero below = (x, refl)
+    get_within (x ∷ xs) (suc i) below = get_within xs i (omega (arith, below))

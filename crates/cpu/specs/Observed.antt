@@ -1,0 +1,107 @@
+-- What a system tells of its CPUs, its queues and its buffers is what the step table has there.
+use Rattle.std.specs.Prelude.{◌≡◌, ℕ, ◌<◌, ◌≤◌, true, false, List, [], length, Some, None, slice_get, slice_index, slice_index_or}
+use Rattle.event_log.specs.declared.entries.Kind.{Kind}
+use Rattle.event_log.specs.declared.ids.BufId.{BufId}
+use Rattle.event_log.specs.declared.ids.LockId.TheVariants.{Buffer as AtBuffer, Pending}
+use Rattle.event_log.specs.declared.ids.Tid.{Tid}
+use Rattle.event_log.specs.declared.ids.TheConstants.{THREADS}
+use Rattle.event_log.specs.Actions.{phase}
+use Rattle.event_log.specs.Buffers.{IsAllowedEffect, items_of}
+use Rattle.event_log.specs.Messages.{Message}
+use Rattle.event_log.specs.Runs.{Group, Receives, Sends, group_of}
+use Rattle.event_log.specs.declared.ids.CpuId.{CpuId}
+use Rattle.layer_traits.specs.declared.calls.Place.{Place}
+use Rattle.layer_traits.specs.declared.calls.Place.TheVariants as place
+use Rattle.layer_traits.specs.Places.{pending_by}
+use Rattle.thread_blocks.specs.Queues.{is_in}
+use Rattle.layer_traits.specs.Plans.{is_in_section}
+use Rattle.cpu.specs.Claims.{CpuShown, IsPlaceOf, Shown, waiters_at, buffer_at}
+use Rattle.cpu.specs.Cpus.{halted_at as own_halted_at}
+use Rattle.cpu.specs.Sound.{IsSetupFor}
+use Rattle.cpu.specs.Systems.{whole_of}
+use Rattle.cpu.specs.Table.Blocks.{Buffer, OfBuffer, OfPending, front, stands_in}
+use Rattle.cpu.specs.Table.Setups.{Private, Setup, home_of, stands_at, thread_at}
+use Rattle.cpu.specs.Table.Steps.{Whole, block_at, cpu_numbered, halted_at}
+use Rattle.cpu.specs.Wakeups.Quiet.{IsLive, IsNextEffect, IsStuck}
+
+-- CPU c of the table has a private state of which this holds
+abbrev pub CpuHas : Whole → CpuId → (Private → Type 0) → Type 0
+CpuHas w c Has = (p : Private) × (slice_get w.cpus c.0 ≡ Some p) × Has p
+
+-- the table has buffer b, and this holds of it
+abbrev pub BlockHas : Setup → Whole → BufId → (Buffer → Type 0) → Type 0
+BlockHas setup w b Has = (k : Buffer) × (block_at setup (AtBuffer b) w.log ≡ Some (OfBuffer k)) × Has k
+
+-- thread t stands here by the table's own lists: those of a CPU's private state, its pending queue, or those of a buffer
+abbrev pub IsPlaceByTable : Setup → Whole → Tid → Place → Type 0
+IsPlaceByTable setup w t (place.Running c) = CpuHas w c (λ p. p.current ≡ Some t)
+IsPlaceByTable setup w t (place.Ready c) = CpuHas w c (λ p. stands_in t p.ready ≡ true)
+IsPlaceByTable setup w t (place.Pending c) =
+    (queue : List Tid) × (block_at setup (Pending c) w.log ≡ Some (OfPending queue)) × (stands_in t queue ≡ true)
+IsPlaceByTable setup w t (place.Hand c) = CpuHas w c (λ p. p.hand ≡ Some t)
+IsPlaceByTable setup w t (place.LockSleeper b) = BlockHas setup w b (λ k. stands_in t k.sleepers ≡ true)
+IsPlaceByTable setup w t (place.WaitRecv b) = BlockHas setup w b (λ k. stands_in t k.waiting_receivers ≡ true)
+IsPlaceByTable setup w t (place.WaitSend b) = BlockHas setup w b (λ k. stands_in t k.waiting_senders ≡ true)
+IsPlaceByTable setup w t place.Ended = CpuHas w (home_of setup t) (λ p. (thread_at p t).ended ≡ true)
+
+-- CPU k is told as it is: whether it has a section under way, why it is halted, its threads, its trace, which threads have ended, and who
+-- is pending for it
+pub record CpuIsObserved (setup : Setup) (s : Shown) (k : ℕ) (p : CpuShown) : Type 0 where
+  pub inside : is_in_section (phase (cpu_numbered k) s.log) ≡ p.busy
+  pub halted : halted_at setup (cpu_numbered k) p.private ≡ own_halted_at p.own p.guests p.trace p.limit
+  pub current : p.private.current ≡ p.own.current
+  pub ready : p.private.ready ≡ p.own.ready
+  pub hand : p.private.hand ≡ p.own.hand
+  pub trace : p.private.trace ≡ p.trace
+  pub ended : (t : Tid) → t.0 < length s.homes → (thread_at p.private t).ended ≡ is_in t p.own.ended
+  pub pending : block_at setup (Pending (cpu_numbered k)) s.log ≡ Some (OfPending (pending_by s.moves (cpu_numbered k)))
+
+-- buffer b is told as it is: who owns its lock, who sleeps at it and who waits, what it holds, how much it may hold, and whether it is closed
+pub record BufferIsObserved (s : Shown) (b : ℕ) (k : Buffer) : Type 0 where
+  pub owner : slice_index_or s.owners b None ≡ k.busy
+  pub sleepers : (waiters_at s b).sleepers ≡ k.sleepers
+  pub receivers : (waiters_at s b).receivers ≡ k.waiting_receivers
+  pub senders : (waiters_at s b).senders ≡ k.waiting_senders
+  pub items : items_of s.contents b ≡ k.items
+  pub capacity : slice_index s.caps b ≡ k.capacity
+  pub closed : slice_index_or s.closed b false ≡ k.closed
+
+-- buffer b, as the system tells it, allows an effect of this kind with this message
+abbrev pub AllowsNow : Shown → ℕ → Kind → Message → Type 0
+AllowsNow s b e m = IsAllowedEffect e (slice_index_or s.closed b false) (slice_index s.caps b) (items_of s.contents b) m
+
+-- no wake-up is lost at buffer b, of what the system tells: while nobody owns its lock, the first of neither line waits although the buffer
+-- allows an effect of its call
+pub record IsAwake (s : Shown) (b : ℕ) (k : Buffer) : Type 0 where
+  pub senders : slice_index_or s.owners b None ≡ None → (t : Tid) (m : Message) → front k.send_line ≡ Some t
+      → stands_in t (waiters_at s b).senders ≡ true → (e : Kind) → group_of e ≡ Sends → AllowsNow s b e m → ⊥
+  pub receivers : slice_index_or s.owners b None ≡ None → (t : Tid) (m : Message) → front k.receive_line ≡ Some t
+      → stands_in t (waiters_at s b).receivers ≡ true → (e : Kind) → group_of e ≡ Receives → AllowsNow s b e m → ⊥
+
+-- the table has buffer b, and it is told as it is
+pub record HasBuffer (setup : Setup) (s : Shown) (b : ℕ) : Type 0 where
+  pub buffer : Buffer
+  pub there : block_at setup (AtBuffer (buffer_at b)) s.log ≡ Some (OfBuffer buffer)
+  pub told : BufferIsObserved s b buffer
+  pub awake : IsAwake s b buffer
+
+-- each CPU is told as it is, and so is each buffer and the place of each thread; there is a CPU, and there are no more threads than a
+-- machine may have
+pub record ObservedByTable (s : Shown) : Type 0 where
+  pub cpus : (setup : Setup) → IsSetupFor setup s → (k : ℕ) (p : CpuShown) → slice_get s.cpus k ≡ Some p → CpuIsObserved setup s k p
+  pub buffers : (setup : Setup) → IsSetupFor setup s → (b : ℕ) → b < length s.caps → HasBuffer setup s b
+  pub places : (setup : Setup) → IsSetupFor setup s → (t : Tid) (at : Place) → t.0 < length s.homes → IsPlaceOf s t at
+      → IsPlaceByTable setup (whole_of s) t at
+  pub some : 0 < length s.cpus
+  pub few : length s.homes ≤ THREADS
+
+-- a quiet system is stuck: no live thread has a next effect that its buffer, as the system tells it, allows, nobody owns the lock of a
+-- buffer, and nobody sleeps at one; no thread's place is among the sleepers of a lock
+pub record IsStill (s : Shown) : Type 0 where
+  pub stuck : (setup : Setup) → IsSetupFor setup s → IsStuck setup (whole_of s)
+  pub refused : (setup : Setup) → IsSetupFor setup s → (p : Private) (u : Tid) → IsLive setup (whole_of s) p u
+      → (e : Kind) (asks : Group) (b : BufId) (m : Message)
+      → b.0 < length s.caps → group_of e ≡ asks → IsNextEffect (stands_at setup p u) (thread_at p u).guest asks b m → AllowsNow s b.0 e m → ⊥
+  pub unowned : (setup : Setup) → IsSetupFor setup s → (b : ℕ) → b < length s.caps → slice_index_or s.owners b None ≡ None
+  pub awake : (setup : Setup) → IsSetupFor setup s → (b : ℕ) → b < length s.caps → (waiters_at s b).sleepers ≡ []
+  pub nobody : (setup : Setup) → IsSetupFor setup s → (t : Tid) (b : BufId) → t.0 < length s.homes → IsPlaceOf s t (place.LockSleeper b) → ⊥

@@ -1,0 +1,35 @@
+-- How all threads stand to a CPU's part between its polls.
+use Rattle.std.specs.Prelude.{◌≡◌, false, Option, Some, None, length}
+use Rattle.event_log.specs.declared.ids.BufId.{BufId}
+use Rattle.event_log.specs.declared.ids.Tid.{Tid}
+use Rattle.event_log.specs.declared.ids.TheConstants.{THREADS}
+use Rattle.layer_traits.specs.declared.calls.Effect.{Effect}
+use Rattle.layer_traits.specs.declared.call_states.Stage.{Stage}
+use Rattle.layer_traits.specs.declared.call_states.Stage.TheVariants.{Idle}
+use Rattle.layer_traits.specs.LockLaw.{slept_for}
+use Rattle.layer_traits.specs.Places.{is_thread}
+use Rattle.layer_traits.specs.BufferLaw.{Buffering, call_state_of}
+use Rattle.cpu.specs.Tower.Views.{TowerOut}
+use Rattle.cpu.specs.Tower.Privates.{threads_in}
+use Rattle.cpu.specs.Tower.Composed.{Stands, FitsStage}
+
+-- a thread is in no call, and then it neither sleeps nor waits, or it stands in one as a begun call may
+pub data MayStand : Stage → (hand : Option Tid) → (deferred : Option TowerOut) → (slept waits : Option BufId) → (effect : Option Effect) → Type 0 where
+  outside : (effect : Option Effect) → MayStand Idle None None None None effect
+  inside : (stage : Stage) (hand : Option Tid) (deferred : Option TowerOut) (slept waits : Option BufId) (effect : Option Effect)
+      → Stands stage hand deferred slept waits effect → MayStand stage hand deferred slept waits effect
+
+-- the thread that runs stands so with the hand and the kept answer, each other thread without one; while nobody runs none is kept; and
+-- each thread's call fits its stage
+pub record IsPart (own : Buffering) : Type 0 where
+  pub mine : (t : Tid) → (threads_in own).current ≡ Some t
+      → MayStand (call_state_of own.call_states t).stage (threads_in own).hand own.cv.lock.sleep.deferred (slept_for own.cv.lock.slept t)
+      (slept_for own.cv.waits t) (call_state_of own.call_states t).effect
+  pub other : (t : Tid) → is_thread t (threads_in own).current ≡ false
+      → MayStand (call_state_of own.call_states t).stage None None (slept_for own.cv.lock.slept t) (slept_for own.cv.waits t)
+      (call_state_of own.call_states t).effect
+  pub idle : (threads_in own).current ≡ None → own.cv.lock.sleep.deferred ≡ None
+  pub fits : (t : Tid) → FitsStage (call_state_of own.call_states t).stage (call_state_of own.call_states t).call
+  pub call_states : length own.call_states ≡ THREADS
+  pub slept : length own.cv.lock.slept ≡ THREADS
+  pub waits : length own.cv.waits ≡ THREADS

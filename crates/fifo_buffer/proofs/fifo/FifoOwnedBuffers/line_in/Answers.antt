@@ -1,5 +1,0 @@
-use Rattle.fifo_buffer.specs.OwnedLaws.{block_there}
-use Rattle.fifo_buffer.proofs.fifo.FifoOwnedBuffers.line_in.Goals as goal
-
-pub line_in-requires-clause-buffer : goal.line_in-requires-clause-buffer
-line_in-requires-clause-buffer g c = block_there (g.C.CvLayer.opening c.args.m.now) c.requires.acts.1.1 c.args.b c.requires.buffer

@@ -1,0 +1,230 @@
+-- What a part keeps between its polls, what it may ask of the conditions beneath, and what one poll of them does for a call.
+use Rattle.std.specs.Prelude.{◌≡◌, ◌⊎◌, Bool, true, false, List, ◌++◌, length, Option, Some, None, option_map, option_to_list, is_some, slice_set}
+use Rattle.std.specs.List.{AllByRecursion}
+use Rattle.event_log.specs.declared.ids.BufId.{BufId}
+use Rattle.event_log.specs.declared.ids.CpuId.{CpuId}
+use Rattle.event_log.specs.declared.ids.LockId.{LockId}
+use Rattle.event_log.specs.declared.ids.Tid.{Tid}
+use Rattle.event_log.specs.declared.ids.TheConstants.{THREADS}
+use Rattle.event_log.specs.History.{AreForeign}
+use Rattle.layer_traits.specs.declared.buffer_edits.BufferEdit.{BufferEdit}
+use Rattle.layer_traits.specs.declared.buffer_edits.BufferOut.{BufferOut}
+use Rattle.layer_traits.specs.declared.calls.Call.{Call}
+use Rattle.layer_traits.specs.declared.calls.Effect.{Effect}
+use Rattle.layer_traits.specs.declared.conditions.CvOut.{CvOut}
+use Rattle.layer_traits.specs.declared.conditions.CvOut.TheVariants as answer
+use Rattle.layer_traits.specs.declared.locked.QOut.{QOut}
+use Rattle.layer_traits.specs.declared.locked.QOut.TheVariants.{Acquired, Queued, Did, Released}
+use Rattle.layer_traits.specs.declared.queues.QueueEvent.{QueueEvent}
+use Rattle.layer_traits.specs.declared.scheds.SchedCall.{SchedCall}
+use Rattle.layer_traits.specs.declared.scheds.SchedCall.TheVariants.{Pass, OnBuffer}
+use Rattle.layer_traits.specs.declared.sleeps.Outcome.{Outcome}
+use Rattle.layer_traits.specs.declared.call_states.Stage.{Stage}
+use Rattle.layer_traits.specs.declared.calls.Reply.{Reply}
+use Rattle.layer_traits.specs.declared.call_states.Stage.TheVariants.{Idle, Acquires, Enters, Tries, Waits, AcquiresAgain, Signals, SignalsOwn, Releases}
+use Rattle.layer_traits.specs.declared.call_states.CallState.{CallState}
+use Rattle.layer_traits.specs.BufferEffects.{effects_in}
+use Rattle.layer_traits.specs.BufferLaw.{Calling, UnderWay, IsEffectOf, Passing, buffer_of, entry_of, recorded, replied, section_at, call_state_of}
+use Rattle.layer_traits.specs.BufferProtocol.{BufferLock, BufferSection}
+use Rattle.layer_traits.specs.Conditions.{CvCall}
+use Rattle.layer_traits.specs.CvLaw.{Waiting}
+use Rattle.layer_traits.specs.LockLaw.{slept_for}
+use Rattle.layer_traits.specs.Places.{home_of}
+use Rattle.layer_traits.specs.Queues.{buffer_sections}
+use Rattle.thread_blocks.specs.Queues.{same_tid}
+use Rattle.fifo_buffer.specs.Stances.{InCall, CallStateFits, ThreadFits, called_at, done_at, waits_at}
+
+-- an event of the buffers, and what a section of one answers
+abbrev pub BufferEvent : Type 0
+BufferEvent = QueueEvent (CvCall BufferEdit)
+
+abbrev pub BufferOutcome : Type 0
+BufferOutcome = Outcome (QOut (CvOut BufferOut))
+
+-- an answer that is handed on at once: its caller neither sleeps for the lock nor waits
+abbrev pub is_plain_in : CvOut BufferOut → Bool
+is_plain_in (answer.Did out) = true
+is_plain_in (answer.Signalled side front) = true
+is_plain_in answer.Left = true
+is_plain_in (answer.Waited side) = false
+
+abbrev pub is_plain : QOut (CvOut BufferOut) → Bool
+is_plain Acquired = true
+is_plain Queued = false
+is_plain (Did out) = true
+is_plain (Released out) = is_plain_in out
+
+-- the call state after an answer, if there is one
+abbrev pub recorded_if : CallState → Stage → Option BufferOutcome → CallState
+recorded_if call_state stage None = call_state
+recorded_if call_state stage (Some outcome) = recorded call_state stage outcome.out
+
+-- the reply of a call at a stage, with this effect
+abbrev pub reply_at : Call → Stage → Option Effect → Option Reply
+reply_at call stage effect = replied call (record { stage = stage; call = Some call; position = 0; effect = effect }) stage
+
+-- the call states after it
+abbrev pub recorded_call_states : List CallState → Tid → Stage → Option BufferOutcome → List CallState
+recorded_call_states call_states t stage None = call_states
+recorded_call_states call_states t stage (Some outcome) = slice_set call_states t.0 (recorded (call_state_of call_states t) stage outcome.out)
+
+-- no section of a buffer is under way
+abbrev pub NoSection : Option (SchedCall (CvCall BufferEdit)) → Type 0
+NoSection None = Unit {0}
+NoSection (Some (Pass p)) = Unit {0}
+NoSection (Some (OnBuffer b e)) = ⊥
+
+-- what a CPU is at
+abbrev pub passing_at : Option (SchedCall (CvCall BufferEdit)) → Option UnderWay
+passing_at None = None
+passing_at (Some (Pass p)) = Some (Passing p)
+passing_at (Some (OnBuffer b e)) = None
+
+abbrev pub under_way_at : Option Tid → Option (SchedCall (CvCall BufferEdit)) → Option UnderWay
+under_way_at None under_way = passing_at under_way
+under_way_at (Some t) under_way = Some (Calling t)
+
+-- a section is under way: either it has not been done, or it was done with this outcome, which is kept while the thread that it woke
+-- is sent home
+pub record IsDeferred (O : LockId → Option BufferLock) (past : List BufferSection) (t : Tid) (stage : Stage) (call_state : CallState)
+    (outcome : BufferOutcome) : Type 0 where
+  pub plain : is_plain outcome.out ≡ true
+  pub fits : CallStateFits O past t (recorded call_state stage outcome.out).call None None (recorded call_state stage outcome.out)
+  pub effect : (recorded call_state stage outcome.out).effect ≡ call_state.effect
+  pub done : is_some call_state.effect ≡ done_at stage
+  pub no_wait : waits_at stage ≡ false
+  pub called : called_at stage ≡ true
+
+abbrev pub Midway : (LockId → Option BufferLock) → List BufferSection → Tid → Call → CallState → Option BufferOutcome → Option Tid → Type 0
+Midway O past t call call_state None hand = (hand ≡ None) × InCall O past t call None None call_state.stage call_state.position call_state.effect
+Midway O past t call call_state (Some outcome) hand = IsDeferred O past t call_state.stage call_state outcome
+
+-- a thread's call may go on: its next section begins, or the one under way goes on
+pub record Begins (O : LockId → Option BufferLock) (past : List BufferSection) (t : Tid) (call : Call) (call_state : CallState)
+    (own : Waiting BufferOut) : Type 0 where
+  pub hand : own.lock.sleep.threads.hand ≡ None
+  pub deferred : own.lock.sleep.deferred ≡ None
+  pub fits : InCall O past t call (slept_for own.lock.slept t) (slept_for own.waits t) call_state.stage call_state.position call_state.effect
+
+pub record GoesOn (O : LockId → Option BufferLock) (past : List BufferSection) (t : Tid) (call : Call) (call_state : CallState) (own : Waiting BufferOut)
+    (under_way : SchedCall (CvCall BufferEdit)) : Type 0 where
+  pub is : under_way ≡ OnBuffer (buffer_of call) (section_at t call call_state.stage)
+  pub slept : slept_for own.lock.slept t ≡ None
+  pub waits : slept_for own.waits t ≡ None
+  pub midway : Midway O past t call call_state own.lock.sleep.deferred own.lock.sleep.threads.hand
+
+abbrev pub Goes : (LockId → Option BufferLock) → List BufferSection → Tid → Call → CallState → Waiting BufferOut → Option (SchedCall (CvCall BufferEdit))
+    → Type 0
+Goes O past t call call_state own None = Begins O past t call call_state own
+Goes O past t call call_state own (Some under_way) = GoesOn O past t call call_state own under_way
+
+pub record MayPollSection (O : LockId → Option BufferLock) (past : List BufferSection) (t : Tid) (call : Call) (call_state : CallState)
+    (own : Waiting BufferOut)
+    (under_way : Option (SchedCall (CvCall BufferEdit))) : Type 0 where
+  pub current : own.lock.sleep.threads.current ≡ Some t
+  pub called : call_state.call ≡ Some call
+  pub goes : Goes O past t call call_state own under_way
+
+-- the lists by thread are as long as there may be threads
+pub record Sizes (own : Waiting BufferOut) (call_states : List CallState) : Type 0 where
+  pub slept : length own.lock.slept ≡ THREADS
+  pub waits : length own.waits ≡ THREADS
+  pub call_states_are : length call_states ≡ THREADS
+
+-- a thread's call state fits
+abbrev pub FitsAt : (LockId → Option BufferLock) → List BufferSection → Waiting BufferOut → List CallState → Tid → Type 0
+FitsAt O past own call_states u = ThreadFits O past u (slept_for own.lock.slept u) (slept_for own.waits u) (call_state_of call_states u)
+
+-- no call of a thread is under way, and all call states of the CPU's threads fit
+pub record IsIdle (homes : List CpuId) (c : CpuId) (O : LockId → Option BufferLock) (past : List BufferSection) (own : Waiting BufferOut)
+    (call_states : List CallState) (under_way : Option (SchedCall (CvCall BufferEdit))) : Type 0 where
+  pub none : NoSection under_way
+  pub deferred : own.lock.sleep.deferred ≡ None
+  pub fit : (u : Tid) → home_of homes u ≡ Some c → FitsAt O past own call_states u
+
+-- this thread's call is under way, and the call states of the others fit
+pub record IsCalling (homes : List CpuId) (c : CpuId) (O : LockId → Option BufferLock) (past : List BufferSection) (own : Waiting BufferOut)
+    (call_states : List CallState) (under_way : Option (SchedCall (CvCall BufferEdit))) (t : Tid) : Type 0 where
+  pub call : Call
+  pub home : home_of homes t ≡ Some c
+  pub may : MayPollSection O past t call (call_state_of call_states t) own under_way
+  pub others : (u : Tid) → home_of homes u ≡ Some c → same_tid t u ≡ false → FitsAt O past own call_states u
+
+abbrev pub CallsFit : List CpuId → CpuId → (LockId → Option BufferLock) → List BufferSection → Waiting BufferOut → List CallState
+    → Option (SchedCall (CvCall BufferEdit)) → Option Tid → Type 0
+CallsFit homes c O past own call_states under_way None = IsIdle homes c O past own call_states under_way
+CallsFit homes c O past own call_states under_way (Some t) = IsCalling homes c O past own call_states under_way t
+
+-- a poll that ended its section: the thread runs on, with the call state that has heard the answer
+pub record Ended (O : LockId → Option BufferLock) (past : List BufferSection) (t : Tid) (call_state : CallState) (own : Waiting BufferOut)
+    (under_way : Option (SchedCall (CvCall BufferEdit))) (later : CallState) : Type 0 where
+  pub none : under_way ≡ None
+  pub current : own.lock.sleep.threads.current ≡ Some t
+  pub hand : own.lock.sleep.threads.hand ≡ None
+  pub deferred : own.lock.sleep.deferred ≡ None
+  pub fits : CallStateFits O past t later.call (slept_for own.lock.slept t) (slept_for own.waits t) later
+  pub recorded_is : (out : QOut (CvOut BufferOut)) × (later ≡ recorded call_state call_state.stage out)
+  pub reply : is_some call_state.effect ≡ done_at call_state.stage
+  pub free : (slept_for own.lock.slept t ≡ None) × (slept_for own.waits t ≡ None)
+
+-- a poll that did not: the thread sleeps now, or its section goes on
+pub record Sleeps (O : LockId → Option BufferLock) (past : List BufferSection) (t : Tid) (call : Call) (call_state : CallState) (own : Waiting BufferOut)
+    (under_way : Option (SchedCall (CvCall BufferEdit))) : Type 0 where
+  pub none : under_way ≡ None
+  pub current : own.lock.sleep.threads.current ≡ None
+  pub deferred : own.lock.sleep.deferred ≡ None
+  pub fits : InCall O past t call (slept_for own.lock.slept t) (slept_for own.waits t) call_state.stage call_state.position call_state.effect
+
+pub record Stays (O : LockId → Option BufferLock) (past : List BufferSection) (t : Tid) (call : Call) (call_state : CallState) (own : Waiting BufferOut)
+    (under_way : Option (SchedCall (CvCall BufferEdit))) : Type 0 where
+  pub current : own.lock.sleep.threads.current ≡ Some t
+  pub section_is : is_some under_way ≡ true
+  pub goes : Goes O past t call call_state own under_way
+
+abbrev pub After : (LockId → Option BufferLock) → List BufferSection → Tid → Call → CallState → Waiting BufferOut → Option (SchedCall (CvCall BufferEdit))
+    → Bool → CallState → Type 0
+After O past t call call_state own under_way true later = Ended O past t call_state own under_way later
+After O past t call call_state own under_way false later =
+    (later ≡ call_state) × (Sleeps O past t call call_state own under_way ⊎ Stays O past t call call_state own under_way)
+
+-- what one poll of a section did: foreign events came first, then at most one of this CPU; it left this own state and this call state
+pub record SectionPolled (homes : List CpuId) (ActsFor : CpuId → Type 0) (O : LockId → Option BufferLock) (c : CpuId) (t : Tid) (call : Call)
+    (call_state : CallState) (old new : List BufferEvent) (own left : Waiting BufferOut) (under_way : Option (SchedCall (CvCall BufferEdit))) (done : Bool)
+    (later : CallState) : Type 0 where
+  pub others : List BufferEvent
+  pub mine : List BufferEvent
+  pub foreign : AreForeign ActsFor (λ (e : BufferEvent). e.cpu) others
+  pub own_events : AllByRecursion (λ (e : BufferEvent). e.cpu ≡ c) mine
+  pub is : new ≡ mine ++ (others ++ old)
+  pub effect : Option Effect
+  pub effects : effects_in O (buffer_sections new)
+      ≡ option_to_list (option_map (entry_of c t (buffer_of call)) effect) ++ effects_in O (buffer_sections (others ++ old))
+  pub fresh : (f : Effect) → effect ≡ Some f → (call_state.effect ≡ None) × (later.effect ≡ Some f) × IsEffectOf call f
+  pub stays : effect ≡ None → later.effect ≡ call_state.effect
+  pub marks : (u : Tid) → same_tid t u ≡ false
+      → (slept_for left.lock.slept u ≡ slept_for own.lock.slept u) × (slept_for left.waits u ≡ slept_for own.waits u)
+  pub sizes : (length left.lock.slept ≡ length own.lock.slept) × (length left.waits ≡ length own.waits)
+  pub ended : left.lock.sleep.threads.ended ≡ own.lock.sleep.threads.ended
+  pub apart : (u : Tid) → home_of homes u ≡ Some c → same_tid t u ≡ false → (of : Option Call) (slept waits : Option BufId) (its : CallState)
+      → CallStateFits O (buffer_sections old) u of slept waits its → CallStateFits O (buffer_sections new) u of slept waits its
+  pub after : After O (buffer_sections new) t call call_state left under_way done later
+  pub over : waits_at call_state.stage ≡ true → done ≡ is_some (slept_for own.waits t)
+  pub handed : is_some (slept_for own.lock.slept t) ≡ true → done ≡ true
+
+-- whether the next section follows in the same poll, where this stage's ends without an action
+abbrev pub is_at_once : Stage → Bool → Bool
+is_at_once Idle handed = false
+is_at_once Acquires handed = handed
+is_at_once Enters handed = false
+is_at_once Tries handed = false
+is_at_once Waits handed = true
+is_at_once AcquiresAgain handed = handed
+is_at_once Signals handed = false
+is_at_once SignalsOwn handed = false
+is_at_once Releases handed = false
+
+-- whose call is under way after a poll
+abbrev pub calling_after : Tid → Option Tid → Option Reply → Option Tid
+calling_after t None answer = None
+calling_after t (Some u) None = Some t
+calling_after t (Some u) (Some reply) = None

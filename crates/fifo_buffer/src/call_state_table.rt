@@ -1,0 +1,99 @@
+//! The call states of all threads.
+
+ghost use Rattle.std.specs.Prelude.{◌≡◌, ◌<◌, IfSome, is_some, replicate, slice_set};
+ghost use Rattle.event_log.specs.declared.ids.TheConstants.{THREADS};
+ghost use Rattle.layer_traits.specs.BufferLaw.{going, no_call, call_state_of};
+ghost use Rattle.layer_traits.specs.Payloads.{buffer_brought, cv_brought, lock_brought};
+ghost use Rattle.fifo_buffer.specs.SectionPolls.{recorded_if};
+
+use crate::sections::{begin, record_section};
+use event_log::{Msg, THREADS, Tid};
+use layer_traits::{BufferOut, Call, CallState, CvOut, Effect, Outcome, QOut, Stage};
+
+/// The call state of each thread.
+#[derive(Drop)]
+pub struct CallStates {
+    /// By thread.
+    pub call_states: [CallState; THREADS],
+}
+
+impl CallStates {
+    /// No thread ever called.
+    pub fn new() -> CallStates
+        ensures { result.call_states ≡ replicate THREADS no_call }
+    {
+        CallStates {
+            call_states: [CallState {
+                stage: Stage::Idle,
+                call: None,
+                position: 0,
+                effect: None,
+            }; THREADS],
+        }
+    }
+
+    /// The effect of the newest call of `t`.
+    #[inline(always)]
+    pub fn effect(&self, t: Tid) -> Option<Effect>
+        requires { t.0 < THREADS }
+        ensures { result ≡ (call_state_of self.now.call_states t).effect }
+    {
+        *self.effect_here(t)
+    }
+
+    /// The same effect where it lies.
+    #[inline(always)]
+    pub fn effect_here(&self, t: Tid) -> &Option<Effect>
+        requires { t.0 < THREADS }
+        ensures { result.now ≡ (call_state_of self.now.call_states t).effect }
+    {
+        &self.call_states[usize::from(t.0)].effect
+    }
+
+    /// The stage at which a poll of `call` by `t` goes on: between calls a new one begins.
+    #[inline(always)]
+    pub fn next_stage(&self, t: Tid, call: &Call) -> Stage
+        requires { t.0 < THREADS }
+        ensures { result ≡ (going (call_state_of self.now.call_states t) call.now).stage }
+    {
+        let _ = call;
+        match self.call_states[usize::from(t.0)].stage {
+            Stage::Idle => Stage::Acquires,
+            Stage::Acquires => Stage::Acquires,
+            Stage::Enters => Stage::Enters,
+            Stage::Tries => Stage::Tries,
+            Stage::Waits => Stage::Waits,
+            Stage::AcquiresAgain => Stage::AcquiresAgain,
+            Stage::Signals => Stage::Signals,
+            Stage::SignalsOwn => Stage::SignalsOwn,
+            Stage::Releases => Stage::Releases,
+        }
+    }
+
+    /// Keeps for `t`, which is in `call`, what a poll of its section answered, with the message that
+    /// the answer brought, and tells whether it did.
+    #[inline(always)]
+    pub fn record_answer(
+        &mut self,
+        t: Tid,
+        call: &Call,
+        answer: &Option<Outcome<QOut<CvOut<BufferOut>>>>,
+        message: &Msg,
+    ) -> bool
+        requires known { t.0 < THREADS }
+        requires brought { IfSome answer.now (λ outcome. lock_brought (cv_brought buffer_brought) outcome.out message.now) }
+        ensures done { result ≡ is_some answer.now }
+        ensures call_states { self.new.call_states ≡ slice_set self.old.call_states t.0 (recorded_if (going (call_state_of self.old.call_states t) call.now)
+            (going (call_state_of self.old.call_states t) call.now).stage answer.now) }
+    {
+        let call_state = &mut self.call_states[usize::from(t.0)];
+        begin(call_state, call);
+        match answer {
+            None => false,
+            Some(outcome) => {
+                record_section(call_state, &outcome.out, message);
+                true
+            }
+        }
+    }
+}

@@ -1,0 +1,32 @@
+use Rattle.std.proofs.Common.{◌%◌, ◌++◌, sym, ◌∙◌}
+use Rattle.event_log.specs.declared.events.Event.TheVariants.{Look}
+use Rattle.event_log.specs.declared.ids.TheConstants.{CPUS}
+use Rattle.event_log.specs.Grants.{grant_word}
+use Rattle.layer_traits.proofs.GrantLemmas.{adds_mapped, hits_as_grants}
+use Rattle.layer_traits.specs.AsGrants.{as_grants, stands_as_grants}
+use Rattle.layer_traits.specs.WordsProtocol.{words_legal}
+use Rattle.layer_traits.proofs.uses_grant_words.AnyGrantWords.peek.Goals as goal
+
+pub look-requires-clause-waiting : goal.look-requires-clause-waiting
+look-requires-clause-waiting g c =
+    let W = g.W.Words in
+    let m = c.args.self.now in
+    let legal = words_legal (g.W.Edit.Edit.rules.allowed (W.opening m)) (W.seen m) (g.met.W.Words.legal m c.args.cpu c.requires.cpu) in
+    sym (stands_as_grants (W.seen m) legal c.args.cpu) ∙ c.requires.waiting
+
+pub returns-clause-adds : goal.returns-clause-adds
+returns-clause-adds g c =
+    let W = g.W.Words in
+    let m = c.args.self.now in
+    let adds = c.look.ensures.adds.1 in (
+      grant_word c.args.lock (c.args.ticket % CPUS) (as_grants (adds.others ++ W.seen m)),
+      adds_mapped (W.ActsFor m) (Look c.args.cpu c.args.lock c.args.ticket c.look.ensures.adds.0) (W.seen m) (W.seen c.look.new.self) adds,
+    )
+
+pub returns-clause-hits : goal.returns-clause-hits
+returns-clause-hits g c =
+    let W = g.W.Words in
+    let n = c.look.new.self in
+    let acts = c.look.ensures.acts c.args.cpu c.requires.cpu in
+    let legal = words_legal (g.W.Edit.Edit.rules.allowed (W.opening n)) (W.seen n) (g.met.W.Words.legal n c.args.cpu acts) in
+    hits_as_grants g.W.Edit.Edit.rules.edited (W.opening n) (W.seen n) legal c.args.cpu c.args.lock c.args.ticket c.look.result c.look.ensures.hits

@@ -1,0 +1,19 @@
+use Rattle.std.proofs.Common.{sym, ◌∙◌}
+use Rattle.event_log.specs.declared.events.Event.TheVariants.{Draw}
+use Rattle.layer_traits.proofs.GrantLemmas.{adds_mapped}
+use Rattle.layer_traits.specs.AsGrants.{stands_as_grants}
+use Rattle.layer_traits.specs.WordsProtocol.{words_legal}
+use Rattle.layer_traits.proofs.uses_grant_words.AnyGrantWords.take.Goals as goal
+
+pub draw-requires-clause-outside : goal.draw-requires-clause-outside
+draw-requires-clause-outside g c =
+    let W = g.W.Words in
+    let m = c.args.self.now in
+    let legal = words_legal (g.W.Edit.Edit.rules.allowed (W.opening m)) (W.seen m) (g.met.W.Words.legal m c.args.cpu c.requires.cpu) in
+    sym (stands_as_grants (W.seen m) legal c.args.cpu) ∙ c.requires.outside
+
+pub returns-clause-adds : goal.returns-clause-adds
+returns-clause-adds g c =
+    let W = g.W.Words in
+    let m = c.args.self.now in
+    adds_mapped (W.ActsFor m) (Draw c.args.cpu c.args.lock c.draw.result) (W.seen m) (W.seen c.draw.new.self) c.draw.ensures.adds

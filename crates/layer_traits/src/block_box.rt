@@ -1,0 +1,79 @@
+//! Boxes: blocks behind a pointer, so that who hands a block on moves one pointer.
+
+ghost use Rattle.std.specs.Prelude.{◌≡◌, ◌<◌, ◌++◌, ◌∷◌, [], false, IfOk};
+ghost use Rattle.event_log.specs.declared.ids.TheConstants.{THREADS};
+ghost use Rattle.thread_blocks.specs.Queues.{is_in};
+
+use crate::edits::Edit;
+use crate::payloads::Payload;
+use event_log::{NoMemory, Tid};
+use std::alloc::Global;
+use std::marker::Model;
+use thread_blocks::{ThreadList, ThreadQueue};
+
+/// A block behind a pointer: to move it moves no content. It is seen as what it holds.
+#[derive(Drop)]
+pub struct BlockBox<B> {
+    content: Box<B>,
+}
+
+impl<B> Model for BlockBox<B> {
+    ghost Value = { B };
+
+    ghost view = { λ r. r.content.value };
+}
+
+impl<B: Drop> BlockBox<B> {
+    /// A box that holds `block`.
+    ///
+    /// Errors: `NoMemory` where there is none for it; then `block` is gone.
+    pub fn new(alloc: Global, block: B) -> Result<BlockBox<B>, NoMemory>
+        ensures { IfOk result (λ r. r ≡ block) }
+    {
+        match Box::new(alloc, block) {
+            Ok(content) => Ok(BlockBox { content }),
+            Err(_) => Err(NoMemory),
+        }
+    }
+
+    /// What the box holds.
+    pub fn content(&self) -> &B
+        ensures { result.now ≡ self.now }
+    {
+        &self.content
+    }
+}
+
+/// Edits what the box holds, and gives the edit's answer. Takes no memory.
+#[inline(always)]
+pub fn edit_in_box<E: Edit>(
+    boxed: &mut BlockBox<E::Block>,
+    edit: &E,
+    payload: &mut Payload,
+) -> E::Out
+    requires carried { E.carried edit.now payload.old }
+    ensures block { boxed.new ≡ E.rules.edited edit.now boxed.old }
+    ensures answer { result ≡ E.rules.answer edit.now boxed.old }
+    ensures brought { E.brought result payload.new }
+{
+    edit.apply(&mut boxed.content, payload)
+}
+
+/// Puts `t`, which does not stand in the queue that the box holds, behind the others.
+#[inline(always)]
+pub fn push_in(boxed: &mut BlockBox<ThreadQueue>, t: Tid)
+    requires known { t.0 < THREADS }
+    requires new { is_in t boxed.old ≡ false }
+    ensures { boxed.new ≡ boxed.old ++ t ∷ [] }
+{
+    boxed.content.push(t);
+}
+
+/// Takes all threads of the queue that the box holds, and leaves it empty.
+#[inline(always)]
+pub fn take_from(boxed: &mut BlockBox<ThreadQueue>) -> ThreadList
+    ensures all { result ≡ boxed.old }
+    ensures empty { boxed.new ≡ [] }
+{
+    boxed.content.take()
+}

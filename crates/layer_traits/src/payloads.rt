@@ -1,0 +1,58 @@
+//! What edits and their answers carry, beside them.
+
+ghost use Rattle.std.specs.Prelude.{◌≡◌, []};
+ghost use Rattle.event_log.specs.Messages.{no_message};
+
+use event_log::Msg;
+use std::marker::Model;
+use std::snapshot::Snapshot;
+use thread_blocks::{ThreadList, ThreadQueue};
+
+/// A `T` that is meant and not carried: clauses see the value, which has no bytes at run time. So an
+/// edit or an answer names what lies in its [`Payload`], and is handed from layer to layer for the price
+/// of the rest.
+#[derive(Drop)]
+pub struct Ghost<T> {
+    value: Snapshot<T>,
+}
+
+impl<T> Model for Ghost<T> {
+    ghost Value = { T };
+
+    ghost view = { λ m. m.value.value };
+}
+
+impl<T> Ghost<T> {
+    /// This value, meant.
+    #[inline(always)]
+    pub fn of(value: &T) -> Ghost<T>
+        ensures { result ≡ value.now }
+    {
+        Ghost {
+            value: Snapshot::of(value),
+        }
+    }
+}
+
+/// What lies beside an edit on its way to a block, and beside its answer on the way back: the layers
+/// hand on one reference to it, and nobody copies what it holds.
+#[derive(Drop)]
+pub struct Payload {
+    /// The message that an edit puts, or that its answer brings.
+    pub message: Msg,
+    /// The threads that were taken of a pending queue.
+    pub taken: ThreadList,
+}
+
+impl Payload {
+    /// An empty payload.
+    pub fn new() -> Payload
+        ensures message { result.message ≡ no_message }
+        ensures taken { result.taken ≡ [] }
+    {
+        Payload {
+            message: Msg::none(),
+            taken: ThreadQueue::new().take(),
+        }
+    }
+}

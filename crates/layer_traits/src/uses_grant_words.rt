@@ -1,0 +1,88 @@
+//! Words whose log is told in terms of grant words.
+
+ghost use Rattle.std.specs.Prelude.{◌≡◌, ◌<◌, [], IfOk};
+
+use crate::edits::Edit;
+use crate::grant_words::GrantWords;
+use crate::owned_grant_words::OwnedGrantWords;
+use crate::owned_words::OwnedWords;
+use crate::words::Words;
+use event_log::{CpuId, LockId, NoMemory};
+use std::alloc::Global;
+
+/// A machine whose locks have grant words, and which keeps its log in the events of a ticket lock,
+/// as it would with two words to a lock. That log, told in terms of grant words, is one of theirs;
+/// so the machine meets [`GrantWords`] by what it does as [`Words`].
+pub trait UsesGrantWords: Words {}
+
+impl<W: UsesGrantWords> GrantWords for W {
+    ghost use Rattle.layer_traits.specs.AsGrants.{as_grants, as_grants_come};
+
+    type Edit = W::Edit;
+
+    type Mark = W::Mark;
+
+    ghost edit_in = { λ mark. W.edit_in mark };
+
+    ghost opening = { λ w. W.opening w };
+
+    ghost seen = { λ w. as_grants (W.seen w) };
+
+    ghost ActsFor = { λ w c. W.ActsFor w c };
+
+    ghost room = { λ w. W.room w };
+
+    ghost site = { λ w. W.site w };
+
+    #[inline(always)]
+    fn mark(edit: W::Edit) -> W::Mark {
+        <W as Words>::mark(edit)
+    }
+
+    #[inline(always)]
+    fn take(&mut self, cpu: CpuId, lock: LockId) -> u64 {
+        self.draw(cpu, lock)
+    }
+
+    #[inline(always)]
+    fn peek(&mut self, cpu: CpuId, lock: LockId, ticket: u64) -> Option<<W::Edit as Edit>::Block> {
+        self.look(cpu, lock, ticket)
+    }
+
+    #[inline(always)]
+    fn give(&mut self, cpu: CpuId, lock: LockId, block: <W::Edit as Edit>::Block, mark: W::Mark) {
+        self.free(cpu, lock, block, mark);
+    }
+
+    ghost legal = { λ w c acts. as_grants_come (W.Edit.rules.allowed (W.opening w)) (W.seen w) (W.legal w c acts) };
+}
+
+impl<W: OwnedWords + UsesGrantWords> OwnedGrantWords for W {
+    ghost use Rattle.event_log.specs.declared.ids.TheConstants.{CPUS};
+    ghost use Rattle.layer_traits.specs.AsGrants.{home_as_grants};
+    ghost use Rattle.layer_traits.specs.OneLock.{AreDistinct, opened};
+    ghost use Rattle.layer_traits.specs.WordsProtocol.{words_legal};
+
+    ghost block_at = { λ w lock. W.block_at w lock };
+
+    fn open(
+        alloc: Global,
+        blocks: Vec<(LockId, <W::Edit as Edit>::Block)>,
+        room: usize,
+    ) -> Result<Self, NoMemory>
+        requires distinct { AreDistinct blocks.items }
+        ensures seen { IfOk result (λ w. ⟦<W as GrantWords>⟧.seen w ≡ []) }
+        ensures opening { IfOk result (λ w. ⟦<W as GrantWords>⟧.opening w ≡ opened blocks.items) }
+        ensures room { IfOk result (λ w. ⟦<W as GrantWords>⟧.room w ≡ room) }
+        ensures acts { IfOk result (λ w. (c : _) → c.0 < CPUS → ⟦<W as GrantWords>⟧.ActsFor w c) }
+    {
+        <W as OwnedWords>::open(alloc, blocks, room)
+    }
+
+    fn block(&self, lock: LockId) -> Option<&<W::Edit as Edit>::Block> {
+        <W as OwnedWords>::block(self, lock)
+    }
+
+    ghost blocks = { λ w c lock acts there. home_as_grants W.Edit.rules.edited (W.opening w) (W.seen w)
+        (words_legal (W.Edit.rules.allowed (W.opening w)) (W.seen w) (W.legal w c acts)) lock (W.block_at w lock) (W.blocks w c lock acts there) };
+}

@@ -1,0 +1,200 @@
+-- How a thread stands after a poll of its call on a lock with conditions, by the law of the layer alone.
+use Rattle.std.proofs.Common.{◌≡◌, ◌⊎◌, inl, inr, true, false, List, Option, Some, None, IsSome, is_some, slice_set, length, ◌<◌, refl, ap, sym, ◌∙◌, subst}
+use Rattle.std.proofs.lemmas.List.{get_or-set_same, length-replicate, length-set}
+use Rattle.event_log.specs.declared.ids.BufId.{BufId}
+use Rattle.event_log.specs.declared.ids.CpuId.{CpuId}
+use Rattle.event_log.specs.declared.ids.LockId.{LockId}
+use Rattle.event_log.specs.declared.ids.LockId.TheVariants.{Buffer}
+use Rattle.event_log.specs.declared.ids.Tid.{Tid}
+use Rattle.event_log.specs.declared.ids.TheConstants.{THREADS}
+use Rattle.layer_traits.specs.declared.conditions.CvOut.{CvOut}
+use Rattle.layer_traits.specs.declared.conditions.CvOut.TheVariants as answer
+use Rattle.layer_traits.specs.declared.locked.QOut.{QOut}
+use Rattle.layer_traits.specs.declared.locked.QOut.TheVariants.{Acquired, Queued, Did, Released}
+use Rattle.layer_traits.specs.declared.locked.Side.{Side}
+use Rattle.layer_traits.specs.declared.locked.Side.TheVariants.{Receivers, Senders}
+use Rattle.layer_traits.specs.declared.moves.WaitList.{WaitList}
+use Rattle.layer_traits.specs.declared.moves.WaitList.TheVariants as wait_list
+use Rattle.layer_traits.specs.declared.queue_edits.QueueBlock.{QueueBlock}
+use Rattle.layer_traits.specs.declared.queues.QueueEvent.{QueueEvent}
+use Rattle.layer_traits.specs.declared.scheds.SchedCall.{SchedCall}
+use Rattle.layer_traits.specs.declared.sleeps.Outcome.{Outcome}
+use Rattle.layer_traits.specs.Conditions.{CvCall, MonitorRules, cv_rules}
+use Rattle.layer_traits.specs.CvLaw.{CvPolled, MayWait, WaitOver, Waiting, left_reported, left_waiting, waiting_at_start, waiting_with}
+use Rattle.layer_traits.specs.Locking.{LockState, wait_list_for, wait_list_slept, lock_caller, owner_of}
+use Rattle.layer_traits.specs.LockLaw.{IsAcquire, Locking, MayGo, MayLock, lock_kernel, slept_for}
+use Rattle.layer_traits.specs.Plans.{Left}
+use Rattle.layer_traits.specs.QueueBlocks.{inner}
+use Rattle.layer_traits.specs.Queues.{buffer_sections}
+use Rattle.queuing_lock.proofs.SleptLemmas.{none_at}
+use Rattle.plain_layers.proofs.LockSectionLemmas.{After, after_polled}
+use Rattle.plain_layers.specs.CondSections.{CondHasEnded, IsCondReady, MayPollCondSection, WaitsAt}
+
+module _ {G B O : Type 0} (monitor_rules : MonitorRules G B O) (opening : LockId → Option (QueueBlock (LockState B))) (ActsFor : CpuId → Type 0) (c : CpuId)
+    (b : BufId) (call : CvCall G) where
+  -- how the caller stands after a poll that left this, by its answer: it goes on, sleeps for the lock or waits where there is none; where there is
+  -- one its call has ended, and an asker owns the lock
+  abbrev pub AfterCall : List (QueueEvent (CvCall G)) → Waiting O → Option (SchedCall (CvCall G)) → Option (Outcome (QOut (CvOut O))) → Type 0
+  AfterCall past own under None =
+      MayPollCondSection monitor_rules (lock_kernel (cv_rules monitor_rules) opening) c past own under b call
+      ⊎ ((own.lock.sleep.threads.current ≡ None)
+      × (IsAcquire call ⊎ WaitsAt monitor_rules own under (lock_caller (cv_rules monitor_rules) call) b))
+  AfterCall past own under (Some outcome) =
+      CondHasEnded monitor_rules own under (lock_caller (cv_rules monitor_rules) call)
+      × (IsAcquire call → owner_of (cv_rules monitor_rules) (inner opening) (buffer_sections past) (Buffer b) ≡ Some (lock_caller
+      (cv_rules monitor_rules) call))
+
+  abbrev AfterLeft : List (QueueEvent (CvCall G)) → Option (SchedCall (CvCall G)) → Left (Waiting O) (Outcome (QOut (CvOut O))) → Type 0
+  AfterLeft past under got = AfterCall past got.own under got.answer
+
+  -- the wait is over
+  after_over : (old new : List (QueueEvent (CvCall G))) (own : Waiting O) (under : Option (SchedCall (CvCall G)))
+      (got : Left (Waiting O) (Outcome (QOut (CvOut O))))
+      → slept_for own.lock.slept (lock_caller (cv_rules monitor_rules) call) ≡ None → IsCondReady monitor_rules own (lock_caller (cv_rules monitor_rules) call)
+      → WaitOver monitor_rules (inner opening) b call old own under got → AfterLeft new under got
+  after_over old new own under got awake ready over =
+      let t : Tid = lock_caller (cv_rules monitor_rules) call in
+      subst (λ l. AfterLeft new under l) (sym over.leaves) (
+        record {
+          none = over.ends;
+          awake = awake;
+          goes = get_or-set_same own.waits t.0 None None ready.small;
+          ready = record { small = subst (λ n. t.0 < n) (sym (length-set own.waits t.0 None)) ready.small; steady = ready.steady };
+        },
+        λ asks. absurd (subst (λ e. IsAcquire e) over.is asks),
+      )
+
+  goes_on : (at : Option BufId) (under : Option (SchedCall (CvCall G))) (may : Type 0) → at ≡ None → may
+      → MayWait at under b call (lock_caller (cv_rules monitor_rules) call) may
+  goes_on None under may none holds = holds
+  goes_on (Some at) under may none holds = absurd cc
+
+  nowhere : (at : Option BufId) → at ≡ None → {A : Type 0} → IsSome at → A
+  nowhere None none some = absurd cc
+  nowhere (Some at) none some = absurd cc
+
+  module _ (own : Waiting O) (goes : slept_for own.waits (lock_caller (cv_rules monitor_rules) call) ≡ None)
+      (small : (lock_caller (cv_rules monitor_rules) call).0 < length own.waits) where
+    -- the lock's answer is handed on
+    handed_on : (past : List (QueueEvent (CvCall G))) (lock : Locking (CvOut O)) (under : Option (SchedCall (CvCall G))) (outcome : Outcome (QOut (CvOut O)))
+        → After (cv_rules monitor_rules) opening ActsFor c b call past lock under (Some outcome)
+        → AfterLeft past under (waiting_with lock own.waits (Some outcome))
+    handed_on past lock under outcome after =
+        (record { none = after.0.none; awake = after.0.awake; goes = goes; ready = record { small = small; steady = after.0.steady } }, after.1)
+
+    side_wait_list : (side : Side) → (l : WaitList) × (wait_list_for (Some side) ≡ Some l)
+    side_wait_list Receivers = (wait_list.Receivers, refl)
+    side_wait_list Senders = (wait_list.Senders, refl)
+
+    -- who waits now is not answered
+    held_back : (past : List (QueueEvent (CvCall G))) (lock : Locking (CvOut O)) (under : Option (SchedCall (CvCall G))) (outcome : Outcome (QOut (CvOut O)))
+        (side : Side) → outcome.out ≡ Released (answer.Waited side)
+        → After (cv_rules monitor_rules) opening ActsFor c b call past lock under (Some outcome)
+        → AfterLeft past under (waiting_with lock (slice_set own.waits (lock_caller (cv_rules monitor_rules) call).0 (Some b)) None)
+    held_back past lock under outcome side is after =
+        let t : Tid = lock_caller (cv_rules monitor_rules) call in
+        inr (
+          after.2 (side_wait_list side).0 (ap (wait_list_slept (cv_rules monitor_rules)) is ∙ (side_wait_list side).1),
+          inr (record {
+            none = after.0.none;
+            awake = after.0.awake;
+            waits = get_or-set_same own.waits t.0 (Some b) None small;
+            ready = record { small = subst (λ n. t.0 < n) (sym (length-set own.waits t.0 (Some b))) small; steady = after.0.steady };
+          }),
+        )
+
+    by_out : (past : List (QueueEvent (CvCall G))) (lock : Locking (CvOut O)) (under : Option (SchedCall (CvCall G))) (outcome : Outcome (QOut (CvOut O)))
+        (out : QOut (CvOut O)) → outcome.out ≡ out
+        → After (cv_rules monitor_rules) opening ActsFor c b call past lock under (Some outcome)
+        → AfterLeft past under (left_reported (lock_caller (cv_rules monitor_rules) call) b own.waits lock out outcome)
+    by_out past lock under outcome Acquired is after = handed_on past lock under outcome after
+    by_out past lock under outcome Queued is after = handed_on past lock under outcome after
+    by_out past lock under outcome (Did out) is after = handed_on past lock under outcome after
+    by_out past lock under outcome (Released (answer.Did out)) is after = handed_on past lock under outcome after
+    by_out past lock under outcome (Released (answer.Signalled side front)) is after = handed_on past lock under outcome after
+    by_out past lock under outcome (Released answer.Left) is after = handed_on past lock under outcome after
+    by_out past lock under outcome (Released (answer.Waited side)) is after = held_back past lock under outcome side is after
+
+    by_answer : (past : List (QueueEvent (CvCall G))) (lock : Locking (CvOut O)) (under : Option (SchedCall (CvCall G)))
+        (told : Option (Outcome (QOut (CvOut O)))) → After (cv_rules monitor_rules) opening ActsFor c b call past lock under told
+        → AfterLeft past under (left_waiting (lock_caller (cv_rules monitor_rules) call) b own.waits lock told)
+    by_answer past lock under None (inl may) = inl (record {
+      runs = may.runs;
+      may = goes_on (slept_for own.waits (lock_caller (cv_rules monitor_rules) call)) under
+          (MayGo (slept_for lock.slept (lock_caller (cv_rules monitor_rules) call)) under b call (lock_caller (cv_rules monitor_rules) call)
+          (MayLock (cv_rules monitor_rules) (lock_kernel (cv_rules monitor_rules) opening) c past lock.sleep.threads.hand b call)) goes may.may;
+      apart = nowhere (slept_for own.waits (lock_caller (cv_rules monitor_rules) call)) goes;
+      ready = record { small = small; steady = may.steady };
+    })
+    by_answer past lock under None (inr sleeps) = inr (sleeps.0, inl sleeps.1)
+    by_answer past lock under (Some outcome) after = by_out past lock under outcome outcome.out refl after
+
+  -- how the caller stands after a poll
+  pub after_call : (at : Option BufId) (old new : List (QueueEvent (CvCall G))) (own : Waiting O) (before under : Option (SchedCall (CvCall G)))
+      (got : Left (Waiting O) (Outcome (QOut (CvOut O))))
+      → slept_for own.waits (lock_caller (cv_rules monitor_rules) call) ≡ at
+      → MayPollCondSection monitor_rules (lock_kernel (cv_rules monitor_rules) opening) c old own before b call
+      → CvPolled monitor_rules (lock_kernel (cv_rules monitor_rules) opening) ActsFor c b call at old new own under got
+      → (IsSome (slept_for own.lock.slept (lock_caller (cv_rules monitor_rules) call)) → new ≡ old)
+      → AfterCall new got.own under got.answer
+  after_call None old new own before under got is may polled same =
+      subst (λ l. AfterLeft new under l) (sym polled.leaves)
+      (by_answer own is may.ready.small new polled.left.own under polled.left.answer
+      (after_polled (cv_rules monitor_rules) opening ActsFor c b call (slept_for own.lock.slept (lock_caller
+      (cv_rules monitor_rules) call)) old new own.lock under
+      polled.left refl may.runs may.ready.steady polled.polled same))
+  after_call (Some at) old new own before under got is may polled same =
+      after_over old new own under got (may.apart (subst (λ o. IsSome o) (sym is) refl)) may.ready polled
+
+  -- without an answer a caller that runs goes on
+  pub goes_after : (past : List (QueueEvent (CvCall G))) (own : Waiting O) (under : Option (SchedCall (CvCall G)))
+      (told : Option (Outcome (QOut (CvOut O)))) (current : Option Tid) → AfterCall past own under told → told ≡ None
+      → current ≡ own.lock.sleep.threads.current → is_some current ≡ true
+      → MayPollCondSection monitor_rules (lock_kernel (cv_rules monitor_rules) opening) c past own under b call
+  goes_after past own under (Some outcome) current after none is some = absurd cc
+  goes_after past own under None current (inl may) none is some = may
+  goes_after past own under None current (inr sleeps) none is some =
+      let clash : false ≡ true = ap is_some (sym (is ∙ sleeps.0)) ∙ some in
+      absurd cc
+
+  -- and one that does not run and did not ask for the lock waits
+  pub waits_after : (past : List (QueueEvent (CvCall G))) (own : Waiting O) (under : Option (SchedCall (CvCall G)))
+      (told : Option (Outcome (QOut (CvOut O)))) (current : Option Tid) → AfterCall past own under told → told ≡ None
+      → current ≡ own.lock.sleep.threads.current → is_some current ≡ false → (IsAcquire call → ⊥)
+      → WaitsAt monitor_rules own under (lock_caller (cv_rules monitor_rules) call) b
+  waits_after past own under (Some outcome) current after none is missing other = absurd cc
+  waits_after past own under None current (inl may) none is missing other =
+      let clash : true ≡ false = ap is_some (sym (is ∙ may.runs)) ∙ missing in
+      absurd cc
+  waits_after past own under None current (inr sleeps) none is missing other = by_call sleeps.1
+    where
+      by_call : IsAcquire call ⊎ WaitsAt monitor_rules own under (lock_caller (cv_rules monitor_rules) call) b
+          → WaitsAt monitor_rules own under (lock_caller (cv_rules monitor_rules) call) b
+      by_call (inl asks) = absurd (other asks)
+      by_call (inr waits) = waits
+
+  -- where there is an answer the call has ended, and an asker owns the lock
+  pub ended_after : (past : List (QueueEvent (CvCall G))) (own : Waiting O) (under : Option (SchedCall (CvCall G)))
+      (told : Option (Outcome (QOut (CvOut O)))) (outcome : Outcome (QOut (CvOut O))) → AfterCall past own under told → told ≡ Some outcome
+      → CondHasEnded monitor_rules own under (lock_caller (cv_rules monitor_rules) call)
+      × (IsAcquire call → owner_of (cv_rules monitor_rules) (inner opening) (buffer_sections past) (Buffer b) ≡ Some (lock_caller
+      (cv_rules monitor_rules) call))
+  ended_after past own under None outcome after is = absurd cc
+  ended_after past own under (Some o) outcome after is = after
+
+-- at the start each thread's calls have ended
+pub fresh_ended : {G B O : Type 0} (monitor_rules : MonitorRules G B O) (homes : List CpuId) (c : CpuId) (own : Waiting O)
+    (under : Option (SchedCall (CvCall G))) (t : Tid) → own ≡ waiting_at_start homes c → under ≡ None → t.0 < THREADS → CondHasEnded monitor_rules own under t
+fresh_ended {O = O} monitor_rules homes c own under t is none small =
+    subst (λ o. CondHasEnded monitor_rules o under t) (sym is) (record {
+      none = none;
+      awake = none_at THREADS t.0 None refl;
+      goes = none_at THREADS t.0 None refl;
+      ready = record {
+        small = subst (λ n. t.0 < n) (sym (length-replicate {A = Option BufId} THREADS None)) small;
+        steady = record {
+          small = subst (λ n. t.0 < n) (sym (length-replicate {A = Option BufId} THREADS None)) small;
+          awake = λ outcome deferred. absurd cc;
+        };
+      };
+    })

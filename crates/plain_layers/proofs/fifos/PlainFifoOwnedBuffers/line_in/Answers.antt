@@ -1,8 +1,0 @@
-use Rattle.plain_layers.specs.FifoOwned.{buffer_there}
-use Rattle.plain_layers.proofs.fifos.PlainFifoOwnedBuffers.line_in.Goals as goal
-
--- a buffer of the machine has its lock
-pub line_in-requires-clause-buffer : goal.line_in-requires-clause-buffer
-line_in-requires-clause-buffer g c =
-    let acts = c.requires.acts in
-    buffer_there (g.S.SleepLayer.opening c.args.m.now) acts.1.2.fresh c.args.b c.requires.buffer

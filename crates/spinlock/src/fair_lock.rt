@@ -1,0 +1,200 @@
+//! The line at a lock, whatever the lock's words are.
+
+ghost use Rattle.std.specs.Prelude.{◌≡◌, ℕ, ◌+◌, ◌%◌, ◌^◌, ◌<◌, ◌≤◌, Bool, List, Option, IsSome, MatchOption, option_map, ◌↔◌};
+
+use event_log::{CpuId, LockId};
+use layer_traits::{Edit, GrantWords, Words};
+
+/// The way of [`Words`]: a spot is a ticket, which is served once `serving` shows it.
+pub struct UsesTickets;
+
+/// The way of [`GrantWords`]: a spot is a ticket, which is served once its own grant word shows
+/// the ticket plus 1.
+pub struct UsesGrants;
+
+/// A machine at whose locks CPUs stand in line: a CPU takes a spot, tries to enter, and gives the
+/// lock on. `LockProtocol` is the way in which the machine's words say so; no word is named here. Of a
+/// spot the ticket tells the rest modulo 2^64.
+pub trait FairLock<LockProtocol> {
+    ghost use Rattle.event_log.specs.declared.ids.CpuId.{CpuId};
+    ghost use Rattle.event_log.specs.declared.ids.LockId.{LockId};
+    ghost use Rattle.event_log.specs.Actions.{Action, Take, Try, Give, Rests, Waits, Holds, AreLegal, cpu_of_action, phase, spot_of};
+    ghost use Rattle.event_log.specs.History.{Adds, IsLawful};
+    ghost use Rattle.event_log.specs.Sections.{block_after, sections_in};
+    ghost use Rattle.layer_traits.specs.Protocol.{section, StaysAllowed};
+
+    /// The edits of the sections.
+    type Edit: Edit;
+
+    /// The opening block of each lock; None where there is no such lock.
+    ghost opening: { Self → LockId → Option Self.Edit.Block };
+
+    /// The actions that this holder has seen, newest first, each Give under its section's edit.
+    ghost acts: { Self → List (Action Self.Edit) };
+
+    /// For which CPUs the holder acts. It carries that the machine is sound.
+    ghost ActsFor: { Self → CpuId → Type 0 };
+
+    /// For how many more actions there is room.
+    ghost room: { Self → ℕ };
+
+    /// Which machine it is, as numbers. No call changes it.
+    ghost site: { Self → List ℕ };
+
+    /// No section of this CPU is under way.
+    ghost IsOutside: { Self → CpuId → Type 0 };
+
+    /// Takes a spot in the line of `lock` for `cpu`, which rests, and gives its ticket.
+    fn join(&mut self, cpu: CpuId, lock: LockId) -> u64
+        requires cpu { ActsFor self.old cpu }
+        requires lock { IsSome (opening self.old lock) }
+        requires room { 0 < room self.old }
+        requires rests { phase cpu (acts self.old) ≡ Rests }
+        ensures adds { Adds (ActsFor self.old) cpu_of_action (Take cpu lock) (acts self.old) (acts self.new) }
+        ensures ticket { result ≡ spot_of cpu (acts self.new) % 2 ^ 64 }
+        ensures opening { opening self.new ≡ opening self.old }
+        ensures site { site self.new ≡ site self.old }
+        ensures room { room self.old ≤ room self.new + 1 }
+        ensures acts { (c : CpuId) → ActsFor self.old c → ActsFor self.new c };
+
+    /// Tries to enter `lock` for `cpu`, which waits there with this ticket; gives the lock's block
+    /// where it enters.
+    fn enter(
+        &mut self,
+        cpu: CpuId,
+        lock: LockId,
+        ticket: u64,
+    ) -> Option<<Self::Edit as Edit>::Block>
+        requires cpu { ActsFor self.old cpu }
+        requires lock { IsSome (opening self.old lock) }
+        requires room { 0 < room self.old }
+        requires waits { phase cpu (acts self.old) ≡ Waits lock }
+        requires ticket { ticket ≡ spot_of cpu (acts self.old) % 2 ^ 64 }
+        ensures adds { (hit : Bool) × Adds (ActsFor self.old) cpu_of_action (Try cpu lock hit) (acts self.old) (acts self.new) }
+        ensures hits { MatchOption result
+            (phase cpu (acts self.new) ≡ Waits lock)
+            (λ block. (phase cpu (acts self.new) ≡ Holds lock)
+            × (block_after Self.Edit.rules.edited (opening self.new) lock (sections_in (acts self.new)) ≡ Some block)) }
+        ensures opening { opening self.new ≡ opening self.old }
+        ensures site { site self.new ≡ site self.old }
+        ensures room { room self.old ≤ room self.new + 1 }
+        ensures acts { (c : CpuId) → ActsFor self.old c → ActsFor self.new c };
+
+    /// Gives `lock` on for `cpu`, which holds it. `block` is the one with which it entered, edited
+    /// by `edit`, and it goes home. The protocol allows that edit there.
+    fn leave(
+        &mut self,
+        cpu: CpuId,
+        lock: LockId,
+        block: <Self::Edit as Edit>::Block,
+        edit: Self::Edit,
+    )
+        requires cpu { ActsFor self.old cpu }
+        requires lock { IsSome (opening self.old lock) }
+        requires room { 0 < room self.old }
+        requires holds { phase cpu (acts self.old) ≡ Holds lock }
+        requires edited { option_map (Self.Edit.rules.edited edit)
+            (block_after Self.Edit.rules.edited (opening self.old) lock (sections_in (acts self.old))) ≡ Some block }
+        requires allowed { StaysAllowed (Self.Edit.rules.allowed (opening self.old)) (sections_in (acts self.old)) (section cpu lock edit) }
+        ensures adds { Adds (ActsFor self.old) cpu_of_action (Give cpu lock edit) (acts self.old) (acts self.new) }
+        ensures opening { opening self.new ≡ opening self.old }
+        ensures site { site self.new ≡ site self.old }
+        ensures room { room self.old ≤ room self.new + 1 }
+        ensures acts { (c : CpuId) → ActsFor self.old c → ActsFor self.new c };
+
+    /// Law: the actions are legal.
+    ghost legal: { (m : Self) (c : CpuId) → ActsFor m c → AreLegal (acts m) };
+
+    /// Law: each section keeps the protocol.
+    ghost lawful: { (m : Self) (c : CpuId) → ActsFor m c → IsLawful (Self.Edit.rules.allowed (opening m)) (sections_in (acts m)) };
+
+    /// Law: a CPU rests exactly where no section of it is under way.
+    ghost rests: { (m : Self) (c : CpuId) → IsOutside m c ↔ (phase c (acts m) ≡ Rests) };
+}
+
+impl<W: Words> FairLock<UsesTickets> for W {
+    ghost use Rattle.event_log.specs.Actions.{acts_of};
+    ghost use Rattle.event_log.specs.WordsLog.{lock_phase, Idle};
+    ghost use Rattle.event_log.proofs.Tickets.{legal_acts};
+    ghost use Rattle.layer_traits.specs.WordsProtocol.{edit_of};
+    ghost use Rattle.layer_traits.proofs.Seen.{words_legal};
+    ghost use Rattle.spinlock.specs.LineLaws.{acts_lawful, rests_outside};
+
+    type Edit = W::Edit;
+
+    ghost opening = { λ m. W.opening m };
+
+    ghost acts = { λ m. acts_of edit_of (W.seen m) };
+
+    ghost ActsFor = { λ m c. W.ActsFor m c };
+
+    ghost room = { λ m. W.room m };
+
+    ghost site = { λ m. W.site m };
+
+    ghost IsOutside = { λ m c. lock_phase c (W.seen m) ≡ Idle };
+
+    #[inline(always)]
+    fn join(&mut self, cpu: CpuId, lock: LockId) -> u64 {
+        self.draw(cpu, lock)
+    }
+
+    #[inline(always)]
+    fn enter(&mut self, cpu: CpuId, lock: LockId, ticket: u64) -> Option<<W::Edit as Edit>::Block> {
+        self.look(cpu, lock, ticket)
+    }
+
+    #[inline(always)]
+    fn leave(&mut self, cpu: CpuId, lock: LockId, block: <W::Edit as Edit>::Block, edit: W::Edit) {
+        self.free(cpu, lock, block, W::mark(edit));
+    }
+
+    ghost legal = { λ m c acts. legal_acts edit_of (W.seen m) (words_legal (W.Edit.rules.allowed (W.opening m)) (W.seen m) (W.legal m c acts)) };
+
+    ghost lawful = { λ m c acts. acts_lawful (W.Edit.rules.allowed (W.opening m)) (W.seen m) (W.legal m c acts) };
+
+    ghost rests = { λ m c. rests_outside (W.seen m) c };
+}
+
+impl<W: GrantWords> FairLock<UsesGrants> for W {
+    ghost use Rattle.event_log.specs.Grants.{acts_of_grants, grant_lock_phase};
+    ghost use Rattle.event_log.specs.WordsLog.{Idle};
+    ghost use Rattle.event_log.proofs.GrantWords.{legal_grants};
+    ghost use Rattle.layer_traits.specs.WordsProtocol.{edit_of};
+    ghost use Rattle.spinlock.specs.LineLaws.{grants_legal, grants_lawful, rests_outside_grants};
+
+    type Edit = W::Edit;
+
+    ghost opening = { λ m. W.opening m };
+
+    ghost acts = { λ m. acts_of_grants edit_of (W.seen m) };
+
+    ghost ActsFor = { λ m c. W.ActsFor m c };
+
+    ghost room = { λ m. W.room m };
+
+    ghost site = { λ m. W.site m };
+
+    ghost IsOutside = { λ m c. grant_lock_phase c (W.seen m) ≡ Idle };
+
+    #[inline(always)]
+    fn join(&mut self, cpu: CpuId, lock: LockId) -> u64 {
+        self.take(cpu, lock)
+    }
+
+    #[inline(always)]
+    fn enter(&mut self, cpu: CpuId, lock: LockId, ticket: u64) -> Option<<W::Edit as Edit>::Block> {
+        self.peek(cpu, lock, ticket)
+    }
+
+    #[inline(always)]
+    fn leave(&mut self, cpu: CpuId, lock: LockId, block: <W::Edit as Edit>::Block, edit: W::Edit) {
+        self.give(cpu, lock, block, W::mark(edit));
+    }
+
+    ghost legal = { λ m c acts. legal_grants edit_of (W.seen m) (grants_legal (W.Edit.rules.allowed (W.opening m)) (W.seen m) (W.legal m c acts)) };
+
+    ghost lawful = { λ m c acts. grants_lawful (W.Edit.rules.allowed (W.opening m)) (W.seen m) (W.legal m c acts) };
+
+    ghost rests = { λ m c. rests_outside_grants (W.seen m) c };
+}

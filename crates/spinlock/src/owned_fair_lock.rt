@@ -1,0 +1,106 @@
+//! Machines at whose locks CPUs stand in line, that are opened with their blocks and tell of them.
+
+ghost use Rattle.std.specs.Prelude.{◌≡◌, ◌<◌, [], Option, Some, IsSome, IfOk, MatchOption, option_map};
+
+use crate::fair_lock::{FairLock, UsesGrants, UsesTickets};
+use event_log::{LockId, NoMemory};
+use layer_traits::{Edit, OwnedGrantWords, OwnedWords};
+use std::alloc::Global;
+
+/// A machine at whose locks CPUs stand in line, that is opened with its blocks and tells of those
+/// that are at home.
+pub trait OwnedFairLock<LockProtocol>: FairLock<LockProtocol> {
+    ghost use Rattle.event_log.specs.declared.ids.CpuId.{CpuId};
+    ghost use Rattle.event_log.specs.declared.ids.LockId.{LockId};
+    ghost use Rattle.event_log.specs.declared.ids.TheConstants.{CPUS};
+    ghost use Rattle.event_log.specs.Sections.{block_after, sections_in};
+    ghost use Rattle.layer_traits.specs.OneLock.{AreDistinct, opened};
+    ghost use Rattle.spinlock.specs.OwnedLaws.{SomeoneHolds};
+
+    /// The block of a lock where it is at home.
+    ghost block_at: { Self → LockId → Option Self.Edit.Block };
+
+    /// A machine with these locks, each named once with its block, and with room for `room` events.
+    /// All memory is taken here.
+    ///
+    /// Errors: `NoMemory` where an allocation was refused; then the blocks are gone.
+    fn open(
+        alloc: Global,
+        blocks: Vec<(LockId, <Self::Edit as Edit>::Block)>,
+        room: usize,
+    ) -> Result<Self, NoMemory>
+        requires distinct { AreDistinct blocks.items }
+        ensures acts { IfOk result (λ m. Self.acts m ≡ []) }
+        ensures opening { IfOk result (λ m. Self.opening m ≡ opened blocks.items) }
+        ensures room { IfOk result (λ m. Self.room m ≡ room) }
+        ensures owned { IfOk result (λ m. (c : CpuId) → c.0 < CPUS → Self.ActsFor m c) };
+
+    /// The block of `lock`, which there is; `None` where it is in the hands of a CPU.
+    fn block(&self, lock: LockId) -> Option<&<Self::Edit as Edit>::Block>
+        requires acts { (c : CpuId) × Self.ActsFor self.now c }
+        requires lock { IsSome (Self.opening self.now lock) }
+        ensures { option_map (λ block. block.now) result ≡ block_at self.now lock };
+
+    /// Law: a block that is not at home is in the hands of a CPU that holds its lock, and one that
+    /// is at home is what the sections make of it.
+    ghost blocks: { (m : Self) (c : CpuId) (lock : LockId) → Self.ActsFor m c → IsSome (Self.opening m lock)
+        → MatchOption (block_at m lock) (SomeoneHolds lock (Self.acts m))
+        (λ block. block_after Self.Edit.rules.edited (Self.opening m) lock (sections_in (Self.acts m)) ≡ Some block) };
+}
+
+impl<W: OwnedWords> OwnedFairLock<UsesTickets> for W {
+    ghost use Rattle.event_log.specs.declared.ids.TheConstants.{CPUS};
+    ghost use Rattle.layer_traits.specs.OneLock.{AreDistinct, opened};
+    ghost use Rattle.spinlock.specs.LineLaws.{words_blocks};
+
+    ghost block_at = { λ m lock. W.block_at m lock };
+
+    fn open(
+        alloc: Global,
+        blocks: Vec<(LockId, <W::Edit as Edit>::Block)>,
+        room: usize,
+    ) -> Result<Self, NoMemory>
+        requires distinct { AreDistinct blocks.items }
+        ensures acts { IfOk result (λ m. ⟦<W as FairLock<UsesTickets>>⟧.acts m ≡ []) }
+        ensures opening { IfOk result (λ m. ⟦<W as FairLock<UsesTickets>>⟧.opening m ≡ opened blocks.items) }
+        ensures room { IfOk result (λ m. ⟦<W as FairLock<UsesTickets>>⟧.room m ≡ room) }
+        ensures owned { IfOk result (λ m. (c : _) → c.0 < CPUS → ⟦<W as FairLock<UsesTickets>>⟧.ActsFor m c) }
+    {
+        <W as OwnedWords>::open(alloc, blocks, room)
+    }
+
+    fn block(&self, lock: LockId) -> Option<&<W::Edit as Edit>::Block> {
+        <W as OwnedWords>::block(self, lock)
+    }
+
+    ghost blocks = { λ m c lock acts there. words_blocks W.Edit.rules.edited (W.opening m) (W.seen m) lock (W.block_at m lock) (W.blocks m c lock acts there) };
+}
+
+impl<W: OwnedGrantWords> OwnedFairLock<UsesGrants> for W {
+    ghost use Rattle.event_log.specs.declared.ids.TheConstants.{CPUS};
+    ghost use Rattle.layer_traits.specs.OneLock.{AreDistinct, opened};
+    ghost use Rattle.spinlock.specs.LineLaws.{grants_blocks};
+
+    ghost block_at = { λ m lock. W.block_at m lock };
+
+    fn open(
+        alloc: Global,
+        blocks: Vec<(LockId, <W::Edit as Edit>::Block)>,
+        room: usize,
+    ) -> Result<Self, NoMemory>
+        requires distinct { AreDistinct blocks.items }
+        ensures acts { IfOk result (λ m. ⟦<W as FairLock<UsesGrants>>⟧.acts m ≡ []) }
+        ensures opening { IfOk result (λ m. ⟦<W as FairLock<UsesGrants>>⟧.opening m ≡ opened blocks.items) }
+        ensures room { IfOk result (λ m. ⟦<W as FairLock<UsesGrants>>⟧.room m ≡ room) }
+        ensures owned { IfOk result (λ m. (c : _) → c.0 < CPUS → ⟦<W as FairLock<UsesGrants>>⟧.ActsFor m c) }
+    {
+        <W as OwnedGrantWords>::open(alloc, blocks, room)
+    }
+
+    fn block(&self, lock: LockId) -> Option<&<W::Edit as Edit>::Block> {
+        <W as OwnedGrantWords>::block(self, lock)
+    }
+
+    ghost blocks = { λ m c lock acts there. grants_blocks W.Edit.rules.edited (W.opening m) (W.seen m) lock (W.block_at m lock)
+        (W.blocks m c lock acts there) };
+}

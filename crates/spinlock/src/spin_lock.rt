@@ -1,0 +1,177 @@
+//! The lock: one body for every machine at whose locks CPUs stand in line.
+
+ghost use Rattle.std.specs.Prelude.{◌≡◌};
+
+use crate::fair_lock::{FairLock, UsesGrants, UsesTickets};
+use crate::owned_fair_lock::OwnedFairLock;
+use crate::stages::TicketPhase;
+use event_log::{CpuId, LockId, NoMemory};
+use layer_traits::{Edit, LockLayer, OwnedLocks, Payload};
+use std::alloc::Global;
+use std::marker::PhantomData;
+use std::mem;
+
+/// One CPU's part of a lock at which CPUs stand in line: a section takes a spot in the line, tries to
+/// enter until that spot is served, and gives the lock on with its edit done. Each poll does one
+/// of these.
+#[derive(Drop)]
+pub struct SpinLock<M: FairLock<LockProtocol>, LockProtocol> {
+    cpu: CpuId,
+    stage: TicketPhase<M::Edit, <M::Edit as Edit>::Block>,
+    // Always None: it names the machine's type, and what that borrows.
+    machine: Option<M>,
+    lock_protocol: PhantomData<LockProtocol>,
+}
+
+/// One CPU's part of a ticket lock (Gu et al., OSDI 2016): a section draws a ticket, looks until
+/// `serving` is that ticket, and frees with its edit done.
+pub type Ticket<W> = SpinLock<W, UsesTickets>;
+
+/// One CPU's part of a lock with a grant word for each waiter: a section takes a ticket, peeks at
+/// that ticket's word until it is granted, and gives on to the next ticket's with its edit done.
+pub type Grant<W> = SpinLock<W, UsesGrants>;
+
+impl<M: FairLock<LockProtocol>, LockProtocol> LockLayer<M::Edit> for SpinLock<M, LockProtocol> {
+    ghost use Rattle.event_log.specs.Sections.{sections_in};
+    ghost use Rattle.spinlock.specs.Stages.{stage_section, StageFits};
+    ghost use Rattle.std.specs.Prelude.{refl};
+    ghost use Rattle.spinlock.specs.StageLaws.{sections_known, stage_busy};
+
+    type Machine = M;
+
+    ghost opening = { λ m. M.opening m };
+
+    ghost seen = { λ m. sections_in (M.acts m) };
+
+    ghost ActsFor = { λ m c. M.ActsFor m c };
+
+    ghost room = { λ m. M.room m };
+
+    ghost site = { λ m. M.site m };
+
+    ghost IsOutside = { λ m c. M.IsOutside m c };
+
+    ghost cpu_of = { λ p. p.cpu };
+
+    ghost under_way = { λ p. stage_section p.cpu p.stage };
+
+    ghost Fits = { λ p m. M.ActsFor m p.cpu × StageFits M.Edit.rules (M.opening m) (M.acts m) p.cpu p.stage };
+
+    ghost IsStepwise = { Unit {0} };
+
+    ghost acts = { λ m. M.acts m };
+
+    fn part(cpu: CpuId, _homes: &[CpuId], _buffers: u8) -> Self {
+        SpinLock {
+            cpu,
+            stage: TicketPhase::Out,
+            machine: None,
+            lock_protocol: PhantomData,
+        }
+    }
+
+    #[inline(always)]
+    fn is_busy(&self) -> bool {
+        !matches!(self.stage, TicketPhase::Out)
+    }
+
+    #[inline(always)]
+    fn look(&mut self, m: &mut M) -> bool {
+        match self.stage {
+            TicketPhase::Waiting { lock, ticket, .. } => {
+                let again = m.enter(self.cpu, lock, ticket);
+                self.stage.hit(again);
+                true
+            }
+            TicketPhase::Out => false,
+            TicketPhase::Holding { .. } => false,
+        }
+    }
+
+    #[inline(always)]
+    fn poll(
+        &mut self,
+        m: &mut M,
+        lock: LockId,
+        edit: M::Edit,
+        payload: &mut Payload,
+    ) -> Option<<M::Edit as Edit>::Out> {
+        match self.stage {
+            TicketPhase::Out => {
+                let ticket = m.join(self.cpu, lock);
+                self.stage = TicketPhase::Waiting { lock, edit, ticket };
+                None
+            }
+            TicketPhase::Waiting { lock, ticket, .. } => {
+                let found = m.enter(self.cpu, lock, ticket);
+                self.stage.hit(found);
+                None
+            }
+            TicketPhase::Holding { .. } => {
+                let TicketPhase::Holding {
+                    lock,
+                    edit,
+                    mut block,
+                } = mem::replace(&mut self.stage, TicketPhase::Out)
+                else {
+                    unreachable!()
+                };
+                let out = edit.apply(&mut block, payload);
+                m.leave(self.cpu, lock, block, edit);
+                Some(out)
+            }
+        }
+    }
+
+    ghost own_cpu = { λ p m fits. fits.0 };
+
+    ghost lawful = { λ m c acts. M.lawful m c acts };
+
+    ghost known = { λ m c acts. sections_known (M.acts m) (M.legal m c acts) };
+
+    ghost legal = { λ m c acts. M.legal m c acts };
+
+    ghost seen_is = { λ step m. refl };
+
+    ghost busy = { λ p m fits step. stage_busy M.Edit.rules (M.opening m) (M.acts m) p.cpu p.stage fits.1 };
+}
+
+impl<M: OwnedFairLock<LockProtocol>, LockProtocol> OwnedLocks<M::Edit>
+    for SpinLock<M, LockProtocol> {
+    ghost use Rattle.std.specs.Prelude.{◌<◌, [], IfOk};
+    ghost use Rattle.event_log.specs.declared.ids.TheConstants.{CPUS};
+    ghost use Rattle.layer_traits.specs.OneLock.{AreDistinct, opened};
+    ghost use Rattle.spinlock.specs.OwnedLaws.{spin_lock_shows};
+    ghost use Rattle.spinlock.specs.Stages.{held_block};
+
+    ghost block_at = { λ m lock. M.block_at m lock };
+
+    ghost block_with = { λ p lock. held_block lock p.stage };
+
+    fn open(
+        alloc: Global,
+        blocks: Vec<(LockId, <M::Edit as Edit>::Block)>,
+        room: usize,
+    ) -> Result<M, NoMemory>
+        requires distinct { AreDistinct blocks.items }
+        ensures seen { IfOk result (λ m. ⟦<SpinLock<M, LockProtocol> as LockLayer<M::Edit>>⟧.seen m ≡ []) }
+        ensures opening { IfOk result (λ m. ⟦<SpinLock<M, LockProtocol> as LockLayer<M::Edit>>⟧.opening m ≡ opened blocks.items) }
+        ensures room { IfOk result (λ m. ⟦<SpinLock<M, LockProtocol> as LockLayer<M::Edit>>⟧.room m ≡ room) }
+        ensures acts { IfOk result (λ m. (c : _) → c.0 < CPUS → ⟦<SpinLock<M, LockProtocol> as LockLayer<M::Edit>>⟧.ActsFor m c) }
+        ensures outside { IfOk result (λ m. (c : _) → ⟦<SpinLock<M, LockProtocol> as LockLayer<M::Edit>>⟧.IsOutside m c) }
+        ensures none { IfOk result (λ m. ⟦<SpinLock<M, LockProtocol> as LockLayer<M::Edit>>⟧.acts m ≡ []) }
+    {
+        M::open(alloc, blocks, room)
+    }
+
+    fn block_in(m: &M, lock: LockId) -> Option<&<M::Edit as Edit>::Block> {
+        m.block(lock)
+    }
+
+    fn block_here(&self, lock: LockId) -> Option<&<M::Edit as Edit>::Block> {
+        self.stage.held(lock)
+    }
+
+    ghost shown = { λ m c lock acts there. spin_lock_shows M.Edit.rules (M.opening m) (M.acts m) lock (λ d. M.ActsFor m d) (λ (p : Self). p.cpu) (λ p. p.stage)
+        (M.block_at m lock) (M.legal m c acts) (M.blocks m c lock acts there) };
+}
