@@ -5,7 +5,7 @@ ghost use Rattle.event_log.specs.declared.ids.TheConstants.{CAPACITY};
 ghost use Rattle.layer_traits.specs.Sleeping.{joined};
 ghost use Rattle.layer_traits.specs.declared.sleeps.Wake.TheVariants.{Nobody};
 ghost use Rattle.plain_layers.specs.Attempts.{PlainState, allows, closed_after, done, effect_at, effect_in, empty_buffer, leaving};
-ghost use Rattle.plain_layers.specs.Attempts.{attempt_side, waiting_on, waits, waking_by, wakes, woken};
+ghost use Rattle.plain_layers.specs.Attempts.{attempt_side, waiting_on, waits, waking_by, wakes, attempt_woken};
 ghost use Rattle.plain_layers.specs.declared.attempts.Ask.{Ask};
 ghost use Rattle.plain_layers.specs.declared.attempts.Ask.TheVariants.{Close, Receive, Send};
 ghost use Rattle.plain_layers.specs.declared.attempts.Tried.TheVariants.{Acted};
@@ -152,7 +152,7 @@ impl PlainBuffer {
 
     /// Wakes the first of this side; nobody, where nobody waits there.
     fn wake(&mut self, side: Side) -> Wake
-        ensures block { self.new ≡ woken side self.old }
+        ensures block { self.new ≡ attempt_woken side self.old }
         ensures reported { result ≡ leaving side (first (waiting_on side self.old)) }
     {
         match side {
@@ -170,7 +170,7 @@ impl PlainBuffer {
     /// Wakes whom an effect of this side wakes: the first of the other side; but where the buffer is
     /// closed the first of its own, while somebody waits there.
     fn wake_after(&mut self, own: Side) -> Wake
-        ensures block { self.new ≡ woken (waking_by self.old.closed own self.old) self.old }
+        ensures block { self.new ≡ attempt_woken (waking_by self.old.closed own self.old) self.old }
         ensures reported { result ≡ leaving (waking_by self.old.closed own self.old) (first (waiting_on (waking_by self.old.closed own self.old) self.old)) }
     {
         if self.closed && self.has_waiting(own) {
