@@ -1,10 +1,11 @@
 //! The tower of layers, from buffers down to critical sections, over one machine.
 
-ghost use Rattle.std.specs.Prelude.{◌≡◌, ◌<◌, ◌≤◌, [], IsSome, IfOk, length};
+ghost use Rattle.std.specs.Prelude.{◌≡◌, ◌<◌, ◌≤◌, [], None, IsSome, IfOk, length, replicate};
 ghost use Rattle.event_log.specs.declared.ids.CpuId.{CpuId};
 ghost use Rattle.event_log.specs.declared.ids.LockId.TheVariants.{Pending};
-ghost use Rattle.event_log.specs.declared.ids.TheConstants.{BUFFERS};
+ghost use Rattle.event_log.specs.declared.ids.TheConstants.{BUFFERS, THREADS};
 ghost use Rattle.layer_traits.specs.BufferEffects.{opening_locks};
+ghost use Rattle.layer_traits.specs.BufferLaw.{no_call};
 ghost use Rattle.layer_traits.specs.OneLock.{AreDistinct, opened};
 ghost use Rattle.layer_traits.specs.Openings.{AreOpenable};
 ghost use Rattle.layer_traits.specs.QueueBlocks.{StartsWell, homes_in, inner};
@@ -64,7 +65,8 @@ pub fn tower_blocks(
 }
 
 /// The part of `cpu` at boot, over a machine that has the locks of the tower, with a buffer of each of
-/// these capacities and a thread of each of these homes, and in which nothing was done.
+/// these capacities and a thread of each of these homes, and in which nothing was done. The CPU has
+/// nothing under way and no thread has called, so any thread may begin a call there.
 pub fn part_over<L: LockLayer<TowerEdit>>(
     m: &L::Machine,
     cpu: CpuId,
@@ -80,6 +82,8 @@ pub fn part_over<L: LockLayer<TowerEdit>>(
     requires queue { IsSome (L.opening m.now (Pending cpu)) }
     requires locks { inner (viewed nested_lock_of (viewed state_of (L.opening m.now))) ≡ opening_locks caps.now }
     ensures cpu { ⟦<Ipc<TowerOver<L>> as IpcLayer>⟧.cpu_of result ≡ cpu }
+    ensures under_way { ⟦<Ipc<TowerOver<L>> as IpcLayer>⟧.under_way result ≡ None }
+    ensures call_states { ⟦<Ipc<TowerOver<L>> as IpcLayer>⟧.call_states result ≡ replicate THREADS no_call }
     ensures fits { ⟦<Ipc<TowerOver<L>> as IpcLayer>⟧.Fits result m.now }
 {
     let _ = m;
