@@ -11,3 +11,9 @@ pub mod Observed
 pub mod Crossing
 pub mod Acting
 pub mod Counts
+pub mod Going
+pub mod Making
+pub mod NativeKeys
+pub mod NativeLists
+pub mod NativeOrder
+pub mod NativeRuns

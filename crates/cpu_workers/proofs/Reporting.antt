@@ -102,7 +102,7 @@ has_seen setup May turns c first last line cpu_is planned boots ran own legal fo
 -- Lists of actions.
 
 -- the actions of a longer log
-acts_append : (more past : WordsOfTower) → acts_in (more ++ past) ≡ acts_in more ++ acts_in past
+pub acts_append : (more past : WordsOfTower) → acts_in (more ++ past) ≡ acts_in more ++ acts_in past
 acts_append more past =
     ap (λ l. map (renamed (renamed_edit lock.edit_in)) (map (renamed (renamed_edit sleep.edit_in)) l)) (acts_of-append edit_of more past)
     ∙ ap (map (renamed (renamed_edit lock.edit_in))) (map-append (renamed (renamed_edit sleep.edit_in)) (acts_of edit_of more) (acts_of edit_of past))
@@ -110,13 +110,13 @@ acts_append more past =
     (map (renamed (renamed_edit sleep.edit_in)) (acts_of edit_of past))
 
 -- and whose they are
-acts_others : (c : CpuId) (more : WordsOfTower) → AreOthers cpu_of_event c more → AreOthers cpu_of_action c (acts_in more)
+pub acts_others : (c : CpuId) (more : WordsOfTower) → AreOthers cpu_of_event c more → AreOthers cpu_of_action c (acts_in more)
 acts_others c more others =
     others_renamed (renamed_edit lock.edit_in) c (map (renamed (renamed_edit sleep.edit_in)) (acts_of edit_of more))
     (others_renamed (renamed_edit sleep.edit_in) c (acts_of edit_of more) (others_acts edit_of c more others))
 
 -- a list without events of this CPU
-none_own : {E : Type 0} (by : E → CpuId) (c : CpuId) (list : List E) → own_events by c list ≡ [] → AreOthers by c list
+pub none_own : {E : Type 0} (by : E → CpuId) (c : CpuId) (list : List E) → own_events by c list ≡ [] → AreOthers by c list
 none_own by c [] none = tt
 none_own by c (e ∷ list) none = go (same_cpu (by e) c) refl none (λ rest. none_own by c list rest)
   where
@@ -126,7 +126,7 @@ none_own by c (e ∷ list) none = go (same_cpu (by e) c) refl none (λ rest. non
     go false is rest later = (is, later rest)
 
 -- a list that went on from another and has no more of this CPU's events
-no_more_own : {E : Type 0} (by : E → CpuId) (c : CpuId) (log more past : List E) → log ≡ more ++ past → own_events by c log ≡ own_events by c past
+pub no_more_own : {E : Type 0} (by : E → CpuId) (c : CpuId) (log more past : List E) → log ≡ more ++ past → own_events by c log ≡ own_events by c past
     → AreOthers by c more
 no_more_own by c log more past is same =
     let both : own_events by c more ++ own_events by c past ≡ own_events by c past = sym (own_append by c more past) ∙ sym (ap (own_events by c) is) ∙ same in
@@ -140,12 +140,12 @@ no_more_own by c log more past is same =
 
 -- What the buffers hold.
 
-contents_wide : (caps : List ℕ) (es : List Entry) → length (contents_of caps es) ≡ length caps
+pub contents_wide : (caps : List ℕ) (es : List Entry) → length (contents_of caps es) ≡ length caps
 contents_wide caps [] = length-map caps (λ (k : ℕ). [])
 contents_wide caps (e ∷ es) = length-set (contents_of caps es) e.buffer.0 _ ∙ contents_wide caps es
 
 -- a list whose elements are these values is the list of them
-listed_so : {X : Type 0} (d : X) (f : ℕ → X) (n k : ℕ) (xs : List X) → length xs ≡ n → ((i : ℕ) → i < n → slice_index_or xs i d ≡ f (k + i))
+pub listed_so : {X : Type 0} (d : X) (f : ℕ → X) (n k : ℕ) (xs : List X) → length xs ≡ n → ((i : ℕ) → i < n → slice_index_or xs i d ≡ f (k + i))
     → xs ≡ listed f k n
 listed_so d f zero k [] count each = refl
 listed_so d f zero k (x ∷ xs) count each = absurd (omega (arith, count))

@@ -62,7 +62,7 @@ ready_at plan table_view k key IsOutside acts outside none is opens =
 
 -- What is left.
 
-one_site : (t u : TableId) → site_of t ≡ site_of u → t ≡ u
+pub one_site : (t u : TableId) → site_of t ≡ site_of u → t ≡ u
 one_site t u same =
     let words : t.words ≡ u.words = cc same in
     let slots : t.slots ≡ u.slots = cc same in
@@ -73,7 +73,7 @@ one_site t u same =
     let names : t.slot_names ≡ u.slot_names = cc same in
     λ i. record { words = words i; slots = slots i; views_name = views i; atom = atom i; block = block i; offset = offset i; slot_names = names i }
 
-rests_so : (f : Phase) → is_in_section f ≡ false → f ≡ Rests
+pub rests_so : (f : Phase) → is_in_section f ≡ false → f ≡ Rests
 rests_so Rests none = refl
 rests_so (Waits lock) none = absurd (cc none)
 rests_so (Holds lock) none = absurd (cc none)

@@ -7,3 +7,6 @@ pub mod Lawful
 pub mod Closing
 pub mod Seating
 pub mod Counts
+pub mod Calls
+pub mod Callers
+pub mod Natives

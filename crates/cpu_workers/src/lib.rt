@@ -2,9 +2,15 @@
 //! seat at one table of shared words, under a gate.
 #![tactic(auto)]
 
+mod callers;
+mod calling;
 pub mod counting;
 mod gates;
 mod laws;
+mod native_runs;
+mod native_seats;
+mod native_threads;
+mod natives;
 mod report;
 mod run;
 mod seating;
@@ -14,8 +20,12 @@ mod stops;
 mod turns;
 mod worker;
 
+pub use callers::{Caller, Closed, MOST_CALLS};
+pub use calling::call;
 pub use gates::{Gate, Go, OpenGate};
 pub use laws::{reports_are_lawful, stops_are_true, workers_lose_no_wake_up};
+pub use native_runs::{NativeReport, run_native};
+pub use natives::Native;
 pub use report::Report;
 pub use run::run_workers;
 pub use starting::{Came, WorkerError, work_all};

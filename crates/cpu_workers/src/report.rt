@@ -38,7 +38,7 @@ impl Report {
 }
 
 // The items of the buffer at a lock, the first that these blocks tell.
-fn items_at(blocks: &[(LockId, TowerBlock)], lock: LockId) -> ArrayVec<Msg, CAPACITY>
+pub(crate) fn items_at(blocks: &[(LockId, TowerBlock)], lock: LockId) -> ArrayVec<Msg, CAPACITY>
     ensures { result.items ≡ messages_in (block_shown (opened blocks.now lock)) }
 {
     for (i, entry) in blocks.iter().enumerate() {

@@ -54,7 +54,7 @@ impl<E: Edit> Back<E> {
 }
 
 // A seat for each key.
-fn seats_at<'a, K: TableWords>(
+pub(crate) fn seats_at<'a, K: TableWords>(
     alloc: Global,
     shared: &'a Shared<TowerEdit, K>,
     keys: Vec<Key<TowerEdit>>,

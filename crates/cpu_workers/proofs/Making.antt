@@ -1,0 +1,119 @@
+-- A caller's calls: what one call leaves, and what each reply says of it.
+use Rattle.std.proofs.Common.{◌≡◌, ℕ, zero, suc, Bool, true, false, ◌==◌, List, [], ◌∷◌, replicate, slice_index_or, refl, sym, ◌∙◌, subst, if◌then◌else◌}
+use Rattle.event_log.specs.declared.entries.Entry.{Entry}
+use Rattle.event_log.specs.declared.entries.Kind.{Kind}
+use Rattle.event_log.specs.declared.entries.Kind.TheVariants as kind
+use Rattle.event_log.specs.declared.ids.BufId.{BufId}
+use Rattle.event_log.specs.declared.ids.CpuId.{CpuId}
+use Rattle.event_log.specs.Buffers.{IsAllowedEffect}
+use Rattle.event_log.specs.History.{IsLawful}
+use Rattle.event_log.specs.Messages.{Message}
+use Rattle.event_log.specs.Runs.{Closes, Receives, Sends, group_of}
+use Rattle.layer_traits.specs.declared.calls.Call.TheVariants.{Send, Recv, Close}
+use Rattle.layer_traits.specs.declared.calls.Effect.{Effect}
+use Rattle.layer_traits.specs.declared.calls.Reply.{Reply}
+use Rattle.layer_traits.specs.declared.calls.Reply.TheVariants as reply
+use Rattle.layer_traits.specs.BufferEffects.{MayTakeEffect, entry}
+use Rattle.layer_traits.specs.BufferLaw.{reply_to_recv, reply_to_send}
+use Rattle.cpu.specs.Cpus.{of_cpu}
+use Rattle.cpu_workers.specs.Callers.{CallerView, CarriesNone, HasCalled, HasMade, with_call}
+
+-- What an allowed effect carries.
+
+carries : (k : Kind) (closed : Bool) (capacity : ℕ) (items : List Message) (value : Message) → IsAllowedEffect k closed capacity items value → CarriesNone k value
+carries kind.Send closed capacity items value allowed = tt
+carries kind.Recv closed capacity items value allowed = tt
+carries kind.Close closed capacity items value allowed = allowed
+carries kind.SendClosed closed capacity items value allowed = tt
+carries kind.RecvClosed closed capacity items value allowed = allowed.2
+
+-- a CPU's newest effect is one that may come
+pub newest_carries : (caps : List ℕ) (cpu : CpuId) (seen : List Entry) (e : Entry) (rest : List Entry) → IsLawful (MayTakeEffect caps) seen
+    → of_cpu cpu seen ≡ e ∷ rest → CarriesNone e.kind e.value
+newest_carries caps cpu [] e rest lawful is = absurd (cc is)
+newest_carries caps cpu (x ∷ past) e rest lawful is = go (x.cpu.0 == cpu.0) is (λ at. newest_carries caps cpu past e rest lawful.1 at)
+  where
+    go : (b : Bool) → (if b then x ∷ of_cpu cpu past else of_cpu cpu past) ≡ e ∷ rest → (of_cpu cpu past ≡ e ∷ rest → CarriesNone e.kind e.value)
+        → CarriesNone e.kind e.value
+    go true at later =
+        let same : x ≡ e = cc at in
+        subst (λ (y : Entry). CarriesNone y.kind y.value) same (carries x.kind _ _ _ x.value lawful.0.allowed)
+    go false at later = later at
+
+-- What a reply says.
+
+made_so : (old new : CallerView) (b : BufId) (f : Effect) (k : Kind) (value : Message) → f.kind ≡ k → f.value ≡ value
+    → new ≡ with_call old (entry old.cpu old.thread f.kind b f.value f.op f.pos) → HasMade old new k b value
+made_so old new b f k value kind_is value_is grows = record {
+  op = f.op;
+  pos = f.pos;
+  grows = grows ∙ (λ i. with_call old (entry old.cpu old.thread (kind_is i) b (value_is i) f.op f.pos));
+}
+
+-- a send's kind, by its reply
+sent_kind : (k : Kind) → group_of k ≡ Sends → (reply_to_send k ≡ reply.Closed → ⊥) → k ≡ kind.Send
+sent_kind kind.Send sends not_closed = refl
+sent_kind kind.SendClosed sends not_closed = absurd (not_closed refl)
+sent_kind kind.Recv sends not_closed = absurd (cc sends)
+sent_kind kind.RecvClosed sends not_closed = absurd (cc sends)
+sent_kind kind.Close sends not_closed = absurd (cc sends)
+
+refused_kind : (k : Kind) → group_of k ≡ Sends → reply_to_send k ≡ reply.Closed → k ≡ kind.SendClosed
+refused_kind kind.Send sends closed = absurd (cc closed)
+refused_kind kind.SendClosed sends closed = refl
+refused_kind kind.Recv sends closed = absurd (cc sends)
+refused_kind kind.RecvClosed sends closed = absurd (cc sends)
+refused_kind kind.Close sends closed = absurd (cc sends)
+
+-- a receive's kind and message
+got_kind : (k : Kind) (value m : Message) → group_of k ≡ Receives → reply_to_recv k value ≡ reply.Got m → (k ≡ kind.Recv) × (value ≡ m)
+got_kind kind.Send value m receives got = absurd (cc receives)
+got_kind kind.SendClosed value m receives got = absurd (cc receives)
+got_kind kind.Recv value m receives got = (refl, cc got)
+got_kind kind.RecvClosed value m receives got = absurd (cc got)
+got_kind kind.Close value m receives got = absurd (cc receives)
+
+none_kind : (k : Kind) (value : Message) → group_of k ≡ Receives → ((m : Message) → reply_to_recv k value ≡ reply.Got m → ⊥) → k ≡ kind.RecvClosed
+none_kind kind.Send value receives none = absurd (cc receives)
+none_kind kind.SendClosed value receives none = absurd (cc receives)
+none_kind kind.Recv value receives none = absurd (none value refl)
+none_kind kind.RecvClosed value receives none = refl
+none_kind kind.Close value receives none = absurd (cc receives)
+
+close_kind : (k : Kind) → group_of k ≡ Closes → k ≡ kind.Close
+close_kind kind.Send closes = absurd (cc closes)
+close_kind kind.SendClosed closes = absurd (cc closes)
+close_kind kind.Recv closes = absurd (cc closes)
+close_kind kind.RecvClosed closes = absurd (cc closes)
+close_kind kind.Close closes = refl
+
+module _ (old new : CallerView) (b : BufId) where
+  pub sent : (m : Message) (r : Reply) → HasCalled old new (Send b m) r → (r ≡ reply.Closed → ⊥) → HasMade old new kind.Send b m
+  sent m r called not_closed = made_so old new b called.effect kind.Send m
+      (sent_kind called.effect.kind called.is.0 (λ closed. not_closed (called.replies ∙ closed))) called.is.1 called.grows
+
+  pub refused : (m : Message) (r : Reply) → HasCalled old new (Send b m) r → r ≡ reply.Closed → HasMade old new kind.SendClosed b m
+  refused m r called closed = made_so old new b called.effect kind.SendClosed m
+      (refused_kind called.effect.kind called.is.0 (sym called.replies ∙ closed)) called.is.1 called.grows
+
+  pub got : (m : Message) (r : Reply) → HasCalled old new (Recv b) r → r ≡ reply.Got m → HasMade old new kind.Recv b m
+  got m r called is =
+      let k = got_kind called.effect.kind called.effect.value m called.is (sym called.replies ∙ is) in
+      made_so old new b called.effect kind.Recv m k.0 k.1 called.grows
+
+  pub got_none : (r : Reply) → HasCalled old new (Recv b) r → ((m : Message) → r ≡ reply.Got m → ⊥) → HasMade old new kind.RecvClosed b (0 ∷ [])
+  got_none r called none =
+      let k = none_kind called.effect.kind called.effect.value called.is (λ m is. none m (called.replies ∙ is)) in
+      made_so old new b called.effect kind.RecvClosed (0 ∷ []) k (subst (λ (x : Kind). CarriesNone x called.effect.value) k called.carries) called.grows
+
+  pub closed : (r : Reply) → HasCalled old new (Close b) r → HasMade old new kind.Close b (0 ∷ [])
+  closed r called =
+      let k = close_kind called.effect.kind called.is in
+      made_so old new b called.effect kind.Close (0 ∷ []) k (subst (λ (x : Kind). CarriesNone x called.effect.value) k called.carries) called.grows
+
+-- Threads before their first call.
+
+pub same_everywhere : {X : Type 0} (x : X) (n k : ℕ) → slice_index_or (replicate n x) k x ≡ x
+same_everywhere x zero k = refl
+same_everywhere x (suc n) zero = refl
+same_everywhere x (suc n) (suc k) = same_everywhere x n k

@@ -1,0 +1,78 @@
+use Rattle.std.proofs.Common.{◌≡◌, List, length, Some, refl, ap, sym, ◌∙◌, subst, arith}
+use Rattle.std.specs.Prelude.{slice_get}
+use Rattle.event_log.specs.Actions.{acts_of}
+use Rattle.event_log.specs.WordsLog.{Idle, lock_phase}
+use Rattle.layer_traits.specs.OneLock.{opened}
+use Rattle.layer_traits.specs.OnePlace.{cpu_at}
+use Rattle.layer_traits.specs.WordsProtocol.{edit_of}
+use Rattle.table_machine.proofs.Fresh.{length_new}
+use Rattle.cpu_workers.specs.Closing.{Key}
+use Rattle.cpu_workers.specs.Natives.{HaveLeftKeys, OpensWith}
+use Rattle.cpu_workers.specs.Seating.{Edit}
+use Rattle.cpu_workers.proofs.NativeKeys.{have_left, ready_for}
+use Rattle.cpu_workers.proofs.SeatViews.{seat_views_are_of, seat_views_at}
+use denote.Param.Send.{param_send, arg_send}
+use Rattle.cpu_workers.proofs.native_runs.call_tickets.Lts as lts
+use Rattle.cpu_workers.proofs.Crossing.{tower_seat_send, turn_send}
+use Rattle.cpu_workers.proofs.native_runs.call_tickets.Goals as goal
+
+pub seats_at-requires : goal.seats_at-requires
+seats_at-requires g c = rw c.requires.keys (seat_views_are_of c.args.shared.now (length c.args.natives.items))
+
+pub call_over-requires-clause-few : goal.call_over-requires-clause-few
+call_over-requires-clause-few g c =
+    let n = length c.args.natives.items in
+    let len = ap (λ (l : List Key). length l) (c.in_ok-seats.ensures ∙ c.requires.keys) ∙ length_new Edit c.args.shared.now n in
+    let most = c.requires.few in
+    omega (arith, len, most)
+
+pub call_over-requires-clause-count : goal.call_over-requires-clause-count
+call_over-requires-clause-count g c = λ κs within.
+    let n = length c.args.natives.items in
+    let len = ap (λ (l : List Key). length l) (c.in_ok-seats.ensures ∙ c.requires.keys) ∙ length_new Edit c.args.shared.now n in
+    omega (arith, len)
+
+pub call_over-requires-clause-ready : goal.call_over-requires-clause-ready
+call_over-requires-clause-ready g c = λ κs within k m at.
+    let n = length c.args.natives.items in
+    let len = ap (λ (l : List Key). length l) (c.in_ok-seats.ensures ∙ c.requires.keys) ∙ length_new Edit c.args.shared.now n in
+    ready_for (λ opening. OpensWith (length c.in_ok-seats.seats.items) c.args.caps.now c.args.homes.now opening) c.args.shared.now k m
+    (λ x. lock_phase (cpu_at k) x.seen ≡ Idle) (λ x. acts_of edit_of x.seen) refl refl
+    (seat_views_at c.args.shared.now n k m (subst (λ (l : List Key). slice_get l k ≡ Some m) (c.in_ok-seats.ensures ∙ c.requires.keys) at))
+    (subst (λ j. OpensWith j c.args.caps.now c.args.homes.now (opened c.args.shared.now.start)) (sym len) c.requires.opens)
+
+pub parted-requires-clause-keys : goal.parted-requires-clause-keys
+parted-requires-clause-keys g c =
+    let len = ap (λ (l : List Key). length l) (c.in_ok-seats.ensures ∙ c.requires.keys) ∙ length_new Edit c.args.shared.now (length c.args.natives.items) in
+    let count = c.in_ok-left.ensures.count in
+    let natives = c.len.ensures in
+    let ok = c.args.natives.ok.0 in
+    let room = c.in_ok-back.ensures.keys.1 in
+    (c.in_ok-back.ensures.keys.0, omega (arith, len, count, natives, ok, room))
+
+pub parted-requires-clause-natives : goal.parted-requires-clause-natives
+parted-requires-clause-natives g c =
+    let len = ap (λ (l : List Key). length l) (c.in_ok-seats.ensures ∙ c.requires.keys) ∙ length_new Edit c.args.shared.now (length c.args.natives.items) in
+    let count = c.in_ok-left.ensures.count in
+    let natives = c.len.ensures in
+    let ok = c.args.natives.ok.0 in
+    let room = c.in_ok-back.ensures.natives.1 in
+    (c.in_ok-back.ensures.natives.0, omega (arith, len, count, natives, ok, room))
+
+pub returns : goal.returns
+returns g c =
+    let e = c.parted.ensures in
+    let its = c.in_ok-left.ensures in
+    let caps = c.args.caps.now in
+    let natives = c.args.natives.items in
+    subst (λ x. x) (λ i. HaveLeftKeys g.N.Native.Kept caps c.args.shared.now natives (sym e.natives i) (sym e.keys i))
+    (have_left g.N.Native.Kept caps c.args.shared.now natives c.in_ok-left.left.items (λ x. x.machine) (λ x. x.native) (λ x. acts_of edit_of x.seen)
+    (λ x lawful. refl) c.in_ok-seats.seats.items (c.in_ok-seats.ensures ∙ c.requires.keys) its.count its.site its.owns its.left)
+
+pub call_over-requires-send-L : goal.call_over-requires-send-L
+call_over-requires-send-L g c = λ κs within.
+    param_send _ (lts.arg-8-0 g.row.N g.row.R g.N.laws g.R.laws g.N.Native-dict g.R.Threads-dict g.R.Wait-dict g.N.Destruct-dict κs) (search (arg_send, turn_send))
+
+pub call_over-requires-send-L-Machine : goal.call_over-requires-send-L-Machine
+call_over-requires-send-L-Machine g c = λ κs within.
+    param_send _ (lts.arg-8-3 g.row.N g.row.R g.N.laws g.R.laws g.N.Native-dict g.R.Threads-dict g.R.Wait-dict g.N.Destruct-dict κs) (search (arg_send, tower_seat_send))

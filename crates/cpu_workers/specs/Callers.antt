@@ -1,0 +1,69 @@
+-- Callers: native threads that send to buffers and receive from them, each at a CPU of its own.
+use Rattle.std.specs.Prelude.{◌≡◌, ℕ, ◌≤◌, List, ◌++◌, [], ◌∷◌, length}
+use Rattle.event_log.specs.declared.entries.Entry.{Entry}
+use Rattle.event_log.specs.declared.entries.Kind.{Kind}
+use Rattle.event_log.specs.declared.entries.Kind.TheVariants.{Send, Recv, Close, SendClosed, RecvClosed}
+use Rattle.event_log.specs.declared.ids.BufId.{BufId}
+use Rattle.event_log.specs.declared.ids.CpuId.{CpuId}
+use Rattle.event_log.specs.declared.ids.Tid.{Tid}
+use Rattle.event_log.specs.Messages.{Message, no_message}
+use Rattle.layer_traits.specs.declared.calls.Call.{Call}
+use Rattle.layer_traits.specs.declared.calls.Effect.{Effect}
+use Rattle.layer_traits.specs.declared.calls.Reply.{Reply}
+use Rattle.layer_traits.specs.BufferEffects.{entry}
+use Rattle.layer_traits.specs.BufferLaw.{IsEffectOf, buffer_of, entry_of, reply_of}
+use Rattle.cpu.specs.Cpus.{of_cpu}
+use Rattle.cpu_workers.specs.declared.callers.TheConstants.{MOST_CALLS}
+
+-- a caller to its users: its CPU and its thread, the capacities of the buffers, which machine it is, and the entries of its calls, oldest first
+pub record CallerView : Type 0 where
+  pub cpu : CpuId
+  pub thread : Tid
+  pub caps : List ℕ
+  pub site : List ℕ
+  pub calls : List Entry
+
+-- what always holds of a caller: its part agrees with its machine, which has room at any time; nothing is under way and its thread is in no
+-- call; each buffer opened empty; and it counts its calls, which are not too many
+pub record IsCaller (PartFits Roomy Nothing Rests Opens : Type 0) (cpu : CpuId) (seen : List Entry) (made : ℕ) : Type 0 where
+  pub fits : PartFits
+  pub room : Roomy
+  pub nothing : Nothing
+  pub rests : Rests
+  pub opens : Opens
+  pub counted : length (of_cpu cpu seen) ≡ made
+  pub few : made ≤ MOST_CALLS
+
+-- a caller after one more entry
+abbrev pub with_call : CallerView → Entry → CallerView
+with_call caller e =
+    record { cpu = caller.cpu; thread = caller.thread; caps = caller.caps; site = caller.site; calls = caller.calls ++ e ∷ [] }
+
+-- an effect without a message of its own carries none
+abbrev pub CarriesNone : Kind → Message → Type 0
+CarriesNone Send value = Unit {0}
+CarriesNone Recv value = Unit {0}
+CarriesNone Close value = value ≡ no_message
+CarriesNone SendClosed value = Unit {0}
+CarriesNone RecvClosed value = value ≡ no_message
+
+-- the caller has done this call, which had one effect, and this is its reply
+pub record HasCalled (old new : CallerView) (call : Call) (reply : Reply) : Type 0 where
+  pub effect : Effect
+  pub is : IsEffectOf call effect
+  pub carries : CarriesNone effect.kind effect.value
+  pub replies : reply ≡ reply_of call effect
+  pub grows : new ≡ with_call old (entry_of old.cpu old.thread (buffer_of call) effect)
+
+-- the caller has one entry more, of this kind on this buffer with this message
+pub record HasMade (old new : CallerView) (kind : Kind) (b : BufId) (value : Message) : Type 0 where
+  pub op : ℕ
+  pub pos : ℕ
+  pub grows : new ≡ with_call old (entry old.cpu old.thread kind b value op pos)
+
+-- it is the same caller, which may have made more calls
+pub record IsSameCaller (old new : CallerView) : Type 0 where
+  pub cpu : new.cpu ≡ old.cpu
+  pub thread : new.thread ≡ old.thread
+  pub caps : new.caps ≡ old.caps
+  pub site : new.site ≡ old.site

@@ -1,0 +1,63 @@
+-- Message calls of native code: what a CPU polls for one thread's call, and how far the call has come.
+use Rattle.std.specs.Prelude.{◌≡◌, List, ◌++◌, [], ◌∷◌, Option, Some, None}
+use Rattle.event_log.specs.declared.entries.Entry.{Entry}
+use Rattle.event_log.specs.declared.ids.CpuId.{CpuId}
+use Rattle.event_log.specs.declared.ids.Tid.{Tid}
+use Rattle.layer_traits.specs.declared.calls.Call.{Call}
+use Rattle.layer_traits.specs.declared.calls.Effect.{Effect}
+use Rattle.layer_traits.specs.declared.calls.Reply.{Reply}
+use Rattle.layer_traits.specs.declared.call_states.CallState.{CallState}
+use Rattle.layer_traits.specs.BufferLaw.{Calling, IsEffectOf, MayPollCall, Passing, UnderWay, buffer_of, call_state_of, entry_of, going, reply_of}
+use Rattle.layer_traits.specs.Passes.{MayPass}
+use Rattle.layer_traits.specs.Places.{Threads}
+use Rattle.cpu.specs.Cpus.{of_cpu}
+use Rattle.cpu.specs.Guests.{entries_of}
+use Rattle.cpu_workers.specs.declared.calling.Begun.{Begun}
+use Rattle.cpu_workers.specs.declared.calling.Begun.TheVariants.{Calls, Passes}
+
+-- what is under way on the CPU of a thread that has begun this, or nothing
+abbrev pub under_way_of : Tid → Option Begun → Option UnderWay
+under_way_of t None = None
+under_way_of t (Some Calls) = Some (Calling t)
+under_way_of t (Some (Passes pass)) = Some (Passing pass)
+
+-- the CPU with these threads may begin this: the call where its thread runs, a pass where it may come
+abbrev pub MayBegin : Tid → Threads → Begun → Type 0
+MayBegin t own Calls = own.current ≡ Some t
+MayBegin t own (Passes pass) = MayPass pass own
+
+abbrev pub MayPoll : Tid → Threads → Option Begun → Type 0
+MayPoll t own None = Unit {0}
+MayPoll t own (Some begun) = MayBegin t own begun
+
+-- an effect that came is one of the call
+abbrev pub IsOne : Call → Option Effect → Type 0
+IsOne call None = Unit {0}
+IsOne call (Some f) = IsEffectOf call f
+
+-- what was seen has grown, by just these entries of this CPU, newest first
+pub record Went (cpu : CpuId) (old new : List Entry) (mine : List Entry) : Type 0 where
+  pub more : List Entry
+  pub grows : new ≡ more ++ old
+  pub own : of_cpu cpu new ≡ mine ++ of_cpu cpu old
+
+-- how far a call has come since these entries were seen: it may be polled, and what was seen has grown by the entry of its effect, if that came
+pub record IsOn (cpu : CpuId) (t : Tid) (call : Call) (call_state : CallState) (old now : List Entry) : Type 0 where
+  pub may : MayPollCall call_state call
+  pub one : IsOne call (going call_state call).effect
+  pub went : Went cpu old now (entries_of cpu t (buffer_of call) (going call_state call).effect)
+
+-- the call has answered: it had just one effect, which is this CPU's one new entry, and the reply is that effect's
+pub record Returned (cpu : CpuId) (t : Tid) (call : Call) (reply : Reply) (old new : List Entry) : Type 0 where
+  pub effect : Effect
+  pub is : IsEffectOf call effect
+  pub replies : reply ≡ reply_of call effect
+  pub went : Went cpu old new (entry_of cpu t (buffer_of call) effect ∷ [])
+
+-- however far the call had come, it has come as far after a poll that saw these entries
+abbrev pub KeepsOn : CpuId → Tid → Call → List CallState → List CallState → List Entry → List Entry → Type 0
+KeepsOn cpu t call before after seen new = (old : List Entry) → IsOn cpu t call (call_state_of before t) old seen → IsOn cpu t call (call_state_of after t) old new
+
+-- however far the call had come, it has returned with a poll that saw these entries
+abbrev pub Ends : CpuId → Tid → Call → Reply → List CallState → List Entry → List Entry → Type 0
+Ends cpu t call reply before seen new = (old : List Entry) → IsOn cpu t call (call_state_of before t) old seen → Returned cpu t call reply old new

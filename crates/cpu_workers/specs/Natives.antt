@@ -1,0 +1,109 @@
+-- Native threads at one table: what each has called, and the one order of all their calls.
+use Rattle.std.specs.Prelude.{◌≡◌, ℕ, ◌<◌, ◌≤◌, false, List, [], map, length, slice_get, Option, Some, IsSome}
+use Rattle.event_log.specs.declared.entries.Entry.{Entry}
+use Rattle.event_log.specs.declared.ids.CpuId.{CpuId}
+use Rattle.event_log.specs.declared.ids.LockId.{LockId}
+use Rattle.event_log.specs.declared.ids.LockId.TheVariants.{Pending}
+use Rattle.event_log.specs.Actions.{Action, acts_of, phase}
+use Rattle.event_log.specs.Messages.{Message}
+use Rattle.event_log.specs.Runs.{IsRun}
+use Rattle.event_log.specs.Streams.{IsFirstInFirstOut}
+use Rattle.event_log.specs.Traces.{IsInterleaving}
+use Rattle.layer_traits.specs.BufferEffects.{opening_locks}
+use Rattle.layer_traits.specs.OnePlace.{cpu_at}
+use Rattle.layer_traits.specs.Plans.{is_in_section}
+use Rattle.layer_traits.specs.QueueBlocks.{StartsWell, homes_in, inner}
+use Rattle.layer_traits.specs.Renaming.{viewed}
+use Rattle.layer_traits.specs.WordsProtocol.{edit_of}
+use Rattle.queuing_lock.specs.Nested.{nested_lock_of}
+use Rattle.sleep_wakeup.specs.Nested.{state_of}
+use Rattle.table_machine.specs.SeatViews.{IsOver, TableView}
+use Rattle.cpu.specs.Claims.{buffer_at, listed}
+use Rattle.cpu.specs.Tower.Views.{TowerName}
+use Rattle.cpu_workers.specs.declared.callers.TheConstants.{MOST_CALLS}
+use Rattle.cpu_workers.specs.Callers.{CallerView, IsSameCaller}
+use Rattle.cpu_workers.specs.Closing.{Key, blocks_read}
+use Rattle.cpu_workers.specs.Lawful.{held_at}
+use Rattle.cpu_workers.specs.Orders.{IsTraceOf}
+use Rattle.cpu_workers.specs.Seating.{Block, tower_acts}
+
+-- a native has run at its caller, which is the same, and has kept what it promises of itself and of the calls
+pub record HasKept {N : Type 0} (Kept : N → N → CallerView → Type 0) (native : N) (caller : CallerView) (after : N) (last : CallerView) : Type 0 where
+  pub kept : Kept native after last
+  pub same : IsSameCaller caller last
+
+-- the caller of a CPU before its first call
+pub record IsNewCaller (caps : List ℕ) (c : CpuId) (caller : CallerView) : Type 0 where
+  pub cpu_is : caller.cpu ≡ c
+  pub caps_are : caller.caps ≡ caps
+  pub fresh : caller.calls ≡ []
+
+-- a caller has left its machine, which has seen these actions: its calls are, once and in their order, its CPU's effects in them, and not too many;
+-- and no section of the CPU is under way
+pub record HasLeftMachine (caller : CallerView) (acts : List (Action TowerName)) (site : List ℕ) : Type 0 where
+  pub site_is : site ≡ caller.site
+  pub few : length caller.calls ≤ MOST_CALLS
+  pub trace : IsTraceOf caller.cpu caller.caps acts caller.calls
+  pub rests : is_in_section (phase caller.cpu acts) ≡ false
+
+-- the native of a CPU has run with a machine that has seen these actions: it has kept what it promises of itself and of its calls, which are, once
+-- and in their order, the CPU's effects in those actions, and not too many; and no section of the CPU is under way
+pub record HasLeftCalls {N : Type 0} (Kept : N → N → CallerView → Type 0) (caps : List ℕ) (c : CpuId) (native after : N) (acts : List (Action TowerName))
+    : Type 0 where
+  pub caller : CallerView
+  pub cpu_is : caller.cpu ≡ c
+  pub caps_are : caller.caps ≡ caps
+  pub kept : Kept native after caller
+  pub few : length caller.calls ≤ MOST_CALLS
+  pub trace : IsTraceOf c caps acts caller.calls
+  pub rests : is_in_section (phase c acts) ≡ false
+
+-- the locks of the tower open for so many CPUs: an empty queue for each, with the home of each thread, and an empty buffer of each capacity
+-- under a free lock
+pub record OpensWith (cpus : ℕ) (caps : List ℕ) (homes : List CpuId) (opening : LockId → Option Block) : Type 0 where
+  pub starts : StartsWell opening
+  pub homes_are : homes_in opening ≡ homes
+  pub queues : (c : CpuId) → c.0 < cpus → IsSome (opening (Pending c))
+  pub locks : inner (viewed nested_lock_of (viewed state_of opening)) ≡ opening_locks caps
+
+-- what is left in the first n buffers among these blocks
+abbrev pub left_of : ℕ → List (LockId × Block) → List (List Message)
+left_of n blocks = listed (λ b. held_at (blocks_read blocks) (buffer_at b)) 0 n
+
+-- what one native has done, where they stood in these lists
+pub record HasRunNative {N : Type 0} (Kept : N → N → CallerView → Type 0) (caps : List ℕ) (k : ℕ) (native after : N) (caller : CallerView) : Type 0 where
+  pub cpu_is : caller.cpu ≡ cpu_at k
+  pub caps_are : caller.caps ≡ caps
+  pub kept : Kept native after caller
+
+-- natives have run, each at a CPU of its own, and have left this in the buffers: each has kept what it promises of itself and of its calls; the
+-- calls of all have one order, which keeps each one's own, is a run of first-in first-out buffers and ends in what is left. So what was put into a
+-- buffer is what was taken from it, in that order, and then what is left there
+pub record HaveRun {N : Type 0} (Kept : N → N → CallerView → Type 0) (caps : List ℕ) (natives after : List N) (left : List (List Message)) : Type 0 where
+  pub callers : List CallerView
+  pub each : (k : ℕ) (native : N) → slice_get natives k ≡ Some native → (last : N) × (caller : CallerView) × (slice_get after k ≡ Some last)
+      × (slice_get callers k ≡ Some caller) × HasRunNative Kept caps k native last caller
+  pub count : length after ≡ length natives
+  pub order : List Entry
+  pub keeps : IsInterleaving (map (λ c. c.calls) callers) order
+  pub run : IsRun caps order left
+  pub fifo : IsFirstInFirstOut order left
+
+-- the native of a CPU has run at this table, and left its key, which is outside all locks
+pub record HasLeftKey {N : Type 0} (Kept : N → N → CallerView → Type 0) (caps : List ℕ) (table_view : TableView Block) (c : CpuId) (native after : N)
+    (key : Key) : Type 0 where
+  pub cpu_is : key.cpu ≡ c
+  pub over : IsOver table_view key
+  pub calls : HasLeftCalls Kept caps c native after (tower_acts (acts_of edit_of key.seen))
+
+-- all have, one for each CPU
+pub record HaveLeftKeys {N : Type 0} (Kept : N → N → CallerView → Type 0) (caps : List ℕ) (table_view : TableView Block) (natives after : List N)
+    (keys : List Key) : Type 0 where
+  pub count : length after ≡ length natives
+  pub keys_count : length keys ≡ length natives
+  pub each : (k : ℕ) (native : N) → slice_get natives k ≡ Some native → (last : N) × (key : Key) × (slice_get after k ≡ Some last)
+      × (slice_get keys k ≡ Some key) × HasLeftKey Kept caps table_view (cpu_at k) native last key
+
+-- the homes of natives: each thread is at the CPU of its number
+abbrev pub own_homes : ℕ → List CpuId
+own_homes n = listed cpu_at 0 n

@@ -1,0 +1,30 @@
+//! Natives: what runs in a thread of its own and calls the tower.
+
+ghost use Rattle.std.specs.Prelude.{◌≡◌, List, [], ℕ};
+
+use crate::callers::Caller;
+use layer_traits::IpcLayer;
+use std::sync::Wait;
+
+/// What runs in a thread of its own, at a CPU of its own, and sends to buffers and receives from them
+/// through a caller.
+pub trait Native {
+    ghost use Rattle.cpu_workers.specs.Callers.{CallerView, IsSameCaller};
+
+    /// What it needs of the buffers, by their capacities.
+    ghost Needs: { Self → List ℕ → Type 0 };
+
+    /// What it promises: of itself before it runs and after, and of the caller after all its calls.
+    ghost Kept: { Self → Self → CallerView → Type 0 };
+
+    /// Runs to its end. The caller has made no call before.
+    ///
+    /// It may wait for other threads, so it need not return.
+    fn run<I: IpcLayer + Drop, R: Wait>(&mut self, rt: &R, caller: &mut Caller<I>)
+    where
+        I::Machine: Drop,
+        requires fresh { caller.old.calls ≡ [] }
+        requires needs { Needs self.old caller.old.caps }
+        ensures kept { Kept self.old self.new caller.new }
+        ensures same { IsSameCaller caller.old caller.new };
+}
