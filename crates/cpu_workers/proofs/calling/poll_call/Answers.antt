@@ -1,6 +1,4 @@
-use Rattle.std.proofs.Common.{◌≡◌, List, Option, is_some, true, false, rules, refl, ◌∙◌, sym}
-use Rattle.event_log.specs.declared.entries.Entry.{Entry}
-use Rattle.event_log.specs.declared.ids.Tid.{Tid}
+use Rattle.std.proofs.Common.{◌≡◌, is_some, true, false, rules, ◌∙◌}
 use Rattle.cpu_workers.proofs.Going.{calls_on, done_rests, ends, goes, idles, runs_on, sleeps}
 use Rattle.cpu_workers.proofs.calling.poll_call.Goals as goal
 

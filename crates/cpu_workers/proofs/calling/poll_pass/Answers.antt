@@ -1,4 +1,4 @@
-use Rattle.std.proofs.Common.{◌≡◌, List, subst, sym}
+use Rattle.std.proofs.Common.{List, subst, sym}
 use Rattle.layer_traits.specs.declared.call_states.CallState.{CallState}
 use Rattle.cpu_workers.specs.Calls.{KeepsOn}
 use Rattle.cpu_workers.proofs.Going.{on_goes}

@@ -1,4 +1,4 @@
-use Rattle.std.proofs.Common.{◌≡◌, ◌≤◌, ℕ, [], Some, drop, length, vec_capacity}
+use Rattle.std.proofs.Common.{◌≡◌, ◌≤◌, ℕ, Some, drop, length, vec_capacity}
 use Rattle.std.specs.Prelude.{slice_get}
 use Rattle.layer_traits.specs.OnePlace.{cpu_at}
 use Rattle.cpu_workers.specs.Natives.{IsNewCaller}

@@ -1,4 +1,4 @@
-use Rattle.std.proofs.Common.{◌≡◌, ◌∷◌, [], List, length, reverse, ap, sym, ◌∙◌, subst, arith}
+use Rattle.std.proofs.Common.{◌∷◌, [], List, length, reverse, ap, sym, ◌∙◌, subst, arith}
 use Rattle.std.proofs.lemmas.List.{reverse-append}
 use Rattle.event_log.specs.declared.entries.Entry.{Entry}
 use Rattle.event_log.specs.declared.ids.CpuId.{CpuId}
@@ -7,7 +7,6 @@ use Rattle.layer_traits.specs.BufferLaw.{buffer_of, entry_of}
 use Rattle.layer_traits.specs.QueueBlocks.{inner}
 use Rattle.cpu.specs.Cpus.{of_cpu}
 use Rattle.cpu_workers.specs.Calls.{Returned}
-use Rattle.cpu_workers.specs.Callers.{CallerView}
 use Rattle.cpu_workers.proofs.Making.{newest_carries}
 use Rattle.cpu_workers.proofs.callers.Caller.make.Goals as goal
 

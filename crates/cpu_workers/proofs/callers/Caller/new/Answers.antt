@@ -1,4 +1,4 @@
-use Rattle.std.proofs.Common.{List, length, replicate, refl, ap, ◌∙◌, arith}
+use Rattle.std.proofs.Common.{List, refl, ap, ◌∙◌, arith}
 use Rattle.event_log.specs.declared.ids.TheConstants.{THREADS}
 use Rattle.layer_traits.specs.declared.call_states.CallState.{CallState}
 use Rattle.layer_traits.specs.BufferLaw.{call_state_of, no_call}
