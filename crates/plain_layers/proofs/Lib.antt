@@ -8,3 +8,4 @@ pub mod OpeningLemmas
 pub mod PlainOpenings
 pub mod QueueSectionLemmas
 pub mod TextLemmas
+pub mod StreamLemmas

@@ -41,6 +41,8 @@ mod lock_sections;
 #[cfg(test)]
 mod lock_tests;
 #[cfg(test)]
+mod native_tests;
+#[cfg(test)]
 mod openings;
 #[cfg(test)]
 mod queue_tests;

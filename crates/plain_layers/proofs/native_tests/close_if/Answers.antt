@@ -1,0 +1,11 @@
+use Rattle.std.proofs.Common.{refl}
+use Rattle.event_log.specs.declared.entries.Kind.TheVariants.{Close}
+use Rattle.event_log.specs.Messages.{no_message}
+use Rattle.plain_layers.proofs.StreamLemmas.{sent_same, taken_same}
+use Rattle.plain_layers.proofs.native_tests.close_if.Goals as goal
+
+pub returns-then-closes-clause-taken : goal.returns-then-closes-clause-taken
+returns-then-closes-clause-taken g c = taken_same c.args.caller.now c.close.new.self Close no_message c.close.ensures refl
+
+pub returns-then-closes-clause-sent : goal.returns-then-closes-clause-sent
+returns-then-closes-clause-sent g c = sent_same c.args.caller.now c.close.new.self Close no_message c.close.ensures refl
