@@ -4,7 +4,8 @@ its must-fail edits and for its wrong bodies, and the most memory that one check
 
 usage: bench/gate-minutes.py COMMAND..
 
-It looks at all processes once a second, so that it misses up to a second of each; each check takes many. The table goes to standard error at the end.
+It looks at all processes once a second, so that it misses up to a second of each; each check takes many. The table goes to standard error at the end, and
+to the end of the file that MINUTES names, if it names one.
 """
 import collections
 import os
@@ -83,7 +84,11 @@ def main():
     status = subprocess.run(sys.argv[1:]).returncode
     ended.set()
     watcher.join()
-    print("\n".join(tally.table()), file=sys.stderr)
+    table = "\n".join(tally.table())
+    print(table, file=sys.stderr)
+    if "MINUTES" in os.environ:
+        with open(os.environ["MINUTES"], "a") as minutes:
+            print(table, file=minutes)
     return status
 
 
