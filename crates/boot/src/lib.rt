@@ -2,6 +2,15 @@
 //! its buffers, which lock they use, and each thread's CPU and program. A plan is a TOML document.
 //!
 //! A `Boot` is within all limits, so whatever is built from one needs no test of its own.
+//!
+//! ```rust
+//! use boot::{Boot, LockKind};
+//!
+//! let plan = "cpus = 1\ntrace = 4\nbuffers = [1]\nthread = [{ cpu = 0, program = ['exit'] }]";
+//! let boot = Boot::read(alloc, plan)?;
+//! assert_eq!(rt; boot.threads(), 1);
+//! assert_eq!(rt; boot.lock(), LockKind::Grant);
+//! ```
 #![tactic(auto)]
 
 mod locks;

@@ -1,4 +1,4 @@
-//! Which lock a plan asks for.
+//! Which lock a plan asks for. No call takes memory or waits.
 
 ghost use Rattle.std.specs.Prelude.{◌≡◌, codes};
 ghost use Rattle.toml.specs.Data.{get_member};
@@ -33,6 +33,9 @@ impl LockKind {
 }
 
 /// The lock of a plan: a lock with grant words, where the key is absent.
+///
+/// Errors: `MissingKey` if the value of the key is no text. `OutOfRange` if the text is no name of
+/// a lock. The table stays as it was.
 #[tactic(auto, unfolding(crate::specs::Plan::lock_at))]
 pub fn lock_at(table: &Table) -> Result<LockKind, BootError>
     ensures { result ≡ lock_at (get_member (codes "lock") (table_view table.now)) }

@@ -1,4 +1,4 @@
-//! Reads the numbers of a plan.
+//! Reads the numbers of a plan. Only `caps_at` takes memory. No call waits.
 
 ghost use Rattle.std.specs.Prelude.{◌≡◌, ◌<◌, ◌≤◌, length, codes, option_map, All, IfOk, IfSome};
 ghost use Rattle.event_log.specs.declared.ids.TheConstants.{BUFFERS, CAPACITY};
@@ -33,6 +33,9 @@ fn number_within(integer: i64, least: u64, most: u64) -> Option<u64>
 }
 
 /// The integer of a key, from `least` to `most`.
+///
+/// Errors: `MissingKey` if the key is absent or its value is no integer. `OutOfRange` if the
+/// integer is less than `least` or more than `most`. The table stays as it was.
 #[tactic(auto, unfolding(crate::specs::Plan::number_at))]
 pub fn number_at(
     table: &Table,
@@ -74,6 +77,10 @@ fn caps_of(integers: &[i64]) -> Option<ArrayVec<u8, BUFFERS>>
 }
 
 /// The capacities of a plan's buffers.
+///
+/// Errors: `MissingKey` if the key `buffers` is absent, its value is no array, or an item is no
+/// integer. `OutOfRange` if there is no buffer, there are more than [`BUFFERS`], or a capacity is
+/// not from 1 to [`CAPACITY`]. `NoMemory` if an allocation was refused. Then nothing was made.
 #[tactic(auto, unfolding(crate::specs::Plan::caps_at))]
 pub fn caps_at(alloc: Global, table: &Table) -> Result<ArrayVec<u8, BUFFERS>, BootError>
     ensures caps { Gives (λ caps. caps.items) result (caps_at (get_member (codes "buffers") (table_view table.now))) }

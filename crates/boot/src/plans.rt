@@ -1,4 +1,4 @@
-//! What a plan says, once it is read.
+//! What a plan says, once it is read. Only `Boot::read` takes memory. No call waits.
 
 use crate::locks::{LockKind, lock_at};
 use crate::numbers::{caps_at, number_at};
@@ -39,12 +39,13 @@ impl Boot {
 
     /// Reads a plan from its text.
     ///
-    /// Errors: `BadToml` where the text is no TOML document. Then the keys are tested in the order
-    /// `cpus`, `trace`, `buffers`, `lock`, `thread`, and in each thread's table `cpu` before `program`:
-    /// `MissingKey` where a key is absent (but `lock`, which may be), is of another kind or has an
-    /// item of another kind; otherwise `OutOfRange` where a length or a number is out of range or the
-    /// name is no lock's. A program that is no program gives `Guest`, and one that names a buffer that the plan has not `OutOfRange`. The
-    /// first of these is the answer. `NoMemory` where an allocation was refused.
+    /// Errors: `BadToml` if the text is no TOML document. Then the keys are tested in the order
+    /// `cpus`, `trace`, `buffers`, `lock`, `thread`, and in each thread's table `cpu` before
+    /// `program`: `MissingKey` where a key is absent (but `lock`, which may be), is of another kind
+    /// or has an item of another kind; otherwise `OutOfRange` where a length or a number is out of
+    /// range or the name is no lock's. A program that is no program gives `Guest`, and one that
+    /// names a buffer that the plan has not `OutOfRange`. The first of these is the answer.
+    /// `NoMemory` where an allocation was refused.
     #[tactic(auto, unfolding(crate::specs::Plan::plan_of))]
     pub fn read(alloc: Global, text: &str) -> Result<Boot, BootError>
         ensures plan { Gives (λ boot. boot) result (plan_of text.now) }
@@ -126,7 +127,9 @@ impl Boot {
         self.tasks.len()
     }
 
-    /// The CPU that is the home of a thread. The thread must exist.
+    /// The CPU that is the home of a thread.
+    ///
+    /// Requires: the plan has a thread of this number.
     pub fn home(&self, thread: Tid) -> CpuId
         requires { thread.0 < length self.now.tasks }
         ensures home { result.0 ≡ home_of self.now thread.0 }
@@ -135,8 +138,9 @@ impl Boot {
         self.tasks[usize::from(thread.0)].home
     }
 
-    /// The program of a thread. The thread must exist. The program names only buffers that the
-    /// plan has.
+    /// The program of a thread. The program names only buffers that the plan has.
+    ///
+    /// Requires: the plan has a thread of this number.
     pub fn program(&self, thread: Tid) -> &Program
         requires { thread.0 < length self.now.tasks }
         ensures program { result.now ≡ program_of self.now thread.0 }

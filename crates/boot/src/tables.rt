@@ -1,4 +1,5 @@
 //! Reads the values of a table: what a key holds, and arrays whose items are all of one kind.
+//! `integers`, `texts` and `tables` take memory. No call waits.
 
 ghost use Rattle.std.specs.Prelude.{◌≡◌, map, option_map, option_and_then, IfOk};
 ghost use Rattle.event_log.specs.Reading.{all_as};
@@ -27,6 +28,8 @@ pub fn array_at<'a>(table: &'a Table, name: &str) -> Option<&'a Vec<Value>>
 }
 
 /// The integers of an array, or `None` where one item is no integer.
+///
+/// Errors: `AllocError` if an allocation was refused. Then nothing was made.
 pub fn integers(alloc: Global, values: &Vec<Value>) -> Result<Option<Vec<i64>>, AllocError>
     ensures { IfOk result (λ seen. option_map (λ found. found.items) seen ≡ all_as as_integer (data_in (array_view values.now))) }
 {
@@ -41,6 +44,8 @@ pub fn integers(alloc: Global, values: &Vec<Value>) -> Result<Option<Vec<i64>>, 
 }
 
 /// The texts of an array, or `None` where one item is no string.
+///
+/// Errors: `AllocError` if an allocation was refused. Then nothing was made.
 pub fn texts<'a>(alloc: Global, values: &'a Vec<Value>) -> Result<Option<Vec<&'a str>>, AllocError>
     ensures { IfOk result (λ seen. option_map (λ found. map (λ text. text.now) found.items) seen ≡ all_as as_str (data_in (array_view values.now))) }
 {
@@ -55,6 +60,8 @@ pub fn texts<'a>(alloc: Global, values: &'a Vec<Value>) -> Result<Option<Vec<&'a
 }
 
 /// The tables of an array, or `None` where one item is no table.
+///
+/// Errors: `AllocError` if an allocation was refused. Then nothing was made.
 pub fn tables<'a>(
     alloc: Global,
     values: &'a Vec<Value>,

@@ -1,4 +1,4 @@
-//! Reads the threads of a plan.
+//! Reads the threads of a plan. Each call takes memory. None waits.
 
 ghost use Rattle.std.specs.Prelude.{◌≡◌, ◌<◌, ◌≤◌, map, length, codes, All, IfOk, IsTrue};
 ghost use Rattle.event_log.specs.declared.ids.TheConstants.{THREADS};
@@ -79,6 +79,10 @@ fn task_at(
 }
 
 /// The tables of a plan's threads.
+///
+/// Errors: `MissingKey` if the key `thread` is absent, its value is no array, or an item is no
+/// table. `OutOfRange` if there is no table, or there are more than [`THREADS`]. `NoMemory` if an
+/// allocation was refused. Then nothing was made.
 #[tactic(auto, unfolding(crate::specs::Plan::tables_at))]
 pub fn tables_at<'a>(alloc: Global, document: &'a Table) -> Result<Vec<&'a Table>, BootError>
     ensures tables { Gives (λ found. map (λ table. table_view table.now) found.items) result
@@ -102,6 +106,13 @@ pub fn tables_at<'a>(alloc: Global, document: &'a Table) -> Result<Vec<&'a Table
 }
 
 /// The threads of some tables, in a system of so many CPUs and buffers.
+///
+/// Requires: there is at least one CPU. There are at most [`THREADS`] tables.
+///
+/// Errors: the first fault of the first table that has one, its key `cpu` before `program`.
+/// `MissingKey` if the key is absent or is of another kind. `OutOfRange` if the home is no CPU, or
+/// the program names a buffer that does not exist. `Guest` if the program is no program. `NoMemory`
+/// if an allocation was refused. Then nothing was made.
 pub fn tasks_of(
     alloc: Global,
     tables: &[&Table],

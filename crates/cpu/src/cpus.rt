@@ -1,4 +1,4 @@
-//! One CPU over a layer of message calls.
+//! One CPU over a layer of message calls. No call takes memory or waits.
 
 ghost use Rattle.std.specs.Prelude.{◌≡◌, ◌+◌, ◌<◌, true, false, ◌≤◌, [], ◌∷◌, ◌++◌, Some, None, if◌then◌else◌, length, vec_capacity};
 ghost use Rattle.layer_traits.specs.BufferLaw.{buffer_of, entry_of};
@@ -63,6 +63,8 @@ impl<I: IpcLayer> Cpu<I> {
     }
 
     /// Why the CPU takes no step where no section is under way: `AllEnded` or `TraceFull`.
+    ///
+    /// Requires: the thread that runs, if there is one, has a place in the table of guests.
     #[inline(always)]
     pub fn halted(&self) -> Option<Reason>
         requires { (t : _) → (I.threads self.now.part).current ≡ Some t → t.0 < length self.now.guests.items }
@@ -86,6 +88,8 @@ impl<I: IpcLayer> Cpu<I> {
     /// Why the CPU takes no step: `AllEnded` where each of its threads has ended, and `TraceFull`
     /// where its trace has no room for the call that its thread is about to begin. Neither comes
     /// while a section is under way.
+    ///
+    /// Requires: the thread that runs, if there is one, has a place in the table of guests.
     #[inline(always)]
     pub fn reason(&self) -> Option<Reason>
         requires { (t : _) → (I.threads self.now.part).current ≡ Some t → t.0 < length self.now.guests.items }
@@ -221,6 +225,10 @@ impl<I: IpcLayer> Cpu<I> {
     /// action. `Halted` where it took none, and then nothing changed: `AllEnded` where each home
     /// thread of the CPU has ended, `TraceFull` where its thread is about to begin a call that its
     /// trace has no room for.
+    ///
+    /// Requires: the part and the machine agree. The machine has room for one more event. The part
+    /// is the one of the CPU's number. The CPU's threads, guests and trace agree with what was done
+    /// in the machine. If each poll is one action, the CPU also stands as the step table says.
     #[inline(always)]
     pub fn act(&mut self, m: &mut I::Machine) -> Step
         requires fits { I.Fits self.old.part m.old }
@@ -267,6 +275,10 @@ impl<I: IpcLayer> Cpu<I> {
     /// then nothing changed: `AllEnded` where each home thread of the CPU has ended, `TraceFull`
     /// where its thread is about to begin a call that its trace has no room for. Neither comes
     /// while a section is under way.
+    ///
+    /// Requires: the part and the machine agree. The machine has room for one more event. The part
+    /// is the one of the CPU's number. The CPU's threads, guests and trace agree with what was done
+    /// in the machine. If each poll is one action, the CPU also stands as the step table says.
     pub fn step(&mut self, m: &mut I::Machine) -> Step
         requires fits { I.Fits self.old.part m.old }
         requires room { 0 < I.room m.old }

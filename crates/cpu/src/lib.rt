@@ -1,6 +1,16 @@
 //! One CPU's step table: which section a CPU does next, what each section makes of the block that it
 //! finds, and what its answer makes of the CPU's private state. From it follow that no wake-up is
 //! lost, that a quiet system is stuck, and how many steps a call takes alone.
+//!
+//! A plan is run for 21 steps of CPU 0; `I` is the top of the layers:
+//!
+//! ```rust
+//! let boot = Boot::read(alloc, plan)?;
+//! let mut system = System::<I>::open(alloc, &boot, 21)?;
+//! system.run(&[CpuId(0); 21])?;
+//! let done = system.trace(CpuId(0)); // what its calls did, oldest first
+//! let left = system.buffer(BufId(0)); // what buffer 0 holds
+//! ```
 #![tactic(auto)]
 
 mod cpus;

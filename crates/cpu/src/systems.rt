@@ -1,4 +1,5 @@
-//! The whole system: a machine of message calls and its CPUs.
+//! The whole system: a machine of message calls and its CPUs. Only the calls that open a system
+//! take memory. No call waits.
 
 mod calm;
 mod opening;
@@ -76,12 +77,14 @@ where
     ghost use Rattle.cpu.specs.Observed.{ObservedByTable};
     ghost use Rattle.cpu.specs.Systems.{HaltsByTable, Ran, SamePlan, SteppedByTable, halted_in, reason_of};
 
-    /// Takes one step of `cpu`, which must exist: one local action or one atomic action.
+    /// Takes one step of `cpu`: one local action or one atomic action.
     ///
     /// `Halted` where it took none, and then nothing changed: `AllEnded` where each home thread of
     /// the CPU has ended, `TraceFull` where its thread is about to begin a call that its trace has
     /// no room for, and otherwise `StepsUsed` where the system's room is used. Neither of the first
     /// two comes while the CPU has a section under way.
+    ///
+    /// Requires: the system has a CPU of this number.
     #[inline(always)]
     pub fn step(&mut self, cpu: CpuId) -> Step
         requires { cpu.0 < length self.old.cpus }
@@ -154,8 +157,10 @@ where
         None
     }
 
-    /// Why `cpu`, which must exist, takes no step whatever room the system has: `AllEnded` or
-    /// `TraceFull`, and neither while it has a section under way.
+    /// Why `cpu` takes no step whatever room the system has: `AllEnded` or `TraceFull`, and neither
+    /// while it has a section under way.
+    ///
+    /// Requires: the system has a CPU of this number.
     #[inline(always)]
     pub fn halted(&self, cpu: CpuId) -> Option<Reason>
         requires { cpu.0 < length self.now.cpus }
@@ -212,8 +217,10 @@ where
         Ok(())
     }
 
-    /// What `buffer`, which must exist, holds, front first. A block that a CPU has in its hands
-    /// counts as it was when its lock was freed last.
+    /// What `buffer` holds, front first. A block that a CPU has in its hands counts as it was when
+    /// its lock was freed last.
+    ///
+    /// Requires: the system has a buffer of this number.
     pub fn buffer(&self, buffer: BufId) -> ArrayVec<Msg, CAPACITY>
         requires { buffer.0 < length self.now.caps }
         ensures { result.items ≡ items_of self.now.contents buffer.0 }
@@ -229,8 +236,10 @@ where
         ArrayVec::new()
     }
 
-    /// Whether a call has closed `buffer`, which must exist. A block that a CPU has in its hands
-    /// counts as it was when its lock was freed last.
+    /// Whether a call has closed `buffer`. A block that a CPU has in its hands counts as it was
+    /// when its lock was freed last.
+    ///
+    /// Requires: the system has a buffer of this number.
     pub fn is_closed(&self, buffer: BufId) -> bool
         requires { buffer.0 < length self.now.caps }
         ensures { result ≡ slice_index_or self.now.closed buffer.0 false }
@@ -246,8 +255,10 @@ where
         false
     }
 
-    /// The thread that owns the lock of `buffer`, which must exist. A block that a CPU has in its
-    /// hands counts as it was when its lock was freed last.
+    /// The thread that owns the lock of `buffer`. A block that a CPU has in its hands counts as it
+    /// was when its lock was freed last.
+    ///
+    /// Requires: the system has a buffer of this number.
     pub fn busy(&self, buffer: BufId) -> Option<Tid>
         requires { buffer.0 < length self.now.caps }
         ensures { result ≡ slice_index_or self.now.owners buffer.0 None }
@@ -263,8 +274,10 @@ where
         None
     }
 
-    /// Where `thread`, which must exist, stands. A block that a CPU has in its hands counts as it
-    /// was when its lock was freed last.
+    /// Where `thread` stands. A block that a CPU has in its hands counts as it was when its lock
+    /// was freed last.
+    ///
+    /// Requires: the system has a thread of this number.
     pub fn place(&self, thread: Tid) -> Place
         requires { thread.0 < length self.now.homes }
         ensures { IsPlaceOf self.now thread result }
@@ -278,7 +291,9 @@ where
         Place::Ended
     }
 
-    /// The entries of the calls that took effect on `cpu`, which must exist, oldest first.
+    /// The entries of the calls that took effect on `cpu`, oldest first.
+    ///
+    /// Requires: the system has a CPU of this number.
     pub fn trace(&self, cpu: CpuId) -> &[Entry]
         requires { cpu.0 < length self.now.cpus }
         ensures { result.now ≡ slice_index_or (traces_of self.now) cpu.0 [] }

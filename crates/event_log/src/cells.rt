@@ -1,4 +1,4 @@
-//! Tables whose reads and writes are counted.
+//! Tables whose reads and writes are counted. No call takes memory or waits.
 
 ghost use Rattle.std.specs.Prelude.{◌≡◌, ◌+◌, ◌<◌, ℕ, length, slice_index_or, slice_set};
 
@@ -26,7 +26,9 @@ impl<L: Ledger> Model for Ticks<L> {
 }
 
 impl<L: Ledger> Ticks<L> {
-    /// A count that stands at 0. `blank` is a ledger of one part that no type stands for yet.
+    /// A count that stands at 0. No type stands for `blank` yet.
+    ///
+    /// Requires: `blank` is a ledger of one part. `L` has its name and its parts.
     pub fn fresh(blank: Blank) -> Ticks<L>
         requires name { blank.name ≡ L.name }
         requires parts { blank.parts ≡ L.parts }
@@ -69,6 +71,8 @@ impl<T: Copy + Drop, const N: usize> Cells<T, N> {
     }
 
     /// What cell `i` holds. One tick.
+    ///
+    /// Requires: `i` is less than the number of cells.
     pub fn get<L: Ledger>(&self, i: usize, ticks: &mut Ticks<L>) -> T
         requires { i < length self.now }
         ensures value { result ≡ slice_index_or self.now i result }
@@ -80,6 +84,8 @@ impl<T: Copy + Drop, const N: usize> Cells<T, N> {
     }
 
     /// Puts `value` in cell `i`. One tick.
+    ///
+    /// Requires: `i` is less than the number of cells.
     pub fn set<L: Ledger>(&mut self, i: usize, value: T, ticks: &mut Ticks<L>)
         requires { i < length self.old }
         ensures cells { self.new ≡ slice_set self.old i value }

@@ -1,4 +1,5 @@
-//! Numbers written in decimal digits, as programs, schedules and trace texts spell them.
+//! Numbers written in decimal digits, as programs, schedules and trace texts spell them. No call
+//! takes memory or waits.
 
 ghost use Rattle.std.specs.Prelude.{◌≡◌, ◌≤◌, ◌<◌, ◌^◌, ℕ, List, Some, decimal, IfSome};
 ghost use Rattle.std.specs.Char.{is_ascii_digit};

@@ -1,5 +1,6 @@
-//! The names of the machine's parts, and how many of each a machine may have. Each name is a
-//! number with a type of its own, so that a CPU is never taken for a thread.
+//! The names of the machine's parts, and how many of each a machine may have. Each name is a number
+//! with a type of its own, so that a CPU is never taken for a thread. No call takes memory or
+//! waits.
 
 ghost use Rattle.std.specs.Prelude.{◌≡◌, ◌<◌};
 ghost use Rattle.event_log.specs.declared.ids.TheConstants.{LOCKS};

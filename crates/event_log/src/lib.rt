@@ -1,5 +1,15 @@
 //! The ground of the tower: the numbers that name CPUs, threads, buffers and locks, the atomic
 //! events, a log of events with room, and the definitions that every layer speaks in.
+//!
+//! ```rust
+//! use event_log::{BufId, CpuId, Event, EventLog, LockId};
+//!
+//! let lock = LockId::Buffer(BufId(1));
+//! let mut log = EventLog::with_room(alloc, 2)?;
+//! log.push(Event::Draw { cpu: CpuId(0), lock, ticket: 0 })?;
+//! log.push(Event::Free { cpu: CpuId(0), lock, mark: 7u64 })?;
+//! assert_eq!(rt; log.len(), 2);
+//! ```
 #![tactic(auto)]
 
 mod cells;

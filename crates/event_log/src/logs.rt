@@ -1,4 +1,4 @@
-//! A log of events with room for so many.
+//! A log of events with room for so many. Only `with_room` takes memory. No call waits.
 
 ghost use Rattle.std.specs.Prelude.{◌≡◌, ◌≤◌, ◌<◌, ◌++◌, ◌∷◌, ◌↔◌, [], List, length, slice_get, vec_capacity, IfOk, IsOk, IsErr, OnOk, OnErr, option_map};
 

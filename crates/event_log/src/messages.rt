@@ -1,4 +1,4 @@
-//! What a buffer carries.
+//! What a buffer carries. No call takes memory or waits.
 
 ghost use Rattle.std.specs.Prelude.{◌≡◌, ◌<◌, ◌≤◌, ◌^◌, ◌∷◌, ℕ, [], length, slice_index_or};
 ghost use Rattle.event_log.specs.Messages.{IsMessage, first_word, no_message};
@@ -52,6 +52,8 @@ impl Msg {
     }
 
     /// The message of these words.
+    ///
+    /// Requires: there are one to [`WORDS`] words.
     pub fn new(words: &[u64]) -> Msg
         requires some { 0 < length words.now }
         requires most { length words.now ≤ WORDS }

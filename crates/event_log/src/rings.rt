@@ -1,4 +1,5 @@
-//! A queue of items in a table of a fixed size, where no item is ever moved.
+//! A queue of items in a table of a fixed size, where no item is ever moved. No call takes memory
+//! or waits.
 
 ghost use Rattle.std.specs.Prelude.{◌≡◌, ◌+◌, ◌<◌, ◌≤◌, ◌++◌, ◌∷◌, [], length};
 ghost use Rattle.event_log.specs.declared.ids.TheConstants.{CAPACITY};
@@ -52,7 +53,9 @@ impl<T: Copy + Drop> Ring<T> {
         self.len
     }
 
-    /// Puts `item` behind the others. There must be room. At most two ticks.
+    /// Puts `item` behind the others. At most two ticks.
+    ///
+    /// Requires: there is room. The queue holds fewer than [`CAPACITY`] items.
     pub fn put_in<L: Ledger>(&mut self, item: T, ticks: &mut Ticks<L>)
         requires { length self.old < CAPACITY }
         ensures items { self.new ≡ self.old ++ item ∷ [] }
@@ -77,7 +80,9 @@ impl<T: Copy + Drop> Ring<T> {
         self.len -= 1;
         Some(item)
     }
-    /// Puts `item` behind the others. There must be room.
+    /// Puts `item` behind the others.
+    ///
+    /// Requires: there is room. The queue holds fewer than [`CAPACITY`] items.
     pub fn put(&mut self, item: T)
         requires { length self.old < CAPACITY }
         ensures { self.new ≡ self.old ++ item ∷ [] }

@@ -1,4 +1,5 @@
-//! Registers, instructions and programs.
+//! Registers, instructions and programs. Only `Program::read` and `Program::copy` take memory. No
+//! call waits.
 
 use crate::reading::instructions_in;
 use crate::refusals::{GuestError, GuestFault};

@@ -3,6 +3,15 @@
 //!
 //! A program's next call is a function of what it received: the relation of a program to the calls
 //! that it makes stands in this crate's definitions.
+//!
+//! ```rust
+//! use guest::{Program, Register, Thread};
+//!
+//! let program = Program::read(alloc, &["set r0 7", "send 0 r0", "exit"])?;
+//! let mut thread = Thread::new();
+//! thread.step_local(&program);
+//! assert_eq!(rt; thread.value(Register::Reg0), 7);
+//! ```
 #![tactic(auto)]
 
 mod instructions;

@@ -1,5 +1,5 @@
-//! Reads the lines of a program. One line is one instruction; its pieces are separated by one
-//! space each.
+//! Reads the lines of a program. One line is one instruction; its pieces are separated by one space
+//! each. `instructions_in` takes memory. No call waits.
 
 ghost use Rattle.std.specs.Prelude.{◌≡◌, ◌<◌, ◌≤◌, ◌^◌, ℕ, List, Ok, map, length, All, IfOk};
 ghost use Rattle.event_log.specs.declared.ids.TheConstants.{BUFFERS};
@@ -195,7 +195,12 @@ fn line_at(alloc: Global, text: &str, count: usize, line: usize) -> Result<Instr
     }
 }
 
-/// The instructions of a program's lines, or the first line's fault.
+/// The instructions of a program's lines.
+///
+/// Requires: there is at least one line.
+///
+/// Errors: `At` with the first line that has a fault, counted from 0, and its first fault.
+/// `NoMemory` if an allocation was refused. Then nothing was made.
 pub fn instructions_in(alloc: Global, lines: &[&str]) -> Result<Vec<Instruction>, GuestError>
     requires { 0 < length lines.now }
     ensures instructions { Gives (λ read. read.items) result (program_lines (map (λ line. line.now) lines.now)) }

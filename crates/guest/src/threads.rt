@@ -1,4 +1,5 @@
-//! One thread's private state, and what each instruction makes of it.
+//! One thread's private state, and what each instruction makes of it. No call takes memory or
+//! waits.
 
 use crate::instructions::{Instruction, Into, Program, REGISTERS, Register, Source};
 use event_log::Msg;
@@ -58,6 +59,8 @@ impl Thread {
 
     /// The message that a send takes from here: the number of one register, or those of the first
     /// registers.
+    ///
+    /// Requires: a `from` that names several registers names 1 to [`REGISTERS`] of them.
     #[inline(always)]
     pub fn message(&self, from: Source) -> Msg
         requires { IsSource from }

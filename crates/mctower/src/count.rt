@@ -1,4 +1,5 @@
-//! Counting: each of several CPUs adds 1 to one number, again and again, in critical sections.
+//! Counting: each of several CPUs adds 1 to one number, again and again, in critical sections. All
+//! calls but `number_in` take memory. Only `count_table` waits.
 
 ghost use Rattle.std.specs.Prelude.{◌≡◌, ℕ, ◌+◌, ◌*◌, ◌<◌, ◌≤◌, ◌%◌, ◌^◌, Some, None, IsSome, IfOk, [], length};
 ghost use Rattle.event_log.specs.declared.ids.CpuId.{CpuId};
@@ -100,6 +101,9 @@ fn number_machine<L: OwnedLocks<AddOne>>(
 /// which was 0. The sections are done whole, in rounds of the CPUs from 0 on, and each CPU keeps
 /// its part of the lock over all of its sections.
 ///
+/// Requires: each poll of the lock is one action. `cpus` is at most [`CPUS`](event_log::CPUS).
+/// `times` is at most [`MOST_TIMES`].
+///
 /// Errors: `NoMemory` where the machine or the parts could not be had; then no section was done.
 pub fn count_rounds<L: OwnedLocks<AddOne> + Drop>(
     alloc: Global,
@@ -126,6 +130,9 @@ where
 }
 
 /// The number of an owned machine at rest: how often its lock was given on, modulo 2^64.
+///
+/// Requires: each poll of the lock is one action. The holder of the machine acts for some CPU. The
+/// machine was opened with the number 0. No CPU waits at a lock or holds one.
 pub fn number_in<L: OwnedLocks<AddOne>>(machine: &L::Machine) -> u64
     requires stepwise { L.IsStepwise }
     requires owned { (c : CpuId) × L.ActsFor machine.now c }
@@ -156,6 +163,8 @@ where
 /// Counts over the owned machine with locks of this kind: each of `cpus` CPUs does `times` sections
 /// that add 1.
 ///
+/// Requires: `cpus` is at most [`CPUS`](event_log::CPUS). `times` is at most [`MOST_TIMES`].
+///
 /// Errors: `NoMemory` where memory ran out; then no section was done.
 pub fn count_plain(alloc: Global, cpus: u8, times: u64, lock: LockKind) -> Result<u64, NoMemory>
     requires cpus { cpus ≤ CPUS }
@@ -170,6 +179,8 @@ pub fn count_plain(alloc: Global, cpus: u8, times: u64, lock: LockKind) -> Resul
 
 /// Counts over shared words of locks of this kind: each of `cpus` CPUs does `times` sections that add
 /// 1 to one number, in a thread of its own, as [`counting::count_table`] says.
+///
+/// Requires: `cpus` is at most [`CPUS`](event_log::CPUS). `times` is at most [`MOST_TIMES`].
 ///
 /// Errors: `NoMemory` where memory ran out and `NoThread` where a thread could not be started; then
 /// no section was done, and the threads that were started are joined.

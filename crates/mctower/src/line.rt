@@ -1,4 +1,5 @@
-//! The command line: which order the words after the program's name make.
+//! The command line: which order the words after the program's name make. `read_line` takes memory.
+//! No call waits.
 ghost use Rattle.std.specs.Prelude.{◌≡◌, IfOk, OkIff, codes, map, option_map, true, false};
 ghost use Rattle.clap.specs.Simple.{app_of, subcommand_rows_of};
 ghost use Rattle.clap.specs.Matches.{found_of};
@@ -193,9 +194,11 @@ fn order_named(alloc: Global, name: &str, matches: &ArgMatches<'_>) -> Result<Or
 
 /// Reads the words after the program's name, by the rules of `clap`.
 ///
-/// The order is given exactly where those rules find no fault in the words and each number is in its
-/// range (as `clap` reads a number, so `+2` and `007` are numbers). A request for help and no word at
-/// all are refused. `NoMemory` comes only where memory ran out.
+/// The order is given exactly where those rules find no fault in the words and each number is in
+/// its range (as `clap` reads a number, so `+2` and `007` are numbers).
+///
+/// Errors: `Refused` for all other words, also for a request for help and for no word at all.
+/// `NoMemory` only if memory ran out. Then nothing was done.
 pub fn read_line(alloc: Global, words: &[&str]) -> Result<Order, LineError>
     ensures { Reads (order_of (map (λ w. w.now) words.now)) result }
 {

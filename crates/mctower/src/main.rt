@@ -1,4 +1,16 @@
 //! The program `mctower`: a command line over the thread tower.
+//!
+//! The plan of one thread that sends 7, run for 21 steps of CPU 0, prints its trace text:
+//!
+//! ```text
+//! mctower run --schedule '0*21' < plans/one-send.toml
+//! mctower-trace 1
+//! buffers 1
+//! cap 0 1
+//! e 0 0 send 0 7 0 0
+//! left 0 7
+//! end
+//! ```
 #![tactic(auto)]
 
 ghost use Rattle.std.specs.Prelude.{◌≡◌, false, map};

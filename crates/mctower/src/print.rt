@@ -1,4 +1,5 @@
-//! What the program prints: lines on standard output, and one line for each refusal.
+//! What the program prints: lines on standard output, and one line for each refusal. No call takes
+//! memory or waits, unless the sink's writer does.
 
 ghost use Rattle.std.specs.Prelude.{◌≡◌, IfOk, false, is_err, true};
 ghost use Rattle.std.specs.List.{before_first, flat_map};
@@ -25,6 +26,8 @@ pub(crate) fn put_all<W: Write>(sink: &mut Sink<W>, pieces: &[&[u8]]) -> Result<
 }
 
 /// Writes all pieces and sees that they are out.
+///
+/// Requires: the sink has not failed.
 ///
 /// Errors: `WriteFault` exactly where a write or the flush failed; then a beginning is out.
 pub fn print<W: Write>(sink: &mut Sink<W>, pieces: &[&[u8]]) -> Result<(), WriteFault>

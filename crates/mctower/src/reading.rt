@@ -1,4 +1,4 @@
-//! What the state lines tell of a system, read off it.
+//! What the state lines tell of a system, read off it. No call takes memory or waits.
 
 ghost use Rattle.std.specs.Prelude.{◌≡◌, ◌<◌, ◌≤◌, ℕ, length, slice_index_or};
 ghost use Rattle.event_log.specs.declared.ids.TheConstants.{CPUS, THREADS};

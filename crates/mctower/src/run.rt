@@ -1,4 +1,5 @@
-//! A run of a plan: from the plan's text and a schedule to the trace text.
+//! A run of a plan: from the plan's text and a schedule to the trace text. `run_text` takes memory.
+//! No call waits, unless the sink's writer does.
 
 ghost use Rattle.std.specs.Prelude.{◌≡◌, ◌≤◌, false, length, map, IfOk};
 ghost use Rattle.event_log.specs.declared.ids.TheConstants.{BUFFERS};
@@ -150,7 +151,7 @@ where
 /// last step. The system stands on the lock that the plan names, and has room for as many steps as
 /// the schedule has. Gives the system.
 ///
-/// The sink must not have failed, and the steps are at most `MOST_STEPS`.
+/// Requires: the sink has not failed. There are at most `MOST_STEPS` steps.
 ///
 /// Errors: the first of these. `Boot` where the plan is refused, and why; `BadCpu` where the
 /// schedule names a CPU that the plan has not; `WriteFault` exactly where the sink failed, and then

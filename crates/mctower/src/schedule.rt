@@ -1,4 +1,5 @@
 //! Schedules: which CPU takes each step of a run, read from a text such as `0*10,1,0*3`.
+//! `read_steps` takes memory. No call waits.
 ghost use Rattle.std.specs.Prelude.{◌≡◌, ◌+◌, ◌<◌, ◌≤◌, ◌∷◌, ◌++◌, length, replicate, option_map, IfSome, OnOk, vec_len};
 ghost use Rattle.std.specs.List.{slice_split};
 ghost use Rattle.mctower.specs.Schedule.{cpu_of, item_of, is_comma, schedule_pieces, ReadsSteps, steps_of};

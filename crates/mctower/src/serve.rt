@@ -1,4 +1,5 @@
-//! Serving a command line: reads the order, does it, prints, and gives the exit status.
+//! Serving a command line: reads the order, does it, prints, and gives the exit status. `serve`
+//! takes memory. It may wait: for its worker threads, and for the streams.
 
 ghost use Rattle.std.specs.Prelude.{◌≡◌, ◌≤◌, ◌*◌, ◌⊎◌, IfOk, false, true, length, map, option_map, string_bytes};
 ghost use Rattle.std.specs.List.{flat_map};
@@ -257,6 +258,8 @@ where
 ///
 /// A run is served by the layers that `I` is the top of where its plan names ticket locks, and else
 /// by those that `J` is the top of. One in threads waits for its workers, so it need not return.
+///
+/// Requires: neither `out` nor `err` has failed.
 pub fn serve<
     I: Owned + Drop,
     J: Owned + Drop,

@@ -1,4 +1,5 @@
-//! The state lines: what `run` tells of the system that a schedule's steps left.
+//! The state lines: what `run` tells of the system that a schedule's steps left. No call takes
+//! memory or waits, unless the sink's writer does.
 
 ghost use Rattle.std.specs.Prelude.{◌≡◌, ℕ, List, Some, None, false, is_err, map, ◌≤◌};
 ghost use Rattle.tracer.specs.Sinks.{WentOut, has_failed};
@@ -186,6 +187,8 @@ impl State {
     }
 
     /// Tells the state of a system by its state lines, if the sink takes them. Takes no memory.
+    ///
+    /// Requires: the sink has not failed.
     pub fn write_report<W: Write>(&self, sink: &mut Sink<W>)
         requires { has_failed sink.old ≡ false }
         ensures { WentOut W.contents sink.old sink.new (state_text self.now.halted.items (places_in self.now) self.now.is_quiet) }

@@ -1,5 +1,6 @@
-//! The command `threads`: a plan is run with a worker thread for each CPU, its trace text is put out,
-//! and why each worker stopped is told.
+//! The command `threads`: a plan is run with a worker thread for each CPU, its trace text is put
+//! out, and why each worker stopped is told. `serve_threads` takes memory and waits for the
+//! workers.
 
 ghost use Rattle.std.specs.Prelude.{◌≡◌, ◌≤◌, ◌⊎◌, IfOk, false, is_err, map, true};
 ghost use Rattle.std.specs.List.{flat_map};
@@ -127,6 +128,8 @@ fn work_bytes<O: Write, T: Threads + Wait + Sync>(
 /// hold at the end.
 ///
 /// It waits for the workers, so it need not return.
+///
+/// Requires: `out` has not failed.
 ///
 /// Errors: `NoMemory` and `ReadFault` where the input could not be read; what refuses the plan;
 /// `NoMemory` and `NoThread` where no worker took a step; `WriteFault` where the sink failed, and

@@ -1,9 +1,10 @@
-//! Serving over the tower of all layers. A proof of a function that names a nest of many types takes
-//! minutes, the more the more it has of other types and values. So what is served is one value, a
-//! [`Session`], behind a trait that names no layer; each function here names a few layers, over any
-//! that meet the trait beneath, climbs with one tower at a time, and hands the top on ([`Next`]). Two
-//! functions name a lock of an owned machine: the first tower stands on ticket locks, the second on
-//! locks with grant words.
+//! Serving over the tower of all layers. A proof of a function that names a nest of many types
+//! takes minutes, the more the more it has of other types and values. So what is served is one
+//! value, a [`Session`], behind a trait that names no layer; each function here names a few layers,
+//! over any that meet the trait beneath, climbs with one tower at a time, and hands the top on
+//! ([`Next`]). Two functions name a lock of an owned machine: the first tower stands on ticket
+//! locks, the second on locks with grant words. `serve_tower` takes memory and may wait, as `serve`
+//! does.
 
 ghost use Rattle.std.specs.Prelude.{◌≡◌, ◌⊎◌, false, map, true};
 ghost use Rattle.tracer.specs.Sinks.{has_failed, is_flushed};
@@ -66,6 +67,8 @@ pub trait Serving {
     ghost Serves: { Self → ℕ → Self → Type 0 };
 
     /// Serves it, and gives the exit status. The first top stands on ticket locks.
+    ///
+    /// Requires: it may be served.
     fn serve<I: Stepwise + Drop, J: Stepwise + Drop>(&mut self) -> u8
     where
         I::Machine: Drop,
@@ -121,6 +124,8 @@ trait Next {
     type Served: Serving;
 
     /// Goes on with the next tower, or serves.
+    ///
+    /// Requires: the session may be served.
     fn next<I: Stepwise + Drop>(session: &mut Self::Served) -> u8
     where
         I::Machine: Drop,
@@ -219,6 +224,8 @@ fn over_tower<V: Serving>(session: &mut V) -> u8
 
 /// [`serve`] over the whole tower, over the locks of one owned machine, ticket locks or locks with
 /// grant words, of which each poll is one action. A plan's run stands on the lock that the plan names.
+///
+/// Requires: neither `out` nor `err` has failed.
 pub fn serve_tower<R: Read, O: Write, E: Write, T: Threads + Wait + Sync>(
     rt: &T,
     alloc: Global,

@@ -1,4 +1,15 @@
 //! Queues of threads, over tables of links.
+//!
+//! ```rust
+//! use event_log::Tid;
+//! use thread_blocks::ThreadQueue;
+//!
+//! let mut queue = ThreadQueue::new();
+//! queue.push(Tid(3));
+//! queue.push(Tid(1));
+//! assert_eq!(rt; queue.pop(), Some(Tid(3)));
+//! assert_eq!(rt; queue.len(), 1);
+//! ```
 #![tactic(auto)]
 
 mod links;

@@ -1,4 +1,4 @@
-//! One direction of a queue's links.
+//! One direction of a queue's links. No call takes memory or waits.
 
 ghost use Rattle.std.specs.Prelude.{◌≡◌, ◌+◌, ◌<◌, ◌≤◌, None, IfSome, length};
 ghost use Rattle.event_log.specs.declared.ids.TheConstants.{THREADS};
@@ -29,6 +29,9 @@ impl Links {
     }
 
     /// What this node leads to. At most one tick.
+    ///
+    /// Requires: there is a cell for each of the [`THREADS`] threads. A `node` that is a thread has
+    /// a number less than [`THREADS`].
     pub fn get<L: Ledger>(&self, node: Option<Tid>, ticks: &mut Ticks<L>) -> Option<Tid>
         requires length { length self.now.cells ≡ THREADS }
         requires node { IfSome node (λ t. t.0 < THREADS) }
@@ -42,6 +45,9 @@ impl Links {
     }
 
     /// Has this node lead to another, and changes no other node. At most one tick.
+    ///
+    /// Requires: there is a cell for each of the [`THREADS`] threads. A `node` that is a thread has
+    /// a number less than [`THREADS`].
     pub fn set<L: Ledger>(&mut self, node: Option<Tid>, leads: Option<Tid>, ticks: &mut Ticks<L>)
         requires length { length self.old.cells ≡ THREADS }
         requires node { IfSome node (λ t. t.0 < THREADS) }

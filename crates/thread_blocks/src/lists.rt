@@ -1,4 +1,4 @@
-//! The threads that were taken out of a queue at once.
+//! The threads that were taken out of a queue at once. No call takes memory or waits.
 
 ghost use Rattle.std.specs.Prelude.{◌≡◌, ◌<◌, ◌++◌, ◌∷◌, [], false, length, MatchOption};
 ghost use Rattle.event_log.specs.declared.ids.TheConstants.{THREADS};
@@ -67,7 +67,9 @@ impl ThreadList {
         Some(self.threads.remove(0))
     }
 
-    /// Moves all threads behind those of `to`, in which none of them stands, and keeps their order.
+    /// Moves all threads behind those of `to`, and keeps their order.
+    ///
+    /// Requires: no thread stands in both.
     pub fn drain_into(&mut self, to: &mut ThreadQueue)
         requires { AreApart self.old to.old }
         ensures to { to.new ≡ to.old ++ self.old }

@@ -1,4 +1,4 @@
-//! A queue of threads.
+//! A queue of threads. No call takes memory or waits.
 
 ghost use Rattle.std.specs.Prelude.{◌≡◌, ◌+◌, ◌*◌, ◌<◌, ◌≤◌, ◌++◌, ◌∷◌, [], ℕ, List, false, length, MatchOption};
 ghost use Rattle.event_log.specs.declared.ids.TheConstants.{THREADS};
@@ -72,7 +72,9 @@ impl ThreadQueue {
         is_member(&self.members, t, ticks)
     }
 
-    /// Puts `t`, which does not stand in the queue, behind the others. At most 8 ticks.
+    /// Puts `t` behind the others. At most 8 ticks.
+    ///
+    /// Requires: the number of `t` is less than [`THREADS`]. `t` does not stand in the queue yet.
     pub fn push_in<L: Ledger>(&mut self, t: Tid, ticks: &mut Ticks<L>)
         requires known { t.0 < THREADS }
         requires new { is_in t self.old ≡ false }
@@ -131,8 +133,10 @@ impl ThreadQueue {
         );
         true
     }
-    /// Moves all threads behind those of `to`, in which none of them stands, and keeps their order.
-    /// At most 16 ticks for each thread that is moved.
+    /// Moves all threads behind those of `to`, and keeps their order. At most 16 ticks for each
+    /// thread that is moved.
+    ///
+    /// Requires: no thread stands in both.
     pub fn drain_in<L: Ledger>(&mut self, to: &mut ThreadQueue, ticks: &mut Ticks<L>)
         requires { AreApart self.old to.old }
         ensures to { to.new ≡ to.old ++ self.old }
@@ -151,7 +155,9 @@ impl ThreadQueue {
         contains_from::<Brand>(self, t, Blank::new(1))
     }
 
-    /// Puts `t`, which does not stand in the queue, behind the others.
+    /// Puts `t` behind the others.
+    ///
+    /// Requires: the number of `t` is less than [`THREADS`]. `t` does not stand in the queue yet.
     pub fn push(&mut self, t: Tid)
         requires known { t.0 < THREADS }
         requires new { is_in t self.old ≡ false }
@@ -189,7 +195,9 @@ impl ThreadQueue {
         taken
     }
 
-    /// Moves all threads behind those of `to`, in which none of them stands, and keeps their order.
+    /// Moves all threads behind those of `to`, and keeps their order.
+    ///
+    /// Requires: no thread stands in both.
     pub fn drain_into(&mut self, to: &mut ThreadQueue)
         requires { AreApart self.old to.old }
         ensures to { to.new ≡ to.old ++ self.old }

@@ -1,4 +1,4 @@
-//! The verdict on a text.
+//! The verdict on a text. No call takes memory or waits.
 
 ghost use Rattle.std.specs.Prelude.{◌≡◌};
 ghost use Rattle.tracer.specs.declared.verdicts.Verdict.TheVariants.{Yes as SaysYes};

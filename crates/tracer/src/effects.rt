@@ -1,4 +1,4 @@
-//! What an effect does to the items of a buffer.
+//! What an effect does to the items of a buffer. No call takes memory or waits.
 
 ghost use Rattle.std.specs.Prelude.{◌≡◌, ◌≤◌};
 ghost use Rattle.event_log.specs.declared.ids.TheConstants.{CAPACITY};
@@ -42,7 +42,12 @@ fn take(items: &mut ArrayVec<Msg, CAPACITY>, value: &Msg) -> Result<(), Reason>
 
 /// Does an effect of this kind on the items of a buffer of this capacity that is closed or not.
 ///
-/// Errors: the first reason against it; then nothing changed.
+/// Requires: the capacity is at most [`CAPACITY`].
+///
+/// Errors: `CloseState` if a send finds the buffer closed, or a call that found it closed finds it
+/// open. `Full` if a send finds as many items as the capacity. `EmptyTake` if a receive finds no
+/// item, and `WrongValue` if it finds another first item. `NotEmpty` if a receive that found the
+/// buffer closed finds items. Then nothing changed.
 pub fn act(
     items: &mut ArrayVec<Msg, CAPACITY>,
     capacity: usize,

@@ -1,4 +1,4 @@
-//! An entry among the buffers.
+//! An entry among the buffers. No call takes memory or waits.
 
 ghost use Rattle.std.specs.Prelude.{◌≡◌, ◌<◌, map};
 ghost use Rattle.event_log.specs.declared.ids.TheConstants.{ENTRIES};
@@ -9,7 +9,9 @@ use crate::tally::Tally;
 use crate::verdicts::Reason;
 use event_log::Entry;
 
-/// Does the effect of an entry whose numbers are in range on its buffer.
+/// Does the effect of an entry on its buffer.
+///
+/// Requires: the entry's op and its pos are less than [`ENTRIES`](event_log::ENTRIES).
 ///
 /// Errors: `Range` where there is no such buffer, else the first reason against the entry; then
 /// nothing changed.

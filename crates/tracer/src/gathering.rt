@@ -1,4 +1,4 @@
-//! One order of the traces of several CPUs.
+//! One order of the traces of several CPUs. Only `gather` takes memory. No call waits.
 
 ghost use Rattle.std.specs.Prelude.{◌≡◌, ◌<◌, ◌≤◌, ◌+◌, ◌^◌, ℕ, List, length, map, sum_by, vec_len, slice_get};
 ghost use Rattle.std.specs.Prelude.{slice_index, IfOk, IsErrOf, IsTrue, ◌↔◌, IfSome, IfNone, option_map};

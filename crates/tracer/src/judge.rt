@@ -1,4 +1,4 @@
-//! The judge of a trace text.
+//! The judge of a trace text. No call takes memory or waits.
 
 ghost use Rattle.std.specs.Prelude.{◌≡◌, ◌+◌, ◌≤◌, ◌<◌, ◌==◌, ◌&&◌, ℕ, length, map, nat_lt, slice_get, true};
 ghost use Rattle.event_log.specs.declared.ids.TheConstants.{BUFFERS};

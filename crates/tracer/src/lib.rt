@@ -1,4 +1,12 @@
 //! Traces: the order of several traces, the text of a trace, and the judge of such a text.
+//!
+//! ```rust
+//! use tracer::{Reason, Verdict, check};
+//!
+//! let text = b"mctower-trace 1\nbuffers 1\ncap 0 1\ne 0 0 send 0 7 0 0\nleft 0 7\nend\n";
+//! assert_eq!(rt; check(text), Verdict::Yes);
+//! assert_eq!(rt; check(b"mctower-trace 9\n"), Verdict::No(1, Reason::Spelling));
+//! ```
 #![tactic(auto)]
 
 mod checking;

@@ -1,4 +1,4 @@
-//! The lines of a trace text, read from their pieces.
+//! The lines of a trace text, read from their pieces. No call takes memory or waits.
 
 ghost use Rattle.std.specs.Prelude.{◌≡◌, ◌≤◌, ◌<◌, IfOk, codes};
 ghost use Rattle.event_log.specs.declared.ids.TheConstants.{ENTRIES};
@@ -83,6 +83,9 @@ fn value_in(kind: Kind, piece: &[u8]) -> Result<Msg, Reason>
 }
 
 /// The digits of the entry that the pieces behind its first word spell.
+///
+/// Errors: `Spelling` if a piece is missing or left over, is no number where one is wanted, or
+/// names no kind.
 #[tactic(auto, unfolding(crate::specs::Judging::entry_digits))]
 #[inline]
 pub fn entry_digits(pieces: Pieces<'_>) -> Result<EntryDigits<'_>, Reason>
@@ -108,7 +111,9 @@ pub fn entry_digits(pieces: Pieces<'_>) -> Result<EntryDigits<'_>, Reason>
     })
 }
 
-/// The entry of these digits, where each number is in its range.
+/// The entry of these digits.
+///
+/// Errors: `Range` if a piece spells no number in its range, or a message of too many words.
 #[tactic(auto, unfolding(crate::specs::Judging::entry_in))]
 #[inline]
 pub fn entry_in(digits: EntryDigits<'_>) -> Result<Entry, Reason>
@@ -134,6 +139,8 @@ pub fn entry_in(digits: EntryDigits<'_>) -> Result<Entry, Reason>
 }
 
 /// The digits of the number of buffers.
+///
+/// Errors: `Spelling` if the pieces are not the word `buffers` and one number.
 #[tactic(auto, unfolding(crate::specs::Judging::count_digits))]
 pub fn count_digits(pieces: Pieces<'_>) -> Result<&[u8], Reason>
     ensures { GivesOrReason (λ x. x.now) result (count_digits (left_of pieces.entry)) }
@@ -145,6 +152,8 @@ pub fn count_digits(pieces: Pieces<'_>) -> Result<&[u8], Reason>
 }
 
 /// The digits of the capacity of buffer `b`.
+///
+/// Errors: `Spelling` if the pieces are not the word `cap`, the number `b` and one number.
 #[tactic(auto, unfolding(crate::specs::Judging::capacity_digits))]
 pub fn capacity_digits(b: u64, pieces: Pieces<'_>) -> Result<&[u8], Reason>
     ensures { GivesOrReason (λ x. x.now) result (capacity_digits b (left_of pieces.entry)) }
@@ -160,6 +169,9 @@ pub fn capacity_digits(b: u64, pieces: Pieces<'_>) -> Result<&[u8], Reason>
 }
 
 /// The pieces of the items of buffer `b`, in a text of this version.
+///
+/// Errors: `Spelling` if the first pieces are not the word `left` and the number `b`, or a later
+/// one is no message as a text of this version spells it.
 #[tactic(auto, unfolding(crate::specs::Judging::left_digits))]
 pub fn left_digits(version: Version, b: u64, pieces: Pieces<'_>) -> Result<Pieces<'_>, Reason>
     ensures { GivesOrReason left_of result (left_digits version b (left_of pieces.entry)) }

@@ -1,4 +1,4 @@
-//! A text cut at a byte, and the pieces of a line.
+//! A text cut at a byte, and the pieces of a line. No call takes memory or waits.
 
 ghost use Rattle.std.specs.Prelude.{◌≡◌, ◌+◌, ◌≤◌, ◌==◌, ◌∷◌, [], ℕ, length, IfNone, IfSome, IfOk};
 ghost use Rattle.std.specs.List.{slice_split};
@@ -30,6 +30,8 @@ pub struct Pieces<'a> {
 }
 
 /// The next piece, and the pieces behind it.
+///
+/// Errors: `Spelling` if no piece is left.
 #[inline(always)]
 pub fn piece(pieces: Pieces<'_>) -> Result<(&[u8], Pieces<'_>), Reason>
     ensures { GivesOrReason (λ x. (x.0.now, left_of x.1)) result (piece_at (left_of pieces.entry)) }
@@ -43,7 +45,9 @@ pub fn piece(pieces: Pieces<'_>) -> Result<(&[u8], Pieces<'_>), Reason>
     }
 }
 
-/// The pieces behind the next one, which must be `word`.
+/// The pieces behind the next one.
+///
+/// Errors: `Spelling` if no piece is left, or the next one is not `word`.
 pub fn word<'a>(word: &[u8], pieces: Pieces<'a>) -> Result<Pieces<'a>, Reason>
     ensures { GivesOrReason left_of result (word_at word.now (left_of pieces.entry)) }
 {
@@ -54,7 +58,9 @@ pub fn word<'a>(word: &[u8], pieces: Pieces<'a>) -> Result<Pieces<'a>, Reason>
     Ok(rest)
 }
 
-/// The next piece, which must spell a number, and the pieces behind it.
+/// The next piece, a number, and the pieces behind it.
+///
+/// Errors: `Spelling` if no piece is left, or the next one spells no number.
 #[inline(always)]
 pub fn digits(pieces: Pieces<'_>) -> Result<(&[u8], Pieces<'_>), Reason>
     ensures { GivesOrReason (λ x. (x.0.now, left_of x.1)) result (digits_at (left_of pieces.entry)) }
@@ -66,7 +72,9 @@ pub fn digits(pieces: Pieces<'_>) -> Result<(&[u8], Pieces<'_>), Reason>
     Ok((front, rest))
 }
 
-/// That no piece is left.
+/// Tests that no piece is left.
+///
+/// Errors: `Spelling` if a piece is left.
 pub fn ended(pieces: Pieces<'_>) -> Result<(), Reason>
     ensures { result ≡ ended (left_of pieces.entry) }
 {
@@ -76,7 +84,9 @@ pub fn ended(pieces: Pieces<'_>) -> Result<(), Reason>
     }
 }
 
-/// The number that a piece spells, where it is at most `most`.
+/// The number that a piece spells, at most `most`.
+///
+/// Errors: `Range` if the piece spells no number, or one that is more than `most`.
 #[inline(always)]
 pub fn in_range(most: u64, digits: &[u8]) -> Result<u64, Reason>
     ensures exact { result ≡ in_range most digits.now }

@@ -1,4 +1,5 @@
-//! A writer that remembers whether it failed and whether it was flushed.
+//! A writer that remembers whether it failed and whether it was flushed. No call takes memory or
+//! waits, unless its writer does.
 
 ghost use Rattle.std.specs.Prelude.{◌≡◌, ◌<◌, length, take, is_err, Bool, true, false, if◌then◌else◌};
 ghost use Rattle.std.specs.Io.KnownBytes.{Keeps};
@@ -53,6 +54,8 @@ impl<W: Write> Sink<W> {
 
     /// Writes all of `piece`, by as many writes as the writer needs.
     ///
+    /// Requires: the sink has not failed.
+    ///
     /// Errors: `WriteFault` exactly where a write failed; then a beginning of `piece` is out, and
     /// the sink has failed. Either way it is not flushed.
     pub fn put(&mut self, piece: &[u8]) -> Result<(), WriteFault>
@@ -76,6 +79,8 @@ impl<W: Write> Sink<W> {
     }
 
     /// Asks the writer to pass on what it holds back.
+    ///
+    /// Requires: the sink has not failed.
     ///
     /// Errors: `WriteFault` exactly where the writer answers an error; then the sink has failed, and
     /// is as little flushed as before.

@@ -1,4 +1,4 @@
-//! What is known of a buffer while the entries are judged.
+//! What is known of a buffer while the entries are judged. No call takes memory or waits.
 
 ghost use Rattle.std.specs.Prelude.{◌≡◌, ◌+◌, ◌≤◌, ◌<◌};
 ghost use Rattle.event_log.specs.declared.ids.TheConstants.{CAPACITY, ENTRIES};
@@ -29,6 +29,8 @@ impl Tally {
     ghost use Rattle.tracer.specs.Tallies.{seen_in, StepsTo};
 
     /// A buffer that had no effect.
+    ///
+    /// Requires: the capacity is at most [`CAPACITY`].
     pub fn new(capacity: usize) -> Tally
         requires { capacity ≤ CAPACITY }
         ensures { seen_in result ≡ fresh capacity }
@@ -74,9 +76,13 @@ impl Tally {
         }
     }
 
-    /// Does the effect of an entry whose numbers are in range.
+    /// Does the effect of an entry.
     ///
-    /// Errors: the first reason against the entry here; then nothing changed.
+    /// Requires: the entry's op and its pos are less than [`ENTRIES`](event_log::ENTRIES).
+    ///
+    /// Errors: `Op` if the op is not the number of entries so far. `Pos` if the pos is not the
+    /// number of those that are counted with its kind. Else the first reason against the effect.
+    /// Then nothing changed.
     #[tactic(auto, unfolding(crate::specs::Judging::entry_on))]
     pub fn enter(&mut self, entry: &Entry) -> Result<(), Reason>
         requires { (entry.now.op < ENTRIES) × (entry.now.pos < ENTRIES) }

@@ -1,4 +1,4 @@
-//! What a trace text is judged to be.
+//! What a trace text is judged to be. No call takes memory or waits.
 
 ghost use Rattle.std.specs.Prelude.{◌≡◌};
 ghost use Rattle.tracer.specs.Reasons.{reason_name};

@@ -1,4 +1,4 @@
-//! The versions of the trace text.
+//! The versions of the trace text. No call takes memory or waits.
 
 ghost use Rattle.std.specs.Prelude.{◌≡◌};
 ghost use Rattle.tracer.specs.TraceText.{version_word};

@@ -1,4 +1,4 @@
-//! Messages, spelled as their words with commas between them.
+//! Messages, spelled as their words with commas between them. No call takes memory or waits.
 
 ghost use Rattle.std.specs.Prelude.{◌≡◌, length};
 ghost use Rattle.std.specs.List.{list_all};

@@ -1,4 +1,5 @@
-//! The text of a trace, written to a sink.
+//! The text of a trace, written to a sink. No call takes memory or waits, unless the sink's writer
+//! does.
 
 ghost use Rattle.std.specs.Prelude.{◌≡◌, ◌++◌, ◌∷◌, [], length, map, is_err, false, decimal, flat_map, codes};
 ghost use Rattle.tracer.specs.Sinks.{WentOut, has_failed};
@@ -205,10 +206,10 @@ fn put_left<W: Write>(
 /// each buffer, front first. The text is of the lowest version that can spell the entries. By as
 /// many writes as the writer needs; it takes no memory.
 ///
-/// The sink must not have failed, and there must be such a text: 1 to `BUFFERS` buffers of capacity
-/// 1 to `CAPACITY`, at most `ENTRIES` entries whose numbers are in range, with the message 0 where
-/// an effect has none, and what is left of each buffer, where no message has several words unless
-/// one of an entry has.
+/// Requires: the sink has not failed. There are 1 to `BUFFERS` buffers, each of capacity 1 to
+/// `CAPACITY`. There are at most `ENTRIES` entries, and their numbers are in range. An entry whose
+/// effect has no message has the message 0. `left` has a list for each buffer. A message in it has
+/// several words only if one of an entry has.
 ///
 /// Errors: `WriteFault` exactly where the sink failed in this call; then a beginning of the text is
 /// out.

@@ -1,4 +1,5 @@
-//! What a system tells for the question whether it is quiet, and how long its traces are.
+//! What a system tells for the question whether it is quiet, and how long its traces are. No call
+//! takes memory or waits.
 
 ghost use Rattle.std.specs.Prelude.{◌≡◌, ◌<◌, length};
 ghost use Rattle.cpu.specs.Calm.{rests};

@@ -1,4 +1,4 @@
-//! Systems at boot.
+//! Systems at boot. The calls here take memory. None waits.
 
 ghost use Rattle.std.specs.Prelude.{◌≡◌, ℕ, ◌+◌, ◌≤◌, ◌∷◌, ◌++◌, IfOk, Some, None, [], length, map, replicate, slice_get, slice_index_or, vec_capacity};
 ghost use Rattle.event_log.specs.declared.ids.TheConstants.{CPUS, THREADS};
@@ -18,7 +18,10 @@ impl<I: IpcLayer> Cpu<I> {
     /// A CPU before its first step, with the guests of its home threads, in a machine of threads of
     /// these homes and of so many buffers. Its trace has room for `limit` entries.
     ///
-    /// Errors: `NoMemory` where an allocation was refused.
+    /// Requires: there are at most [`THREADS`](event_log::THREADS) homes.
+    ///
+    /// Errors: `NoMemory` if an allocation was refused. Then nothing was made, and the guests are
+    /// dropped.
     pub fn at_boot(
         alloc: Global,
         number: CpuId,
@@ -105,7 +108,14 @@ where
     /// Each CPU's threads are ready by rising number, and every buffer is empty. All memory is taken
     /// here.
     ///
-    /// Errors: `NoMemory` where an allocation was refused.
+    /// Requires: there are 1 to `CPUS` tables. There are at most `BUFFERS` buffers, each of
+    /// capacity 1 to `CAPACITY`. There are at most `THREADS` threads, and each home is one of the
+    /// CPUs. Each table has a place for each thread. It has a guest before its first instruction at
+    /// the threads of its CPU, and none at the others. Each guest's program names only buffers of
+    /// the system.
+    ///
+    /// Errors: `NoMemory` if an allocation was refused. Then nothing was made, and the tables are
+    /// dropped.
     pub fn with_tables(
         alloc: Global,
         caps: &[u8],

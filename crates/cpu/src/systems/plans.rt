@@ -1,4 +1,4 @@
-//! The system of a plan.
+//! The system of a plan. `guests_of` and `System::open` take memory. No call waits.
 
 ghost use Rattle.std.specs.Prelude.{◌≡◌, ◌<◌, IfOk, None, length, map, replicate, slice_index_or};
 ghost use Rattle.boot.specs.Plan.{IsPlan};
@@ -43,6 +43,9 @@ fn guest_at(
 }
 
 /// The guests of a CPU of a plan.
+///
+/// Errors: `NoMemory` if an allocation was refused. Then nothing was made, and the plan is as it
+/// was.
 pub fn guests_of(alloc: Global, boot: &Boot, number: CpuId) -> Result<Vec<Option<Guest>>, NoMemory>
     ensures { IfOk result (λ guests. guests.items ≡ guests_for boot.now number.0) }
 {
@@ -81,7 +84,8 @@ where
     /// The system of a plan before its first step, with room for `room` steps: each CPU's threads
     /// are ready by rising number, and every buffer is empty. All memory is taken here.
     ///
-    /// Errors: `NoMemory` where an allocation was refused.
+    /// Errors: `NoMemory` if an allocation was refused. Then nothing was made, and the plan is as
+    /// it was.
     pub fn open(alloc: Global, boot: &Boot, room: usize) -> Result<System<I>, NoMemory>
         ensures caps { IfOk result (λ s. s.caps ≡ boot.now.caps) }
         ensures homes { IfOk result (λ s. s.homes ≡ homes_for boot.now) }

@@ -1,4 +1,4 @@
-//! Whether a system is quiet.
+//! Whether a system is quiet. No call takes memory or waits.
 
 ghost use Rattle.std.specs.Prelude.{◌≡◌, ◌<◌, ◌↔◌, true, length};
 
