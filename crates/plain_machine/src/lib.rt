@@ -8,6 +8,8 @@ mod line_words;
 mod notes;
 mod plain;
 #[cfg(test)]
+mod stored_words;
+#[cfg(test)]
 mod tests;
 
 pub use line_words::{GrantLockWords, Granting, LineWords, LockWords};

@@ -4,6 +4,7 @@ ghost use Rattle.std.specs.Prelude.{◌≡◌, ◌+◌, ◌%◌, ◌^◌, ◌<�
 ghost use Rattle.event_log.specs.Grants.{grant_lock_phase};
 ghost use Rattle.event_log.specs.WordsLog.{lock_phase, Idle};
 
+use crate::stored_words::StoredWords;
 use crate::{GrantLockWords, Granting, LineWords, LockWords, Plain};
 use event_log::{BufId, CPUS, CpuId, LockId, NoMemory};
 use layer_traits::{Edit, GrantWords, Payload, Words};
@@ -177,6 +178,23 @@ fn a_granted_section_adds_one(rt: HostRuntime) -> Result<(), Fail> {
         }
     );
     assert_eq!(rt; home, Some(&41));
+    Ok(())
+}
+
+// The second finds the lock given on by what the first stored.
+#[test]
+fn a_lock_is_given_on_by_a_store(rt: HostRuntime) -> Result<(), Fail> {
+    let lock = LockId::Buffer(BufId(0));
+    let mut machine = machine_with::<StoredWords>(rt.alloc(), lock, 40, 6)?;
+    let Some(first) = add_one(&mut machine, CpuId(0), lock) else {
+        panic!(rt; "nobody is before the first");
+    };
+    let Some(second) = add_one(&mut machine, CpuId(0), lock) else {
+        panic!(rt; "the first has gone");
+    };
+    let home = machine.home(lock);
+    assert_eq!(rt; (first, second), (40, 41));
+    assert_eq!(rt; home, Some(&42));
     Ok(())
 }
 

@@ -1,5 +1,6 @@
 pub mod Kinds
 pub mod KindLaws
+pub mod Stored
 pub mod Layout
 pub mod Views
 pub mod Rule

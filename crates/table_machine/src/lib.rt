@@ -11,6 +11,8 @@ mod plays;
 mod rule;
 mod seats;
 mod shared;
+#[cfg(test)]
+mod stored_words;
 mod table_words;
 #[cfg(test)]
 mod tests;

@@ -10,6 +10,7 @@ ghost use Rattle.layer_traits.specs.WordsProtocol.{sections};
 ghost use Rattle.table_machine.specs.SeatViews.{IsOver, new_seat_view, new_seat_views};
 ghost use Rattle.table_machine.specs.declared.tests.TheConstants.{LOCK, OTHER};
 
+use crate::stored_words::StoredWords;
 use crate::{GrantShared, Key, Shared, TableWords, TicketWords, WaiterWords, meet};
 use event_log::{BufId, CpuId, LockId, NoMemory};
 use layer_traits::{Edit, GrantWords, Payload, Words};
@@ -383,5 +384,38 @@ fn the_second_waits_at_its_own_grant_word(rt: HostRuntime) -> Result<(), Fail> {
     };
     assert_eq!(rt; found, 41);
     gives(&mut b, B, LOCK, late, found);
+    Ok(())
+}
+
+// Tickets 0 and 1 are served one after the other. The second CPU draws 2, and the first waits with 3.
+#[test]
+fn a_lock_is_given_on_by_a_store(rt: HostRuntime) -> Result<(), Fail> {
+    let given = vec![in rt.alloc(); (LOCK, 40), (OTHER, 7)]?;
+    let (shared, mut keys) = Shared::<AddOne, StoredWords>::open(rt.alloc(), given, 2)?;
+    let second = keys.pop().expect(&rt, "the key of the second CPU");
+    let first = keys.pop().expect(&rt, "the key of the first CPU");
+    let mut a = shared.seat(first);
+    let mut b = shared.seat(second);
+    assert_eq!(rt; adds_one(&rt, &mut a, A, LOCK), 40);
+    assert_eq!(rt; adds_one(&rt, &mut b, B, LOCK), 41);
+    let early = draws(&mut b, B, LOCK);
+    let late = draws(&mut a, A, LOCK);
+    assert_eq!(rt; (early, late), (2, 3));
+    let None = looks(&mut a, A, LOCK, late) else {
+        panic!(rt; "it was the second's turn");
+    };
+    let Some(found) = looks(&mut b, B, LOCK, early) else {
+        panic!(rt; "two were served before");
+    };
+    assert_eq!(rt; found, 42);
+    frees(&mut b, B, LOCK, early, found);
+    let Some(found) = looks(&mut a, A, LOCK, late) else {
+        panic!(rt; "it was the first's turn");
+    };
+    assert_eq!(rt; found, 43);
+    frees(&mut a, A, LOCK, late, found);
+    let keys = vec![in rt.alloc(); a.back(), b.back()]?;
+    let blocks = shared.close(keys);
+    assert_eq!(rt; blocks.as_slice(), [(LOCK, 44), (OTHER, 7)].as_slice());
     Ok(())
 }

@@ -1,0 +1,50 @@
+//! An example of another lock: a ticket lock that is given on by a store. It stands in the crate for
+//! its tests alone.
+
+ghost use Rattle.std.specs.Prelude.{◌≡◌, ℕ, ◌+◌, ◌%◌, ◌^◌, ◌<◌, ◌≤◌, ◌==◌};
+ghost use Rattle.event_log.specs.declared.ids.TheConstants.{CPUS};
+
+use crate::LineWords;
+
+/// The words of a ticket lock whose holder gives it on by a store, and the ticket that is served: a
+/// give stores for the ticket after it, and is not told which that is. All are modulo 2^64.
+#[derive(Clone, Copy, Debug, PartialEq, Eq)]
+pub struct StoredWords {
+    /// The ticket that the next take gives: how many were taken.
+    pub next: u64,
+    /// What was stored last: the ticket whose look hits.
+    pub serving: u64,
+    /// The ticket that is served: that of the CPU inside, where there is one.
+    pub served: u64,
+}
+
+impl LineWords for StoredWords {
+    ghost Fit = { λ taken given w. (w.next ≡ taken % 2 ^ 64) × (w.serving ≡ given % 2 ^ 64) × (w.served ≡ given % 2 ^ 64) };
+
+    fn fresh() -> StoredWords {
+        StoredWords {
+            next: 0,
+            serving: 0,
+            served: 0,
+        }
+    }
+
+    #[inline(always)]
+    fn take(&mut self) -> u64 {
+        let ticket = self.next;
+        self.next = ticket.wrapping_add(1);
+        ticket
+    }
+
+    #[inline(always)]
+    fn serves(&self, ticket: u64) -> bool {
+        self.serving == ticket
+    }
+
+    #[inline(always)]
+    fn give(&mut self) {
+        let next = self.served.wrapping_add(1);
+        self.serving = next;
+        self.served = next;
+    }
+}

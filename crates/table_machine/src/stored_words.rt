@@ -1,0 +1,44 @@
+//! An example of another lock: a ticket lock that is given on by a store. It stands in the crate for
+//! its tests alone.
+
+ghost use Rattle.std.specs.Prelude.{◌≡◌};
+
+use crate::TableWords;
+
+/// The words of a ticket lock whose holder gives it on by a store: `next` and `serving`. The holder
+/// alone writes `serving`, so it need not add: it stores its ticket plus 1.
+#[derive(Drop)]
+pub struct StoredWords;
+
+impl TableWords for StoredWords {
+    ghost use Rattle.table_machine.specs.Stored.{stored_words, stored_are};
+
+    ghost kind = { stored_words };
+
+    #[inline(always)]
+    fn opens() -> u64 {
+        0
+    }
+
+    #[inline(always)]
+    fn looks_at(_ticket: u64) -> usize {
+        1
+    }
+
+    #[inline(always)]
+    fn serves(ticket: u64, read: u64) -> bool {
+        read == ticket
+    }
+
+    #[inline(always)]
+    fn gives_at(_ticket: u64) -> usize {
+        1
+    }
+
+    #[inline(always)]
+    fn stores(ticket: u64) -> Option<u64> {
+        Some(ticket.wrapping_add(1))
+    }
+
+    ghost lawful = { stored_are };
+}
