@@ -1,5 +1,13 @@
 //! Mesa conditions over queuing locks: whoever finds that it may not go on gives the lock on and
 //! waits, in one event, and is woken by a signal to the front of a line.
+//!
+//! Thread 3, which owns the lock of buffer 0, gives it on and waits for a message, in one event:
+//!
+//! ```text
+//! let wait = QEdit::Release(CvLeave::Wait(Tid(3), Side::Receivers));
+//! let outcome = part.poll(&mut machine, BufId(0), wait, &mut payload);
+//! // None while it waits; it answers once the thread was woken and runs again
+//! ```
 #![tactic(auto)]
 
 mod calls;

@@ -27,6 +27,8 @@ impl Waits {
     }
 
     /// Ends the wait of `t`, and tells whether there was one.
+    ///
+    /// Requires: the thread is below `THREADS`.
     #[inline(always)]
     pub fn wake(&mut self, t: Tid) -> bool
         requires { t.0 < THREADS }
@@ -43,6 +45,8 @@ impl Waits {
 
     /// Takes what the lock of `buffer` told `t`: the answer of a wait is held back, and the thread
     /// waits there; each other answer is handed on.
+    ///
+    /// Requires: the thread is below `THREADS`.
     #[inline(always)]
     pub fn complete<O: Drop>(
         &mut self,

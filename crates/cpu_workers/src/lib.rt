@@ -1,5 +1,16 @@
 //! A worker thread for each CPU: the kernel of one step table in real threads, each CPU over its own
 //! seat at one table of shared words, under a gate.
+//!
+//! Natives run in threads of their own over one buffer for four messages:
+//!
+//! ```text
+//! let report = run_native(rt, alloc, &[4], natives)?;
+//! let left = report.items(BufId(0)); // what nobody received
+//!
+//! // in `run` of a native
+//! caller.send(rt, BufId(0), &Msg::one(7))?;
+//! let message = caller.recv(rt, BufId(0)); // None: closed and empty
+//! ```
 #![tactic(auto)]
 
 mod callers;

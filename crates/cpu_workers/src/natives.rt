@@ -20,6 +20,8 @@ pub trait Native {
     /// Runs to its end. The caller has made no call before.
     ///
     /// It may wait for other threads, so it need not return.
+    ///
+    /// Requires: the caller has made no call, and its buffers are as this native needs them.
     fn run<I: IpcLayer + Drop, R: Wait>(&mut self, rt: &R, caller: &mut Caller<I>)
     where
         I::Machine: Drop,

@@ -230,6 +230,8 @@ where
 ///
 /// It waits for its threads, so it need not return.
 ///
+/// Requires: nothing was done in any worker's machine yet.
+///
 /// Errors: `NoMemory` where memory was refused and `NoThread` where a thread could not be started;
 /// then no step was taken.
 pub fn work_all<I: IpcLayer + Drop + Send, G: Gate + Sync, R: Threads + Wait + Sync>(

@@ -123,6 +123,8 @@ where
 /// section's end. After a `Limit` it takes no turn but to end the section.
 ///
 /// It may wait for other CPUs' sections and inside the gate, so it need not return.
+///
+/// Requires: nothing was done in the machine yet.
 pub fn work<I: IpcLayer + Drop, G: Gate, R: Wait>(
     rt: &R,
     gate: &G,

@@ -67,6 +67,9 @@ where
 
     /// The worker of a CPU and its machine, which agree. The machine does one action a step and has
     /// room for one at any time, and each of its buffers opened empty.
+    ///
+    /// Requires: each poll is one action, and the machine has room at any time. CPU and machine
+    /// agree, and the CPU stands as the step table says. Each buffer opened empty.
     pub fn new(cpu: Cpu<I>, machine: I::Machine) -> Worker<I>
         requires stepwise { I.IsStepwise }
         requires fits { I.Fits cpu.part machine }
@@ -89,6 +92,10 @@ where
     /// The worker of a CPU before its first turn, with the guests of its home threads, over a
     /// machine of its own side in which nothing was done, with threads of these homes and so many
     /// buffers. Its trace has room for `limit` entries.
+    ///
+    /// Requires: each poll is one action, and the machine has room at any time. Nothing was done in
+    /// it, and it has these homes, at most `THREADS`, and so many buffers. There is a guest for
+    /// each thread at home here and for no other.
     ///
     /// Errors: `NoMemory` where an allocation was refused; then the machine is gone.
     pub fn at_boot(

@@ -11,6 +11,8 @@ use std::alloc::Global;
 /// The blocks of empty buffers with these capacities, in their order. All memory that they need is
 /// taken here.
 ///
+/// Requires: each capacity is from 1 to `CAPACITY`.
+///
 /// Errors: `NoMemory` where there is none for them.
 pub fn empty_blocks(alloc: Global, caps: &[u8]) -> Result<Vec<BufferBlock>, NoMemory>
     requires { All IsCapacity caps.now }

@@ -33,6 +33,8 @@ impl CallStates {
     }
 
     /// The effect of the newest call of `t`.
+    ///
+    /// Requires: the thread is below `THREADS`.
     #[inline(always)]
     pub fn effect(&self, t: Tid) -> Option<Effect>
         requires { t.0 < THREADS }
@@ -42,6 +44,8 @@ impl CallStates {
     }
 
     /// The same effect where it lies.
+    ///
+    /// Requires: the thread is below `THREADS`.
     #[inline(always)]
     pub fn effect_here(&self, t: Tid) -> &Option<Effect>
         requires { t.0 < THREADS }
@@ -51,6 +55,8 @@ impl CallStates {
     }
 
     /// The stage at which a poll of `call` by `t` goes on: between calls a new one begins.
+    ///
+    /// Requires: the thread is below `THREADS`.
     #[inline(always)]
     pub fn next_stage(&self, t: Tid, call: &Call) -> Stage
         requires { t.0 < THREADS }
@@ -72,6 +78,9 @@ impl CallStates {
 
     /// Keeps for `t`, which is in `call`, what a poll of its section answered, with the message that
     /// the answer brought, and tells whether it did.
+    ///
+    /// Requires: the thread is below `THREADS`, and the message is the one that the answer brought,
+    /// if it brought one.
     #[inline(always)]
     pub fn record_answer(
         &mut self,

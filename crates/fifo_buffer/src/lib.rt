@@ -1,5 +1,13 @@
 //! First-in first-out blocking bounded buffers over locks with conditions: whoever calls enters the
 //! line of its side, and the first of a line goes on once the buffer allows it.
+//!
+//! One poll of thread 3's send to buffer 0:
+//!
+//! ```text
+//! let mut part = Fifo::<C>::part(CpuId(0), &homes, 1);
+//! let call = Call::Send(BufId(0), Msg::one(7));
+//! let reply = part.poll(&mut machine, Tid(3), &call); // None: poll the same call again
+//! ```
 #![tactic(auto)]
 
 mod blocks;

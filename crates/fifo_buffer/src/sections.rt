@@ -179,6 +179,8 @@ fn record_try(call_state: &mut CallState, out: &QOut<CvOut<BufferOut>>, message:
 
 /// Keeps what the section of the call state's stage answered, with the message that the answer brought:
 /// the call state is at the next stage then.
+///
+/// Requires: the message is the one that the answer brought, if it brought one.
 #[inline(always)]
 pub fn record_section(call_state: &mut CallState, out: &QOut<CvOut<BufferOut>>, message: &Msg)
     requires { lock_brought (cv_brought buffer_brought) out.now message.now }

@@ -1,5 +1,13 @@
 //! The layer of message calls, the top of the tower: a number that is no buffer's is refused at
 //! once, and a part tells where each thread stands.
+//!
+//! CPU 0's part of the tower over a machine of locks, and one poll of thread 0's receive:
+//!
+//! ```text
+//! let mut part = part_over(&machine, CpuId(0), &[4], &[CpuId(0)]);
+//! part.pass(&mut machine, Pass::Switch); // thread 0 runs
+//! let reply = part.poll(&mut machine, Tid(0), &Call::Recv(BufId(0)));
+//! ```
 #![tactic(auto)]
 
 mod ipc;

@@ -19,6 +19,9 @@ pub trait OpensBuffers: OwnedBuffers {
     /// A machine of so many CPUs, with a buffer of each of these capacities and a thread of each of
     /// these homes, and with room for `room` polls. All memory is taken here.
     ///
+    /// Requires: there are one to `CPUS` CPUs, at most `BUFFERS` capacities, each from 1 to
+    /// `CAPACITY`, and at most `THREADS` homes, each one of the CPUs.
+    ///
     /// Errors: `NoMemory` where an allocation was refused.
     fn open(
         alloc: Global,
@@ -51,6 +54,9 @@ pub trait OpensLocks: OwnedSleeps<LockEdit> {
 
     /// A machine of so many CPUs, with the lock of a buffer for each of these capacities and a
     /// thread of each of these homes, and with room for `room` polls. All memory is taken here.
+    ///
+    /// Requires: there are one to `CPUS` CPUs, at most `BUFFERS` capacities, each from 1 to
+    /// `CAPACITY`, and at most `THREADS` homes, each one of the CPUs.
     ///
     /// Errors: `NoMemory` where an allocation was refused.
     fn open(

@@ -45,6 +45,9 @@ pub type TowerOver<L> = Fifo<Cond<QLock<Sleeper<LockEdit, Sched<SharedQueues<L>>
 /// CPUs, and an empty buffer under a free lock for each of these capacities. `homes` holds the home
 /// of each thread. All memory that the blocks need is taken here.
 ///
+/// Requires: there are one to `CPUS` CPUs, at most `BUFFERS` capacities, each from 1 to `CAPACITY`,
+/// and at most `THREADS` homes, each one of the CPUs.
+///
 /// Errors: `NoMemory` where an allocation was refused.
 pub fn tower_blocks(
     alloc: Global,
@@ -67,6 +70,10 @@ pub fn tower_blocks(
 /// The part of `cpu` at boot, over a machine that has the locks of the tower, with a buffer of each of
 /// these capacities and a thread of each of these homes, and in which nothing was done. The CPU has
 /// nothing under way and no thread has called, so any thread may begin a call there.
+///
+/// Requires: nothing was done in the machine, its holder acts for the CPU, and it opened with the
+/// locks of the tower: these homes, an empty buffer of each of these capacities, at most `BUFFERS`,
+/// and a pending queue of the CPU.
 pub fn part_over<L: LockLayer<TowerEdit>>(
     m: &L::Machine,
     cpu: CpuId,

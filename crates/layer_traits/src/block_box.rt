@@ -1,4 +1,6 @@
 //! Boxes: blocks behind a pointer, so that who hands a block on moves one pointer.
+//!
+//! Only `BlockBox::new` takes memory, and no call waits.
 
 ghost use Rattle.std.specs.Prelude.{◌≡◌, ◌<◌, ◌++◌, ◌∷◌, [], false, IfOk};
 ghost use Rattle.event_log.specs.declared.ids.TheConstants.{THREADS};
@@ -45,6 +47,8 @@ impl<B: Drop> BlockBox<B> {
 }
 
 /// Edits what the box holds, and gives the edit's answer. Takes no memory.
+///
+/// Requires: the payload holds what the edit puts.
 #[inline(always)]
 pub fn edit_in_box<E: Edit>(
     boxed: &mut BlockBox<E::Block>,
@@ -59,7 +63,9 @@ pub fn edit_in_box<E: Edit>(
     edit.apply(&mut boxed.content, payload)
 }
 
-/// Puts `t`, which does not stand in the queue that the box holds, behind the others.
+/// Puts `t` behind the others of the queue that the box holds.
+///
+/// Requires: `t` is below `THREADS`, and does not stand in the queue.
 #[inline(always)]
 pub fn push_in(boxed: &mut BlockBox<ThreadQueue>, t: Tid)
     requires known { t.0 < THREADS }

@@ -1,4 +1,6 @@
 //! A buffer's block: its lines, its items, whether it is closed, and its counters.
+//!
+//! No call takes memory, and none waits.
 
 ghost use Rattle.std.specs.Prelude.{◌≡◌, ◌≤◌, ◌++◌, ◌∷◌, [], if◌then◌else◌};
 ghost use Rattle.event_log.specs.declared.ids.TheConstants.{CAPACITY};
@@ -56,6 +58,8 @@ impl Model for BufferBlock {
 
 impl BufferBlock {
     /// An empty buffer with room for `capacity` items.
+    ///
+    /// Requires: `capacity` is at most `CAPACITY`.
     pub fn new(capacity: usize) -> BufferBlock
         requires { capacity ≤ CAPACITY }
         ensures { result ≡ empty_block capacity }

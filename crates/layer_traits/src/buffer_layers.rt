@@ -1,4 +1,6 @@
 //! The layer of buffers.
+//!
+//! No call takes memory, and none waits.
 
 ghost use Rattle.std.specs.Prelude.{◌≡◌, ◌≢◌, ℕ, ◌+◌, ◌<◌, ◌≤◌, Bool, true, false, List, [], Option, Some, None, IsSome, length, map};
 
@@ -100,6 +102,8 @@ pub trait BufferLayer {
     ghost acts: { Self.Machine → List (Action (QueueEdit (CvCall BufferEdit))) };
 
     /// The part of `cpu` at boot: its threads are ready, and none has called.
+    ///
+    /// Requires: there are at most `THREADS` homes.
     fn part(cpu: CpuId, homes: &[CpuId], buffers: u8) -> Self
         requires { length homes.now ≤ THREADS }
         ensures cpu { cpu_of result ≡ cpu }
@@ -128,11 +132,15 @@ pub trait BufferLayer {
 
     /// The effect of this thread's newest call, from the poll in which it came until the thread's
     /// next call begins.
+    ///
+    /// Requires: `t` is below `THREADS`.
     fn effect(&self, t: Tid) -> Option<Effect>
         requires { t.0 < THREADS }
         ensures { result ≡ (call_state_of (own self.now).call_states t).effect };
 
     /// The same effect where it lies: nothing is copied.
+    ///
+    /// Requires: `t` is below `THREADS`.
     fn effect_here(&self, t: Tid) -> &Option<Effect>
         requires { t.0 < THREADS }
         ensures { result.now ≡ (call_state_of (own self.now).call_states t).effect };
@@ -140,6 +148,8 @@ pub trait BufferLayer {
     /// Looks again for a section that waits at its lock, and tells whether it did: a poll that ends
     /// nothing, so it needs no call and has no answer. Where it tells `false` nothing has changed,
     /// and the call is to be polled; a layer may always tell that.
+    ///
+    /// Requires: part and machine agree, and there is room for an event.
     fn look(&mut self, m: &mut Self::Machine) -> bool
         requires fits { Fits self.old m.old }
         requires room { 0 < room m.old }
@@ -160,8 +170,12 @@ pub trait BufferLayer {
         ensures others { (p : Self) → cpu_of p ≢ cpu_of self.old → Fits p m.old → Fits p m.new }
         ensures tries { IsStepwise → result ≡ true → Tries (ActsFor m.old) (cpu_of self.old) (acts m.old) (acts m.new) };
 
-    /// Does at most one action of the call of `t`, which runs. Gives the reply once the call has
-    /// ended, and `None` while the same call is to be polled again.
+    /// Does at most one action of the call of `t`. Gives the reply once the call has ended, and
+    /// `None` while the same call is to be polled again.
+    ///
+    /// Requires: part and machine agree, the buffer is there, there is room for an event, `t` runs
+    /// here, the call is the one that `t` has begun or `t` is between calls, and the CPU has
+    /// nothing else under way. If it has nothing under way, no woken thread is in its hand.
     fn poll(&mut self, m: &mut Self::Machine, t: Tid, call: &Call) -> Option<Reply>
         requires fits { Fits self.old m.old }
         requires buffer { (buffer_of call.now).0 < length (caps m.old) }
@@ -191,6 +205,9 @@ pub trait BufferLayer {
             (acts m.old) (acts m.new) (record { own = own self.new; answer = result }) };
 
     /// Passes a call on to the scheduler. The call states stay.
+    ///
+    /// Requires: part and machine agree, there is room for an event, the CPU's threads let the pass
+    /// come, and nothing else is under way.
     fn pass(&mut self, m: &mut Self::Machine, call: Pass) -> Option<()>
         requires fits { Fits self.old m.old }
         requires room { 0 < room m.old }

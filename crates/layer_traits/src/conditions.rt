@@ -1,5 +1,7 @@
 //! Conditions: the edits by which the owner of a lock signals to the front of a side's line, and
 //! those by which it leaves the lock or waits.
+//!
+//! No call takes memory, and none waits.
 
 ghost use Rattle.std.specs.Prelude.{◌≡◌, Option};
 
@@ -65,6 +67,8 @@ pub trait Guarded: Drop {
     ghost brought: { Self.Out → Msg → Type 0 } = { λ _ _. Unit {0} };
 
     /// Edits `block` and gives the edit's answer. Takes no memory.
+    ///
+    /// Requires: the payload holds what the edit puts.
     fn apply(&self, block: &mut Self::Block, payload: &mut Payload) -> Self::Out
         requires carried { carried self.now payload.old.message }
         ensures block { block.new ≡ monitor_rules.edited self.now block.old }

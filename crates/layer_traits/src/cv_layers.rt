@@ -1,4 +1,6 @@
 //! The layer of conditions.
+//!
+//! No call takes memory, and none waits.
 
 ghost use Rattle.std.specs.Prelude.{◌≡◌, ◌≢◌, ℕ, ◌+◌, ◌<◌, ◌≤◌, Bool, true, false, List, [], Option};
 ghost use Rattle.std.specs.Prelude.{Some, None, IsSome, IfSome, OnSome, is_some, length, map, if◌then◌else◌};
@@ -92,6 +94,8 @@ pub trait CvLayer<G: Guarded> {
     ghost acts: { Self.Machine → List (Action (QueueEdit (CvCall G))) };
 
     /// The part of `cpu` at boot, with no call under way: its threads are ready, and nobody waits.
+    ///
+    /// Requires: there are at most `THREADS` homes.
     fn part(cpu: CpuId, homes: &[CpuId], buffers: u8) -> Self
         requires { length homes.now ≤ THREADS }
         ensures cpu { cpu_of result ≡ cpu }
@@ -133,6 +137,8 @@ pub trait CvLayer<G: Guarded> {
     /// Looks again for a section that waits at its lock, and tells whether it did: a poll that ends
     /// nothing, so it needs no call and has no answer. Where it tells `false` nothing has changed,
     /// and the call is to be polled; a layer may always tell that.
+    ///
+    /// Requires: part and machine agree, and there is room for an event.
     fn look(&mut self, m: &mut Self::Machine) -> bool
         requires fits { Fits self.old m.old }
         requires room { 0 < room m.old }
@@ -153,6 +159,11 @@ pub trait CvLayer<G: Guarded> {
 
     /// Does at most one action of the call. Gives its outcome once it has ended, and `None` while
     /// the same call is to be polled again. A wait answers once its thread was woken and runs again.
+    ///
+    /// Requires: part and machine agree, the buffer is there, there is room for an event, the
+    /// caller runs here, the call is one that may come now (while one is under way, the same call),
+    /// and the payload holds what it puts. A call may come if the lock beneath allows it. A thread
+    /// that was woken out of a wait calls that wait again, and nothing is under way.
     fn poll(
         &mut self,
         m: &mut Self::Machine,
@@ -193,6 +204,9 @@ pub trait CvLayer<G: Guarded> {
             (acts m.old) (acts m.new) (record { own = own self.new; answer = result }) };
 
     /// Passes a call on to the scheduler. Who sleeps and who waits stay.
+    ///
+    /// Requires: part and machine agree, there is room for an event, and the pass is one that may
+    /// come now (while a call is under way, the same call).
     fn pass(&mut self, m: &mut Self::Machine, call: Pass, payload: &mut Payload) -> Option<()>
         requires fits { Fits self.old m.old }
         requires room { 0 < room m.old }

@@ -1,4 +1,6 @@
 //! Edits: the pure changes that sections make to the blocks of locks.
+//!
+//! No call takes memory, and none waits.
 
 ghost use Rattle.std.specs.Prelude.{◌≡◌};
 
@@ -34,6 +36,8 @@ pub trait Edit: Drop {
     ghost brought: { Self.Out → Payload → Type 0 } = { λ _ _. Unit {0} };
 
     /// Edits `block` and gives the edit's answer. Takes no memory.
+    ///
+    /// Requires: the payload holds what the edit puts.
     fn apply(&self, block: &mut Self::Block, payload: &mut Payload) -> Self::Out
         requires carried { carried self.now payload.old }
         ensures block { block.new ≡ rules.edited self.now block.old }

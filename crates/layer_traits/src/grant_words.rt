@@ -1,5 +1,7 @@
 //! A machine beneath the layers: the words and the blocks of locks with a grant word for each
 //! waiter.
+//!
+//! No call takes memory, and none waits.
 
 ghost use Rattle.std.specs.Prelude.{◌≡◌, ℕ, ◌+◌, ◌<◌, ◌≤◌, List, [], Option, IsSome, MatchOption, option_map};
 
@@ -54,8 +56,11 @@ pub trait GrantWords {
     fn mark(edit: Self::Edit) -> Self::Mark
         ensures { edit_in result ≡ edit };
 
-    /// Takes a ticket of `lock` for `cpu`, which has none outstanding: a fetch-and-add of 1 on
-    /// `next`, whose old value is the ticket.
+    /// Takes a ticket of `lock` for `cpu`: a fetch-and-add of 1 on `next`, whose old value is the
+    /// ticket.
+    ///
+    /// Requires: the holder acts for `cpu`, the lock is there, there is room for an event, and
+    /// `cpu` has no ticket outstanding.
     fn take(&mut self, cpu: CpuId, lock: LockId) -> u64
         requires cpu { ActsFor self.old cpu }
         requires lock { IsSome (opening self.old lock) }
@@ -67,8 +72,11 @@ pub trait GrantWords {
         ensures room { room self.old ≤ room self.new + 1 }
         ensures acts { (c : CpuId) → ActsFor self.old c → ActsFor self.new c };
 
-    /// Loads the grant word of `ticket` for `cpu`, which waits at `lock` with it. Where it reads the
-    /// ticket plus 1 the peek hits: the lock's block passes to the CPU.
+    /// Loads the grant word of `ticket` at `lock` for `cpu`. Where it reads the ticket plus 1 the
+    /// peek hits: the lock's block passes to the CPU.
+    ///
+    /// Requires: the holder acts for `cpu`, the lock is there, there is room for an event, and
+    /// `cpu` waits there with `ticket`.
     fn peek(&mut self, cpu: CpuId, lock: LockId, ticket: u64) -> Option<<Self::Edit as Edit>::Block>
         requires cpu { ActsFor self.old cpu }
         requires lock { IsSome (opening self.old lock) }
@@ -84,9 +92,12 @@ pub trait GrantWords {
         ensures room { room self.old ≤ room self.new + 1 }
         ensures acts { (c : CpuId) → ActsFor self.old c → ActsFor self.new c };
 
-    /// Gives `lock` on for `cpu`, which is inside it: a store of its ticket plus 2 in the next
-    /// ticket's grant word. `block` is the one that the CPU's peek gave, edited as `mark` says, and
-    /// it goes home. The protocol allows that edit there.
+    /// Gives `lock` on for `cpu`: a store of its ticket plus 2 in the next ticket's grant word.
+    /// `block` goes home.
+    ///
+    /// Requires: the holder acts for `cpu`, the lock is there, there is room for an event, `cpu` is
+    /// inside it, and `block` is the one that the CPU's peek gave, edited as `mark` says. The
+    /// protocol allows that edit, and goes on to whatever other CPUs do first.
     fn give(
         &mut self,
         cpu: CpuId,

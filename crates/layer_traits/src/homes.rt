@@ -1,4 +1,6 @@
 //! The homes of all threads, as parts of layers keep them.
+//!
+//! No call takes memory, and none waits.
 
 ghost use Rattle.std.specs.Prelude.{◌≡◌, ◌≤◌, length};
 ghost use Rattle.event_log.specs.declared.ids.TheConstants.{THREADS};
@@ -6,7 +8,9 @@ ghost use Rattle.event_log.specs.declared.ids.TheConstants.{THREADS};
 use arrayvec::ArrayVec;
 use event_log::{CpuId, THREADS};
 
-/// The homes to keep, by thread: at most `THREADS` of them. Takes no memory.
+/// The homes to keep, by thread. Takes no memory.
+///
+/// Requires: there are at most `THREADS` homes.
 pub fn kept_homes(homes: &[CpuId]) -> ArrayVec<CpuId, THREADS>
     requires { length homes.now ≤ THREADS }
     ensures { result.items ≡ homes.now }

@@ -1,4 +1,6 @@
 //! The layer of message calls.
+//!
+//! No call takes memory, and none waits.
 
 ghost use Rattle.std.specs.Prelude.{◌≡◌, ◌≢◌, ℕ, ◌+◌, ◌<◌, ◌≤◌, Bool, true, false, List, [], Option, Some, None, IsSome, length, map, replicate};
 
@@ -112,6 +114,8 @@ pub trait IpcLayer {
 
     /// The part of `cpu` at boot: its threads are ready, and none has called. `homes` holds the
     /// home of each thread, and the buffers are numbered from 0 to `buffers - 1`.
+    ///
+    /// Requires: there are at most `THREADS` homes.
     fn part(cpu: CpuId, homes: &[CpuId], buffers: u8) -> Self
         requires { length homes.now ≤ THREADS }
         ensures cpu { cpu_of result ≡ cpu }
@@ -140,11 +144,15 @@ pub trait IpcLayer {
 
     /// The effect of this thread's newest call, from the poll in which it came until the thread's
     /// next call begins.
+    ///
+    /// Requires: `t` is below `THREADS`.
     fn effect(&self, t: Tid) -> Option<Effect>
         requires { t.0 < THREADS }
         ensures { result ≡ (call_state_of (call_states self.now) t).effect };
 
     /// The same effect where it lies: nothing is copied.
+    ///
+    /// Requires: `t` is below `THREADS`.
     fn effect_here(&self, t: Tid) -> &Option<Effect>
         requires { t.0 < THREADS }
         ensures { result.now ≡ (call_state_of (call_states self.now) t).effect };
@@ -152,6 +160,8 @@ pub trait IpcLayer {
     /// Looks again for a section that waits at its lock, and tells whether it did: a poll that ends
     /// nothing, so it needs no call and has no answer. Where it tells `false` nothing has changed,
     /// and the call is to be polled; a layer may always tell that.
+    ///
+    /// Requires: part and machine agree, and there is room for an event.
     fn look(&mut self, m: &mut Self::Machine) -> bool
         requires fits { Fits self.old m.old }
         requires room { 0 < room m.old }
@@ -175,9 +185,13 @@ pub trait IpcLayer {
         ensures others { (p : Self) → cpu_of p ≢ cpu_of self.old → Fits p m.old → Fits p m.new }
         ensures tries { IsStepwise → result ≡ true → Tries (ActsFor m.old) (cpu_of self.old) (acts m.old) (acts m.new) };
 
-    /// Does at most one action of the call of `t`, which runs. Gives the reply once the call has
-    /// ended, and `None` while the same call is to be polled again. `NoBuffer` comes exactly where
-    /// the number is no buffer's, and then nothing was done.
+    /// Does at most one action of the call of `t`. Gives the reply once the call has ended, and
+    /// `None` while the same call is to be polled again. `NoBuffer` comes exactly where the number
+    /// is no buffer's, and then nothing was done.
+    ///
+    /// Requires: part and machine agree, there is room for an event, `t` runs here, the call is the
+    /// one that `t` has begun or `t` is between calls, and the CPU has nothing else under way. If
+    /// it has nothing under way, no woken thread is in its hand.
     fn poll(&mut self, m: &mut Self::Machine, t: Tid, call: &Call) -> Option<Reply>
         requires fits { Fits self.old m.old }
         requires room { 0 < room m.old }
@@ -210,6 +224,9 @@ pub trait IpcLayer {
             (acts m.old) (acts m.new) (record { own = own self.new; answer = result }) };
 
     /// Passes a call on to the scheduler. The call states stay.
+    ///
+    /// Requires: part and machine agree, there is room for an event, the CPU's threads let the pass
+    /// come, and nothing else is under way.
     fn pass(&mut self, m: &mut Self::Machine, call: Pass) -> Option<()>
         requires fits { Fits self.old m.old }
         requires room { 0 < room m.old }

@@ -1,5 +1,16 @@
 //! The laws that the tower's machines and layers meet: what an edit is, what a machine of lock
 //! words gives, and what a layer of critical sections promises to the layer above it.
+//!
+//! A layer on a layer meets its trait by the polls of the one beneath. Here shared queues over locks:
+//!
+//! ```text
+//! fn poll(&mut self, m: &mut L::Machine, call: QueueCall<E>, payload: &mut Payload)
+//!     -> Option<QueueAnswer<E::Out>>
+//! {
+//!     let (lock, edit) = section_of(call);
+//!     self.lower.poll(m, lock, edit, payload)
+//! }
+//! ```
 #![tactic(auto)]
 
 mod block_box;

@@ -1,4 +1,6 @@
 //! Edits inside a lock that has an owner: what a section of a queuing lock does.
+//!
+//! No call takes memory, and none waits.
 
 ghost use Rattle.std.specs.Prelude.{◌≡◌};
 
@@ -82,6 +84,8 @@ pub trait Locked: Drop {
     ghost brought: { Self.Out → Msg → Type 0 } = { λ _ _. Unit {0} };
 
     /// Edits `block` and gives the edit's answer. Takes no memory.
+    ///
+    /// Requires: the payload holds what the edit puts.
     fn apply(&self, block: &mut Self::Block, payload: &mut Payload) -> Self::Out
         requires carried { carried self.now payload.old.message }
         ensures block { block.new ≡ rules.edited self.now block.old }

@@ -74,6 +74,8 @@ pub trait LockLayer<E: Edit> {
     /// Looks again for a section that waits at its lock, and tells whether it did: a poll that ends
     /// nothing, so it needs no call and has no answer. Where it tells `false` nothing has changed,
     /// and the call is to be polled; a layer may always tell that.
+    ///
+    /// Requires: part and machine agree, and there is room for an event.
     fn look(&mut self, m: &mut Self::Machine) -> bool
         requires fits { Fits self.old m.old }
         requires room { 0 < room m.old }
@@ -93,6 +95,10 @@ pub trait LockLayer<E: Edit> {
 
     /// Does at most one action of the section of `edit` at `lock`. Gives the edit's answer once
     /// the section has ended, and `None` while the same call is to be polled again.
+    ///
+    /// Requires: part and machine agree, the lock is there, there is room for an event, the section
+    /// is one that may come now (while one is under way, the same section), and the payload holds
+    /// what it puts. A section may come if the edits' protocol allows it and stays so.
     fn poll(
         &mut self,
         m: &mut Self::Machine,

@@ -1,4 +1,6 @@
 //! What edits do to the places of threads: a caller may go to sleep, and a sleeper may be woken.
+//!
+//! No call takes memory, and none waits.
 
 ghost use Rattle.std.specs.Prelude.{◌≡◌};
 

@@ -1,4 +1,6 @@
 //! A layer of message calls that opens a machine and tells of its blocks and threads.
+//!
+//! Only `open` takes memory, and no call waits.
 
 ghost use Rattle.std.specs.Prelude.{◌≡◌, ◌⊎◌, ◌<◌, Bool, true, [], List, Option, Some, None, IfOk, length, option_map, slice_index};
 
@@ -55,7 +57,11 @@ pub trait Owned: IpcLayer {
     /// A machine of so many CPUs, with a buffer of each of these capacities and a thread of each of
     /// these homes, and with room for `room` polls. All memory is taken here.
     ///
-    /// Errors: `NoMemory` where an allocation was refused.
+    /// Requires: there are at least one CPU and at most `CPUS`, at most `BUFFERS` buffers and at
+    /// most `THREADS` threads. Each capacity is one that a buffer may have, and each home is one of
+    /// the CPUs.
+    ///
+    /// Errors: `NoMemory` if an allocation was refused; then nothing was made.
     fn open(
         alloc: Global,
         cpus: u8,
@@ -71,6 +77,8 @@ pub trait Owned: IpcLayer {
         ensures none { IfOk result (λ m. Self.acts m ≡ []) };
 
     /// The items of the buffer `b`, first in front; `None` where its block is in the hands of a CPU.
+    ///
+    /// Requires: the machine's holder acts for some CPU, and the buffer is there.
     fn buffer_in(m: &Self::Machine, b: BufId) -> Option<ArrayVec<Msg, CAPACITY>>
         requires acts { (c : CpuId) × Self.ActsFor m.now c }
         requires buffer { b.0 < length (Self.caps m.now) }
@@ -81,6 +89,8 @@ pub trait Owned: IpcLayer {
         ensures { option_map (λ items. items.items) result ≡ items_here self.now b };
 
     /// Whether the buffer `b` is closed; `None` where its block is in the hands of a CPU.
+    ///
+    /// Requires: the machine's holder acts for some CPU, and the buffer is there.
     fn closed_at_home(m: &Self::Machine, b: BufId) -> Option<bool>
         requires acts { (c : CpuId) × Self.ActsFor m.now c }
         requires buffer { b.0 < length (Self.caps m.now) }
@@ -91,6 +101,8 @@ pub trait Owned: IpcLayer {
         ensures { result ≡ closed_here self.now b };
 
     /// The owner of the lock of the buffer `b`; `None` where its block is in the hands of a CPU.
+    ///
+    /// Requires: the machine's holder acts for some CPU, and the buffer is there.
     fn busy_in(m: &Self::Machine, b: BufId) -> Option<Option<Tid>>
         requires acts { (c : CpuId) × Self.ActsFor m.now c }
         requires buffer { b.0 < length (Self.caps m.now) }
@@ -102,6 +114,8 @@ pub trait Owned: IpcLayer {
 
     /// Where `t` stands, as far as this CPU can tell: among its own threads, or in a queue that is at
     /// home in the machine or in this CPU's hands; `None` where it can tell nothing of it.
+    ///
+    /// Requires: part and machine agree, and `t` is a thread of the machine.
     fn place_at(&self, m: &Self::Machine, t: Tid) -> Option<Place>
         requires fits { Self.Fits self.now m.now }
         requires thread { t.0 < length (Self.homes_of m.now) }

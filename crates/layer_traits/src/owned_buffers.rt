@@ -1,4 +1,6 @@
 //! A layer of buffers that tells of its blocks.
+//!
+//! No call takes memory, and none waits.
 
 ghost use Rattle.std.specs.Prelude.{◌≡◌, ◌<◌, Bool, true, List, Option, Some, IsSome, length, option_and_then, option_map, slice_index};
 
@@ -71,6 +73,8 @@ pub trait OwnedBuffers: BufferLayer {
         ensures { result ≡ is_in t (Self.own self.now).cv.lock.sleep.threads.ended };
 
     /// The items of the buffer `b`, first in front; `None` where its block is in the hands of a CPU.
+    ///
+    /// Requires: the machine's holder acts for some CPU, and the buffer is there.
     fn items_in(m: &Self::Machine, b: BufId) -> Option<ArrayVec<Msg, CAPACITY>>
         requires acts { (c : CpuId) × Self.ActsFor m.now c }
         requires buffer { b.0 < length (Self.caps m.now) }
@@ -81,6 +85,8 @@ pub trait OwnedBuffers: BufferLayer {
         ensures { option_map (λ items. items.items) result ≡ items_with self.now b };
 
     /// Whether the buffer `b` is closed; `None` where its block is in the hands of a CPU.
+    ///
+    /// Requires: the machine's holder acts for some CPU, and the buffer is there.
     fn closed_in(m: &Self::Machine, b: BufId) -> Option<bool>
         requires acts { (c : CpuId) × Self.ActsFor m.now c }
         requires buffer { b.0 < length (Self.caps m.now) }
@@ -91,6 +97,8 @@ pub trait OwnedBuffers: BufferLayer {
         ensures { result ≡ closed_with self.now b };
 
     /// The owner of the lock of the buffer `b`; `None` where its block is in the hands of a CPU.
+    ///
+    /// Requires: the machine's holder acts for some CPU, and the buffer is there.
     fn owner_in(m: &Self::Machine, b: BufId) -> Option<Option<Tid>>
         requires acts { (c : CpuId) × Self.ActsFor m.now c }
         requires buffer { b.0 < length (Self.caps m.now) }
@@ -102,6 +110,8 @@ pub trait OwnedBuffers: BufferLayer {
 
     /// The waiting list of the buffer `b` in which `t` stands; `None` where it stands in none or the
     /// block is in the hands of a CPU.
+    ///
+    /// Requires: the machine's holder acts for some CPU, and the buffer is there.
     fn wait_list_in(m: &Self::Machine, b: BufId, t: Tid) -> Option<WaitList>
         requires acts { (c : CpuId) × Self.ActsFor m.now c }
         requires buffer { b.0 < length (Self.caps m.now) }
@@ -111,8 +121,10 @@ pub trait OwnedBuffers: BufferLayer {
     fn wait_list_here(&self, b: BufId, t: Tid) -> Option<WaitList>
         ensures { result ≡ option_and_then (wait_list_among t) (wait_lists_with self.now b) };
 
-    /// Whether `t` stands in the pending queue of `d`, which there is; `None` where that queue is in
-    /// the hands of a CPU.
+    /// Whether `t` stands in the pending queue of `d`; `None` where that queue is in the hands of a
+    /// CPU.
+    ///
+    /// Requires: the machine's holder acts for some CPU, and the queue is there.
     fn pends_in(m: &Self::Machine, d: CpuId, t: Tid) -> Option<bool>
         requires acts { (c : CpuId) × Self.ActsFor m.now c }
         requires queue { IsSome (Self.opening m.now (Pending d)) }

@@ -1,4 +1,6 @@
 //! A layer of condition variables that tells of its blocks.
+//!
+//! No call takes memory, and none waits.
 
 ghost use Rattle.std.specs.Prelude.{◌≡◌, true, List, Option, Some, IsSome, option_and_then, option_map};
 
@@ -8,8 +10,7 @@ use crate::moves::WaitList;
 use event_log::{BufId, CpuId, Tid};
 
 /// A layer of condition variables whose machine tells of the blocks that are at home, and whose
-/// parts
-/// tell of those in their CPU's hands.
+/// parts tell of those in their CPU's hands.
 pub trait OwnedConds<G: Guarded>: CvLayer<G> {
     ghost use Rattle.event_log.specs.declared.ids.BufId.{BufId};
     ghost use Rattle.event_log.specs.declared.ids.CpuId.{CpuId};
@@ -39,8 +40,9 @@ pub trait OwnedConds<G: Guarded>: CvLayer<G> {
     /// The pending queue of a CPU where it is in the hands of the part's CPU.
     ghost queue_with: { Self → CpuId → Option (List Tid) };
 
-    /// The block above the lock of the buffer `b`, which there is; `None` where it is in the hands
-    /// of a CPU.
+    /// The block above the lock of the buffer `b`; `None` where it is in the hands of a CPU.
+    ///
+    /// Requires: the machine's holder acts for some CPU, and the buffer is there.
     fn block_in(m: &Self::Machine, b: BufId) -> Option<&G::Block>
         requires acts { (c : CpuId) × Self.ActsFor m.now c }
         requires buffer { IsSome (Self.opening m.now (Buffer b)) }
@@ -50,8 +52,9 @@ pub trait OwnedConds<G: Guarded>: CvLayer<G> {
     fn block_here(&self, b: BufId) -> Option<&G::Block>
         ensures { option_map (λ block. block.now) result ≡ option_map (λ state. state.above) (lock_with self.now b) };
 
-    /// The owner of the lock of `b`, which there is; `None` where its block is in the hands of a
-    /// CPU.
+    /// The owner of the lock of `b`; `None` where its block is in the hands of a CPU.
+    ///
+    /// Requires: the machine's holder acts for some CPU, and the buffer is there.
     fn owner_in(m: &Self::Machine, b: BufId) -> Option<Option<Tid>>
         requires acts { (c : CpuId) × Self.ActsFor m.now c }
         requires buffer { IsSome (Self.opening m.now (Buffer b)) }
@@ -61,8 +64,10 @@ pub trait OwnedConds<G: Guarded>: CvLayer<G> {
     fn owner_here(&self, b: BufId) -> Option<Option<Tid>>
         ensures { result ≡ option_map (λ state. state.owner) (lock_with self.now b) };
 
-    /// The waiting list of `b`, which there is, in which `t` stands; `None` where it stands in none
-    /// or the block is in the hands of a CPU.
+    /// The waiting list of `b` in which `t` stands; `None` where it stands in none or the block is
+    /// in the hands of a CPU.
+    ///
+    /// Requires: the machine's holder acts for some CPU, and the buffer is there.
     fn wait_list_in(m: &Self::Machine, b: BufId, t: Tid) -> Option<WaitList>
         requires acts { (c : CpuId) × Self.ActsFor m.now c }
         requires buffer { IsSome (Self.opening m.now (Buffer b)) }
@@ -72,9 +77,10 @@ pub trait OwnedConds<G: Guarded>: CvLayer<G> {
     fn wait_list_here(&self, b: BufId, t: Tid) -> Option<WaitList>
         ensures { result ≡ option_and_then (wait_list_under t) (lock_with self.now b) };
 
-    /// Whether `t` stands in the pending queue of `d`, which there is; `None` where that queue is
-    /// in
-    /// the hands of a CPU.
+    /// Whether `t` stands in the pending queue of `d`; `None` where that queue is in the hands of a
+    /// CPU.
+    ///
+    /// Requires: the machine's holder acts for some CPU, and the queue is there.
     fn pends_in(m: &Self::Machine, d: CpuId, t: Tid) -> Option<bool>
         requires acts { (c : CpuId) × Self.ActsFor m.now c }
         requires queue { IsSome (Self.opening m.now (Pending d)) }

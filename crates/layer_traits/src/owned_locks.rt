@@ -1,4 +1,6 @@
 //! A layer of critical sections that opens a machine and tells of its blocks.
+//!
+//! Only `open` takes memory, and no call waits.
 
 ghost use Rattle.std.specs.Prelude.{◌≡◌, ◌<◌, [], true, Option, IsSome, IfOk, option_map};
 
@@ -25,8 +27,10 @@ pub trait OwnedLocks<E: Edit>: LockLayer<E> {
     /// The block of a lock where it is in the hands of the part's CPU.
     ghost block_with: { Self → LockId → Option E.Block };
 
-    /// A machine with these locks, each named once with its block, and with room for `room` events.
-    /// All memory is taken here.
+    /// A machine with these locks, each with its block, and with room for `room` events. All memory
+    /// is taken here.
+    ///
+    /// Requires: no lock stands twice in `blocks`.
     ///
     /// Errors: `NoMemory` where an allocation was refused; then the blocks are gone.
     fn open(
@@ -42,7 +46,9 @@ pub trait OwnedLocks<E: Edit>: LockLayer<E> {
         ensures outside { IfOk result (λ m. (c : CpuId) → Self.IsOutside m c) }
         ensures none { IfOk result (λ m. Self.acts m ≡ []) };
 
-    /// The block of `lock`, which there is; `None` where it is in the hands of a CPU.
+    /// The block of `lock`; `None` where it is in the hands of a CPU.
+    ///
+    /// Requires: the machine's holder acts for some CPU, and the lock is there.
     fn block_in(m: &Self::Machine, lock: LockId) -> Option<&E::Block>
         requires acts { (c : CpuId) × Self.ActsFor m.now c }
         requires lock { IsSome (Self.opening m.now lock) }

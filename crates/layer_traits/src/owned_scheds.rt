@@ -1,4 +1,6 @@
 //! A layer of schedulers that tells of its blocks.
+//!
+//! No call takes memory, and none waits.
 
 ghost use Rattle.std.specs.Prelude.{◌≡◌, true, List, Option, Some, IsSome, option_map};
 
@@ -7,8 +9,7 @@ use crate::scheds::SchedLayer;
 use event_log::{BufId, CpuId, Tid};
 
 /// A layer of schedulers whose machine tells of the blocks that are at home, and whose parts tell
-/// of
-/// those in their CPU's hands.
+/// of those in their CPU's hands.
 pub trait OwnedScheds<E: Moves>: SchedLayer<E> {
     ghost use Rattle.event_log.specs.declared.ids.BufId.{BufId};
     ghost use Rattle.event_log.specs.declared.ids.CpuId.{CpuId};
@@ -35,7 +36,9 @@ pub trait OwnedScheds<E: Moves>: SchedLayer<E> {
     /// The pending queue of a CPU where it is in the hands of the part's CPU.
     ghost queue_with: { Self → CpuId → Option (List Tid) };
 
-    /// The block of the buffer `b`, which there is; `None` where it is in the hands of a CPU.
+    /// The block of the buffer `b`; `None` where it is in the hands of a CPU.
+    ///
+    /// Requires: the machine's holder acts for some CPU, and the buffer is there.
     fn block_in(m: &Self::Machine, b: BufId) -> Option<&E::Block>
         requires acts { (c : CpuId) × Self.ActsFor m.now c }
         requires buffer { IsSome (Self.opening m.now (Buffer b)) }
@@ -45,9 +48,10 @@ pub trait OwnedScheds<E: Moves>: SchedLayer<E> {
     fn block_here(&self, b: BufId) -> Option<&E::Block>
         ensures { option_map (λ block. block.now) result ≡ block_with self.now b };
 
-    /// Whether `t` stands in the pending queue of `d`, which there is; `None` where that queue is
-    /// in
-    /// the hands of a CPU.
+    /// Whether `t` stands in the pending queue of `d`; `None` where that queue is in the hands of a
+    /// CPU.
+    ///
+    /// Requires: the machine's holder acts for some CPU, and the queue is there.
     fn pends_in(m: &Self::Machine, d: CpuId, t: Tid) -> Option<bool>
         requires acts { (c : CpuId) × Self.ActsFor m.now c }
         requires queue { IsSome (Self.opening m.now (Pending d)) }

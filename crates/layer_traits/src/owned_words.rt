@@ -1,4 +1,6 @@
 //! Words of ticket locks that are opened with their blocks and tell of them.
+//!
+//! Only `open` takes memory, and no call waits.
 
 ghost use Rattle.std.specs.Prelude.{◌≡◌, ◌<◌, [], Option, Some, IsSome, IfOk, MatchOption, option_map};
 
@@ -19,8 +21,10 @@ pub trait OwnedWords: Words {
     /// The block of a lock where it is at home.
     ghost block_at: { Self → LockId → Option Self.Edit.Block };
 
-    /// Words of these locks, each named once with its block, and with room for `room` events. All
-    /// memory is taken here.
+    /// Words of these locks, each with its block, and with room for `room` events. All memory is
+    /// taken here.
+    ///
+    /// Requires: no lock stands twice in `blocks`.
     ///
     /// Errors: `NoMemory` where an allocation was refused; then the blocks are gone.
     fn open(
@@ -34,15 +38,16 @@ pub trait OwnedWords: Words {
         ensures room { IfOk result (λ w. Self.room w ≡ room) }
         ensures acts { IfOk result (λ w. (c : CpuId) → c.0 < CPUS → Self.ActsFor w c) };
 
-    /// The block of `lock`, which there is; `None` where it is in the hands of a CPU.
+    /// The block of `lock`; `None` where it is in the hands of a CPU.
+    ///
+    /// Requires: the holder acts for some CPU, and the lock is there.
     fn block(&self, lock: LockId) -> Option<&<Self::Edit as Edit>::Block>
         requires acts { (c : CpuId) × Self.ActsFor self.now c }
         requires lock { IsSome (Self.opening self.now lock) }
         ensures { option_map (λ block. block.now) result ≡ block_at self.now lock };
 
     /// Law: a block that is not at home is in the hands of a CPU inside its lock, and one that is
-    /// at
-    /// home is what the sections make of it.
+    /// at home is what the sections make of it.
     ghost blocks: { (w : Self) (c : CpuId) (lock : LockId) → Self.ActsFor w c → IsSome (Self.opening w lock)
         → MatchOption (block_at w lock) (SomeoneInside lock (Self.seen w))
         (λ block. block_after Self.Edit.rules.edited (Self.opening w) lock (sections (Self.seen w)) ≡ Some block) };

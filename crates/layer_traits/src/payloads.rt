@@ -1,4 +1,6 @@
 //! What edits and their answers carry, beside them.
+//!
+//! No call takes memory, and none waits.
 
 ghost use Rattle.std.specs.Prelude.{◌≡◌, []};
 ghost use Rattle.event_log.specs.Messages.{no_message};

@@ -1,4 +1,6 @@
 //! The layer of locks that are handed from owner to owner.
+//!
+//! No call takes memory, and none waits.
 
 ghost use Rattle.std.specs.Prelude.{◌≡◌, ◌≢◌, ℕ, ◌+◌, ◌<◌, ◌≤◌, Bool, true, false, List, [], length};
 ghost use Rattle.std.specs.Prelude.{map, Option, Some, None, IsSome, IfSome, OnSome, is_some, if◌then◌else◌};
@@ -93,9 +95,10 @@ pub trait QLockLayer<F: Locked> {
     /// The actions on the locks, newest first, each Give under its section's edit.
     ghost acts: { Self.Machine → List (Action (QueueEdit (QEdit F F.Release))) };
 
-    /// The part of `cpu` at boot, with no call under way. `homes` holds the home of each thread, at
-    /// most one for each thread that a machine may have, and `buffers` is the number of buffers;
-    /// layers above use it.
+    /// The part of `cpu` at boot, with no call under way. `homes` holds the home of each thread,
+    /// and `buffers` is the number of buffers; layers above use it.
+    ///
+    /// Requires: there are at most `THREADS` homes.
     fn part(cpu: CpuId, homes: &[CpuId], buffers: u8) -> Self
         requires { length homes.now ≤ THREADS }
         ensures cpu { cpu_of result ≡ cpu }
@@ -137,6 +140,8 @@ pub trait QLockLayer<F: Locked> {
     /// Looks again for a section that waits at its lock, and tells whether it did: a poll that ends
     /// nothing, so it needs no call and has no answer. Where it tells `false` nothing has changed,
     /// and the call is to be polled; a layer may always tell that.
+    ///
+    /// Requires: part and machine agree, and there is room for an event.
     fn look(&mut self, m: &mut Self::Machine) -> bool
         requires fits { Fits self.old m.old }
         requires room { 0 < room m.old }
@@ -159,6 +164,12 @@ pub trait QLockLayer<F: Locked> {
     /// its outcome once it has ended, and `None` while the same call is to be polled again. An
     /// Acquire of a lock that has an owner puts its caller to sleep, and is polled again once the
     /// thread runs again: it then owns the lock, and is told so without an action.
+    ///
+    /// Requires: part and machine agree, the buffer is there, there is room for an event, the
+    /// caller runs here, the call is one that may come now (while one is under way, the same call),
+    /// and the payload holds what it puts. A call may come if no woken thread is in hand, it is the
+    /// owner's or asks for the lock, and the edits' protocol allows it and stays so. A thread that
+    /// slept for a lock asks for it again, and nothing is under way.
     fn poll(
         &mut self,
         m: &mut Self::Machine,
@@ -194,6 +205,9 @@ pub trait QLockLayer<F: Locked> {
 
     /// Does at most one action of a call on the scheduler, which goes through unchanged. Answers
     /// once the call has ended, and gives `None` while the same call is to be polled again.
+    ///
+    /// Requires: part and machine agree, there is room for an event, and the pass is one that may
+    /// come now (while a call is under way, the same call).
     fn pass(&mut self, m: &mut Self::Machine, call: Pass, payload: &mut Payload) -> Option<()>
         requires fits { Fits self.old m.old }
         requires room { 0 < room m.old }

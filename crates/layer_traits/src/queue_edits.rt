@@ -1,4 +1,6 @@
 //! The edits of shared queues, and the blocks that they edit.
+//!
+//! No call takes memory, and none waits.
 
 use crate::block_box::{BlockBox, edit_in_box, push_in, take_from};
 use crate::edits::Edit;

@@ -113,6 +113,8 @@ pub trait QueueLayer<E: Moves> {
     /// Looks again for a section that waits at its lock, and tells whether it did: a poll that ends
     /// nothing, so it needs no call and has no answer. Where it tells `false` nothing has changed,
     /// and the call is to be polled; a layer may always tell that.
+    ///
+    /// Requires: part and machine agree, and there is room for an event.
     fn look(&mut self, m: &mut Self::Machine) -> bool
         requires fits { Fits self.old m.old }
         requires room { 0 < room m.old }
@@ -133,6 +135,10 @@ pub trait QueueLayer<E: Moves> {
     /// Does at most one action of `call`. Gives its answer once the call has ended, and `None` while
     /// the same call is to be polled again. A CPU pushes who is in its hand into the queue of that
     /// thread's home, and takes its own queue alone.
+    ///
+    /// Requires: part and machine agree, the lock of the call is there, there is room for an event,
+    /// the call is one that may come now (while one is under way, the same call), and the payload
+    /// holds what it puts.
     fn poll(
         &mut self,
         m: &mut Self::Machine,

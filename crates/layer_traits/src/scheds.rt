@@ -100,6 +100,8 @@ pub trait SchedLayer<E: Moves> {
     /// The part of `cpu` at boot, with no call under way: all threads at home on it are ready, in
     /// the order of their numbers, and none runs. `homes` holds the home of each thread, at most
     /// `THREADS` of them, and `buffers` is the number of buffers; layers above use it.
+    ///
+    /// Requires: there are at most `THREADS` homes.
     fn part(cpu: CpuId, homes: &[CpuId], buffers: u8) -> Self
         requires { length homes.now ≤ THREADS }
         ensures cpu { cpu_of result ≡ cpu }
@@ -136,6 +138,8 @@ pub trait SchedLayer<E: Moves> {
     /// Looks again for a section that waits at its lock, and tells whether it did: a poll that ends
     /// nothing, so it needs no call and has no answer. Where it tells `false` nothing has changed,
     /// and the call is to be polled; a layer may always tell that.
+    ///
+    /// Requires: part and machine agree, and there is room for an event.
     fn look(&mut self, m: &mut Self::Machine) -> bool
         requires fits { Fits self.old m.old }
         requires room { 0 < room m.old }
@@ -156,6 +160,10 @@ pub trait SchedLayer<E: Moves> {
 
     /// Does at most one action of `call`. Gives its answer once the call has ended, and `None` while
     /// the same call is to be polled again. A call that touches nothing shared answers at once.
+    ///
+    /// Requires: part and machine agree, the buffer of the call is there, there is room for an
+    /// event, the call is one that may come now (while one is under way, the same call), and the
+    /// payload holds what it puts.
     fn poll(
         &mut self,
         m: &mut Self::Machine,

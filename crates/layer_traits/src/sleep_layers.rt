@@ -1,4 +1,6 @@
 //! The layer of sections that put threads to sleep and wake them.
+//!
+//! No call takes memory, and none waits.
 
 ghost use Rattle.std.specs.Prelude.{◌≡◌, ◌≢◌, ℕ, ◌+◌, ◌<◌, ◌≤◌, Bool, true, false, List, [], length};
 ghost use Rattle.std.specs.Prelude.{map, Option, Some, None, IsSome, IfSome, OnSome, is_some, if◌then◌else◌};
@@ -90,9 +92,10 @@ pub trait SleepLayer<E: Sleeps> {
     /// The actions on the locks, newest first, each Give under its section's edit.
     ghost acts: { Self.Machine → List (Action (QueueEdit E)) };
 
-    /// The part of `cpu` at boot, with no call under way. `homes` holds the home of each thread, at
-    /// most one for each thread that a machine may have, and `buffers` is the number of buffers;
-    /// layers above use it.
+    /// The part of `cpu` at boot, with no call under way. `homes` holds the home of each thread,
+    /// and `buffers` is the number of buffers; layers above use it.
+    ///
+    /// Requires: there are at most `THREADS` homes.
     fn part(cpu: CpuId, homes: &[CpuId], buffers: u8) -> Self
         requires { length homes.now ≤ THREADS }
         ensures cpu { cpu_of result ≡ cpu }
@@ -129,6 +132,8 @@ pub trait SleepLayer<E: Sleeps> {
     /// Looks again for a section that waits at its lock, and tells whether it did: a poll that ends
     /// nothing, so it needs no call and has no answer. Where it tells `false` nothing has changed,
     /// and the call is to be polled; a layer may always tell that.
+    ///
+    /// Requires: part and machine agree, and there is room for an event.
     fn look(&mut self, m: &mut Self::Machine) -> bool
         requires fits { Fits self.old m.old }
         requires room { 0 < room m.old }
@@ -150,6 +155,11 @@ pub trait SleepLayer<E: Sleeps> {
     /// Does at most one action of the section of `edit` at the lock of `buffer`, or of sending home
     /// the thread that it woke. Gives the section's outcome once that is done, and `None` while the
     /// same call is to be polled again.
+    ///
+    /// Requires: part and machine agree, the buffer is there, there is room for an event, the call
+    /// is one that may come now (while one is under way, the same call), and the payload holds what
+    /// it puts. A call may come if its caller runs here, no woken thread is in hand, and the edits'
+    /// protocol allows it and stays so.
     fn poll(
         &mut self,
         m: &mut Self::Machine,
@@ -183,6 +193,9 @@ pub trait SleepLayer<E: Sleeps> {
 
     /// Does at most one action of a call on the scheduler, which goes through unchanged. Answers
     /// once the call has ended, and gives `None` while the same call is to be polled again.
+    ///
+    /// Requires: part and machine agree, there is room for an event, and the pass is one that may
+    /// come now (while a call is under way, the same call).
     fn pass(&mut self, m: &mut Self::Machine, call: Pass, payload: &mut Payload) -> Option<()>
         requires fits { Fits self.old m.old }
         requires room { 0 < room m.old }

@@ -1,4 +1,6 @@
 //! Edits that put threads to sleep and wake them: what a section of a sleeping layer does.
+//!
+//! No call takes memory, and none waits.
 
 ghost use Rattle.std.specs.Prelude.{◌≡◌};
 
@@ -59,6 +61,8 @@ pub trait Sleeps: Drop {
 
     /// Edits `block`, where `first` is the first of those that sleep for the lock, and gives the
     /// edit's answer. Takes no memory.
+    ///
+    /// Requires: the payload holds what the edit puts.
     fn apply(&self, first: Option<Tid>, block: &mut Self::Block, payload: &mut Payload) -> Self::Out
         requires carried { carried self.now payload.old.message }
         ensures block { block.new ≡ rules.edited self.now first block.old }

@@ -1,4 +1,6 @@
 //! Words whose log is told in terms of grant words.
+//!
+//! Only `open` takes memory, and no call waits.
 
 ghost use Rattle.std.specs.Prelude.{◌≡◌, ◌<◌, [], IfOk};
 

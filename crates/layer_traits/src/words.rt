@@ -1,4 +1,6 @@
 //! The machine beneath the layers: the words and the blocks of ticket locks.
+//!
+//! No call takes memory, and none waits.
 
 ghost use Rattle.std.specs.Prelude.{◌≡◌, ℕ, ◌+◌, ◌<◌, ◌≤◌, List, [], Option, IsSome, MatchOption, option_map};
 
@@ -54,8 +56,11 @@ pub trait Words {
     fn mark(edit: Self::Edit) -> Self::Mark
         ensures { edit_in result ≡ edit };
 
-    /// Draws a ticket of `lock` for `cpu`, which has none outstanding: a fetch-and-add of 1 on
-    /// `next`, whose old value is the ticket.
+    /// Draws a ticket of `lock` for `cpu`: a fetch-and-add of 1 on `next`, whose old value is the
+    /// ticket.
+    ///
+    /// Requires: the holder acts for `cpu`, the lock is there, there is room for an event, and
+    /// `cpu` has no ticket outstanding.
     fn draw(&mut self, cpu: CpuId, lock: LockId) -> u64
         requires cpu { ActsFor self.old cpu }
         requires lock { IsSome (opening self.old lock) }
@@ -67,8 +72,11 @@ pub trait Words {
         ensures room { room self.old ≤ room self.new + 1 }
         ensures acts { (c : CpuId) → ActsFor self.old c → ActsFor self.new c };
 
-    /// Loads `serving` of `lock` for `cpu`, which waits there with `ticket`. Where it reads the
-    /// ticket the look hits: the lock's block passes to the CPU.
+    /// Loads `serving` of `lock` for `cpu`. Where it reads the ticket the look hits: the lock's
+    /// block passes to the CPU.
+    ///
+    /// Requires: the holder acts for `cpu`, the lock is there, there is room for an event, and
+    /// `cpu` waits there with `ticket`.
     fn look(&mut self, cpu: CpuId, lock: LockId, ticket: u64) -> Option<<Self::Edit as Edit>::Block>
         requires cpu { ActsFor self.old cpu }
         requires lock { IsSome (opening self.old lock) }
@@ -84,9 +92,11 @@ pub trait Words {
         ensures room { room self.old ≤ room self.new + 1 }
         ensures acts { (c : CpuId) → ActsFor self.old c → ActsFor self.new c };
 
-    /// Frees `lock` for `cpu`, which is inside it: a fetch-and-add of 1 on `serving`. `block` is
-    /// the one that the CPU's look gave, edited as `mark` says, and it goes home. The protocol
-    /// allows that edit there.
+    /// Frees `lock` for `cpu`: a fetch-and-add of 1 on `serving`. `block` goes home.
+    ///
+    /// Requires: the holder acts for `cpu`, the lock is there, there is room for an event, `cpu` is
+    /// inside it, and `block` is the one that the CPU's look gave, edited as `mark` says. The
+    /// protocol allows that edit, and goes on to whatever other CPUs do first.
     fn free(
         &mut self,
         cpu: CpuId,

@@ -1,5 +1,13 @@
 //! One-step machines: each layer's meaning as a machine that keeps what lies beneath as lists and
 //! does a whole call in one step.
+//!
+//! A section of critical sections in one step:
+//!
+//! ```text
+//! let mut machine = PlainLock::<AddOne>::open(alloc, blocks, 1)?;
+//! let mut part = PlainLock::<AddOne>::part(CpuId(0), &[], 1);
+//! let answer = part.poll(&mut machine, lock, AddOne, &mut payload); // Some: it is done
+//! ```
 #![tactic(auto)]
 
 mod attempt_layers;

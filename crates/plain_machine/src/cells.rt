@@ -20,6 +20,8 @@ pub struct Cell<K, B> {
 }
 
 /// Takes a spot in the line of `lock`, and gives its ticket.
+///
+/// Requires: the lock is there.
 #[inline(always)]
 pub fn take<K: LineWords, B>(cells: &mut Vec<Option<Cell<K, B>>>, lock: LockId) -> u64
     requires { IsSome (cell_at cells.old.items lock) }
@@ -35,6 +37,8 @@ pub fn take<K: LineWords, B>(cells: &mut Vec<Option<Cell<K, B>>>, lock: LockId) 
 
 /// Looks at `lock` with `ticket`, and gives the block, if the ticket is served and the block is
 /// home.
+///
+/// Requires: the lock is there.
 #[inline(always)]
 pub fn look<K: LineWords, B>(
     cells: &mut Vec<Option<Cell<K, B>>>,
@@ -59,6 +63,8 @@ pub fn look<K: LineWords, B>(
 }
 
 /// Gives `lock` on, and `block` is home.
+///
+/// Requires: the lock is there.
 #[inline(always)]
 pub fn give<K: LineWords, B: Drop>(cells: &mut Vec<Option<Cell<K, B>>>, lock: LockId, block: B)
     requires { IsSome (cell_at cells.old.items lock) }
@@ -76,6 +82,8 @@ pub fn give<K: LineWords, B: Drop>(cells: &mut Vec<Option<Cell<K, B>>>, lock: Lo
 }
 
 /// The block of `lock`, if it is home.
+///
+/// Requires: the lock is there.
 pub fn home<K, B>(cells: &Vec<Option<Cell<K, B>>>, lock: LockId) -> Option<&B>
     requires { IsSome (cell_at cells.now.items lock) }
     ensures { IfSome (cell_at cells.now.items lock) (λ cell. option_map (λ block. block.now) result ≡ cell.home) }
@@ -87,6 +95,8 @@ pub fn home<K, B>(cells: &Vec<Option<Cell<K, B>>>, lock: LockId) -> Option<&B>
 }
 
 /// The words of `lock`.
+///
+/// Requires: the lock is there.
 pub fn words<K: Copy, B>(cells: &Vec<Option<Cell<K, B>>>, lock: LockId) -> K
     requires { IsSome (cell_at cells.now.items lock) }
     ensures { IfSome (cell_at cells.now.items lock) (λ cell. result ≡ cell.words) }
@@ -112,6 +122,8 @@ pub fn table_len<B>(blocks: &Vec<(LockId, B)>) -> usize
 }
 
 /// A table of `len` slots, all empty.
+///
+/// Errors: `NoMemory` if the table could not be had.
 pub fn empty_table<K: Drop, B: Drop>(
     alloc: Global,
     len: usize,
@@ -128,6 +140,8 @@ pub fn empty_table<K: Drop, B: Drop>(
 }
 
 /// Puts a cell with fresh words and this block in the slot of `lock`.
+///
+/// Requires: the table has a slot for the lock.
 pub fn put<K: LineWords, B: Drop>(cells: &mut Vec<Option<Cell<K, B>>>, lock: LockId, block: B)
     requires { lock_number lock < length cells.old.items }
     ensures { (words : _) × K.Fit 0 0 words × (cells.new.items ≡ with_cell cells.old.items lock (given_cell words block)) }
@@ -139,6 +153,8 @@ pub fn put<K: LineWords, B: Drop>(cells: &mut Vec<Option<Cell<K, B>>>, lock: Loc
 }
 
 /// Puts a cell with fresh words and its block in the slot of each lock.
+///
+/// Requires: no lock stands twice, and the table has a slot for each.
 pub fn fill<K: LineWords, B: Drop>(cells: &mut Vec<Option<Cell<K, B>>>, blocks: Vec<(LockId, B)>)
     requires distinct { AreDistinct blocks.items }
     requires within { All (λ entry. lock_number entry.0 < length cells.old.items) blocks.items }

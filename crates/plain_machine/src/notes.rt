@@ -61,6 +61,8 @@ impl<M> Notes<M> {
     }
 
     /// Notes a draw.
+    ///
+    /// Requires: there is room for an event.
     #[inline(always)]
     pub fn draw(&mut self, cpu: CpuId, lock: LockId)
         requires { 0 < room_left self.old }
@@ -75,6 +77,8 @@ impl<M> Notes<M> {
     }
 
     /// Notes a look of a CPU that waits, with its ticket.
+    ///
+    /// Requires: there is room for an event.
     #[inline(always)]
     pub fn look(&mut self, cpu: CpuId, lock: LockId)
         requires { 0 < room_left self.old }
@@ -90,6 +94,8 @@ impl<M> Notes<M> {
     }
 
     /// Notes a free with its mark.
+    ///
+    /// Requires: there is room for an event.
     #[inline(always)]
     pub fn free(&mut self, cpu: CpuId, lock: LockId, mark: M)
     where

@@ -36,6 +36,8 @@ impl<E: Edit, K: LineWords> Plain<E, K> {
     /// A machine in which each lock has its block at home and nobody has been at its words, with
     /// room for `room` events.
     ///
+    /// Requires: no lock stands twice.
+    ///
     /// Errors: `NoMemory` where the room or the table of locks could not be had.
     pub fn open(
         alloc: Global,
@@ -62,6 +64,8 @@ impl<E: Edit, K: LineWords> Plain<E, K> {
     }
 
     /// The block of `lock`: `None` exactly while a CPU has it.
+    ///
+    /// Requires: the holder acts for some CPU, and the lock is there.
     pub fn home(&self, lock: LockId) -> Option<&E::Block>
         requires acts { (c : CpuId)
             × IsServed K.Fit E.rules (opened self.now.opening.value.items) (history self.now.log) self.now.cells.items c }
@@ -79,6 +83,8 @@ impl<E: Edit> Plain<E, LockWords> {
     ghost use Rattle.event_log.specs.WordsLog.{draws, frees};
 
     /// The words of `lock`, modulo 2^64: how often it was drawn at, and how often it was freed.
+    ///
+    /// Requires: the holder acts for some CPU, and the lock is there.
     pub fn words(&self, lock: LockId) -> LockWords
         requires acts { (c : _) × ⟦<Plain<E> as Words>⟧.ActsFor self.now c }
         requires lock { IsSome (⟦<Plain<E> as Words>⟧.opening self.now lock) }
@@ -96,6 +102,8 @@ impl<E: Edit> Plain<E, Granting> {
 
     /// The words of `lock`: how many tickets were taken, modulo 2^64, and what the gives left in
     /// each grant word.
+    ///
+    /// Requires: the holder acts for some CPU, and the lock is there.
     pub fn words(&self, lock: LockId) -> GrantLockWords
         requires acts { (c : _) × ⟦<Plain<E, Granting> as GrantWords>⟧.ActsFor self.now c }
         requires lock { IsSome (⟦<Plain<E, Granting> as GrantWords>⟧.opening self.now lock) }

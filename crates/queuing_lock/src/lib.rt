@@ -1,5 +1,13 @@
 //! The queuing lock: whoever finds it taken sleeps, and the releaser hands it to the first sleeper,
 //! so that it passes from owner to owner without becoming free.
+//!
+//! Thread 3 asks for the lock of buffer 0, and is polled until it owns it:
+//!
+//! ```text
+//! let mut part = QLock::<S>::part(CpuId(0), &homes, 1);
+//! let call = QEdit::Acquire(Tid(3));
+//! let outcome = part.poll(&mut machine, BufId(0), call, &mut payload); // None: poll it again
+//! ```
 #![tactic(auto)]
 
 mod blocks;

@@ -40,6 +40,8 @@ impl Slept {
     }
 
     /// The sleep of `t` is over.
+    ///
+    /// Requires: the thread is below `THREADS`.
     #[inline(always)]
     pub fn over(&mut self, t: Tid)
         requires { t.0 < THREADS }
@@ -49,6 +51,8 @@ impl Slept {
     }
 
     /// `t` sleeps for the lock of `buffer` from now on.
+    ///
+    /// Requires: the thread is below `THREADS`.
     #[inline(always)]
     pub fn put(&mut self, t: Tid, buffer: BufId)
         requires { t.0 < THREADS }
@@ -59,6 +63,8 @@ impl Slept {
 
     /// Takes what the lock of `buffer` told `t`: who is queued sleeps there, and its call goes on;
     /// each other outcome is handed on.
+    ///
+    /// Requires: the thread is below `THREADS`.
     #[inline(always)]
     pub fn complete<O: Drop>(
         &mut self,

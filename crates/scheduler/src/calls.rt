@@ -1,4 +1,6 @@
 //! Which call a scheduler's call is at the shared queues.
+//!
+//! No call takes memory, and none waits.
 
 ghost use Rattle.std.specs.Prelude.{◌≡◌, Some, None, IfOk, IfErr};
 ghost use Rattle.layer_traits.specs.declared.scheds.SchedCall.TheVariants as calls;
@@ -8,8 +10,11 @@ ghost use Rattle.layer_traits.specs.Scheds.{queue_call};
 use event_log::{CpuId, Tid};
 use layer_traits::{Pass, QueueCall, SchedCall};
 
-/// The call of `cpu` at the shared queues, into which `call` is moved; the pass that `call` is, where
-/// it touches nothing shared. `homes` holds the home of each thread.
+/// The call of `cpu` at the shared queues, into which `call` is moved. `homes` holds the home of
+/// each thread.
+///
+/// Errors: the pass that `call` is, if it touches nothing shared: there is no call beneath. Nothing
+/// else has changed.
 #[inline(always)]
 pub fn call_beneath<E>(
     homes: &[CpuId],

@@ -1,4 +1,6 @@
 //! What a CPU has of its own.
+//!
+//! No call takes memory, and none waits.
 
 ghost use Rattle.std.specs.Prelude.{◌≡◌, ◌≢◌, ◌≤◌, ◌<◌, ◌++◌, [], Option, Some, true, false, length};
 ghost use Rattle.event_log.specs.declared.ids.TheConstants.{THREADS};
@@ -34,8 +36,10 @@ impl Model for OwnThreads {
 }
 
 impl OwnThreads {
-    /// What `cpu` has of its own at boot: all threads at home on it are ready, in the order of their
-    /// numbers. `homes` holds the home of each thread, at most `THREADS` of them.
+    /// What `cpu` has of its own at boot: all threads at home on it are ready, in the order of
+    /// their numbers. `homes` holds the home of each thread.
+    ///
+    /// Requires: there are at most `THREADS` homes.
     pub fn at_boot(homes: &[CpuId], cpu: CpuId) -> OwnThreads
         requires { length homes.now ≤ THREADS }
         ensures { result ≡ at_boot homes.now cpu }
@@ -156,6 +160,8 @@ impl OwnThreads {
 
     /// Does a pass that touches nothing shared: a switch, or the end of the thread that runs. Any
     /// other pass changes nothing.
+    ///
+    /// Requires: the thread that runs, if one does, is below `THREADS` and has not ended.
     #[inline(always)]
     pub fn local(&mut self, pass: Pass)
         requires { MayFinish self.old }
@@ -170,6 +176,9 @@ impl OwnThreads {
 
     /// Takes up the answer of the shared queues, and gives the scheduler's. The threads that were
     /// taken go straight from the payload to those that are ready.
+    ///
+    /// Requires: who becomes ready by the answer is below `THREADS`, is not ready yet and comes
+    /// once, and the payload holds what the answer brings.
     #[inline(always)]
     pub fn answered<E: Moves>(
         &mut self,

@@ -1,4 +1,6 @@
 //! The scheduler.
+//!
+//! No call takes memory, and none waits.
 
 ghost use Rattle.std.specs.Prelude.{◌≡◌};
 

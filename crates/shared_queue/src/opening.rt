@@ -1,4 +1,6 @@
 //! The blocks of shared queues at boot.
+//!
+//! `queue_blocks` takes all memory that the blocks need, and does not wait.
 
 ghost use Rattle.std.specs.Prelude.{◌≡◌, ◌+◌, ◌≤◌, ◌<◌, ◌++◌, IsSome, IfOk, length, slice_get, vec_len, vec_capacity};
 ghost use Rattle.event_log.specs.declared.ids.LockId.TheVariants.{Pending, Buffer};
@@ -42,7 +44,10 @@ fn empty_queues<B: Drop>(
 /// many CPUs, and for each of `blocks` the buffer whose number is its place. `homes` holds the home
 /// of each thread. All memory that the blocks need is taken here.
 ///
-/// Errors: `NoMemory` where an allocation was refused.
+/// Requires: there are at least one CPU and at most `CPUS`, at most `BUFFERS` blocks and at most
+/// `THREADS` homes. Each home is one of the CPUs.
+///
+/// Errors: `NoMemory` if an allocation was refused; then the blocks are gone.
 pub fn queue_blocks<B: Drop>(
     alloc: Global,
     mut blocks: Vec<B>,

@@ -1,4 +1,6 @@
 //! Shared queues under locks.
+//!
+//! No call takes memory, and none waits.
 
 ghost use Rattle.std.specs.Prelude.{◌≡◌, true, refl};
 ghost use Rattle.layer_traits.specs.Queues.{lock_of, edit_of};

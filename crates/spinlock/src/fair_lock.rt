@@ -1,4 +1,6 @@
 //! The line at a lock, whatever the lock's words are.
+//!
+//! No call takes memory, and none waits.
 
 ghost use Rattle.std.specs.Prelude.{◌≡◌, ℕ, ◌+◌, ◌%◌, ◌^◌, ◌<◌, ◌≤◌, Bool, List, Option, IsSome, MatchOption, option_map, ◌↔◌};
 
@@ -44,7 +46,10 @@ pub trait FairLock<LockProtocol> {
     /// No section of this CPU is under way.
     ghost IsOutside: { Self → CpuId → Type 0 };
 
-    /// Takes a spot in the line of `lock` for `cpu`, which rests, and gives its ticket.
+    /// Takes a spot in the line of `lock` for `cpu`, and returns its ticket.
+    ///
+    /// Requires: the holder acts for `cpu`, the lock is there, there is room for an event, and
+    /// `cpu` neither waits at a lock nor holds one.
     fn join(&mut self, cpu: CpuId, lock: LockId) -> u64
         requires cpu { ActsFor self.old cpu }
         requires lock { IsSome (opening self.old lock) }
@@ -57,8 +62,10 @@ pub trait FairLock<LockProtocol> {
         ensures room { room self.old ≤ room self.new + 1 }
         ensures acts { (c : CpuId) → ActsFor self.old c → ActsFor self.new c };
 
-    /// Tries to enter `lock` for `cpu`, which waits there with this ticket; gives the lock's block
-    /// where it enters.
+    /// Tries to enter `lock` for `cpu`. Returns the lock's block if it enters.
+    ///
+    /// Requires: the holder acts for `cpu`, the lock is there, there is room for an event, and
+    /// `cpu` waits there with `ticket`.
     fn enter(
         &mut self,
         cpu: CpuId,
@@ -80,8 +87,11 @@ pub trait FairLock<LockProtocol> {
         ensures room { room self.old ≤ room self.new + 1 }
         ensures acts { (c : CpuId) → ActsFor self.old c → ActsFor self.new c };
 
-    /// Gives `lock` on for `cpu`, which holds it. `block` is the one with which it entered, edited
-    /// by `edit`, and it goes home. The protocol allows that edit there.
+    /// Gives `lock` on for `cpu`. `block` goes home.
+    ///
+    /// Requires: the holder acts for `cpu`, the lock is there, there is room for an event, `cpu`
+    /// holds it, and `block` is the one with which it entered, edited by `edit`. The protocol
+    /// allows that edit, and goes on to whatever other CPUs do first.
     fn leave(
         &mut self,
         cpu: CpuId,

@@ -1,5 +1,17 @@
 //! The locks at which CPUs take turns: critical sections over the words of a machine. One body
 //! serves both kinds of words.
+//!
+//! A part of a ticket lock over the owned machine, polled until it answers:
+//!
+//! ```text
+//! let mut machine = Ticket::<Plain<AddOne>>::open(alloc, blocks, 3)?;
+//! let mut part = Ticket::<Plain<AddOne>>::part(CpuId(0), &[], 1);
+//! let mut payload = Payload::new();
+//! for _ in 0..3 {
+//!     // None as it draws and as its look hits; then Some: the section is done.
+//!     let answer = part.poll(&mut machine, lock, AddOne, &mut payload);
+//! }
+//! ```
 #![tactic(auto)]
 
 mod fair_lock;

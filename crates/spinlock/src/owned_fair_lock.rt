@@ -1,4 +1,6 @@
 //! Machines at whose locks CPUs stand in line, that are opened with their blocks and tell of them.
+//!
+//! Only `open` takes memory, and no call waits.
 
 ghost use Rattle.std.specs.Prelude.{◌≡◌, ◌<◌, [], Option, Some, IsSome, IfOk, MatchOption, option_map};
 
@@ -20,8 +22,10 @@ pub trait OwnedFairLock<LockProtocol>: FairLock<LockProtocol> {
     /// The block of a lock where it is at home.
     ghost block_at: { Self → LockId → Option Self.Edit.Block };
 
-    /// A machine with these locks, each named once with its block, and with room for `room` events.
-    /// All memory is taken here.
+    /// A machine with these locks, each with its block, and with room for `room` events. All memory
+    /// is taken here.
+    ///
+    /// Requires: no lock stands twice in `blocks`.
     ///
     /// Errors: `NoMemory` where an allocation was refused; then the blocks are gone.
     fn open(
@@ -35,7 +39,9 @@ pub trait OwnedFairLock<LockProtocol>: FairLock<LockProtocol> {
         ensures room { IfOk result (λ m. Self.room m ≡ room) }
         ensures owned { IfOk result (λ m. (c : CpuId) → c.0 < CPUS → Self.ActsFor m c) };
 
-    /// The block of `lock`, which there is; `None` where it is in the hands of a CPU.
+    /// The block of `lock`; `None` where it is in the hands of a CPU.
+    ///
+    /// Requires: the holder acts for some CPU, and the lock is there.
     fn block(&self, lock: LockId) -> Option<&<Self::Edit as Edit>::Block>
         requires acts { (c : CpuId) × Self.ActsFor self.now c }
         requires lock { IsSome (Self.opening self.now lock) }

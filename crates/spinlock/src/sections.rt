@@ -43,6 +43,11 @@ fn alone<E: Edit, L: LockLayer<E>>(
 /// Does the whole section of `edit` at `lock`, where no CPU has a ticket and the holder of the
 /// machine acts for every CPU: three polls, of which the first draws, the second hits and the third
 /// frees with the answer. The edit is one that puts nothing: whatever lies in the payload, it holds that.
+///
+/// Requires: part and machine agree, a poll is one action, the holder acts for every CPU, and no
+/// CPU has a ticket. The lock is there, there is room for three events, and the part has no call
+/// under way. The edit is allowed and stays so, and it puts nothing: whatever lies in the payload,
+/// it holds that.
 pub fn whole<E: Edit + Copy, L: LockLayer<E>>(
     part: &mut L,
     m: &mut L::Machine,

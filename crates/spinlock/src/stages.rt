@@ -1,4 +1,6 @@
 //! How far a section has come.
+//!
+//! No call takes memory, and none waits.
 
 ghost use Rattle.std.specs.Prelude.{◌≡◌, option_map};
 

@@ -24,6 +24,8 @@ impl<E: Edit, K: TableWords> Shared<E, K> {
     /// takes the keys of all CPUs, none with a ticket outstanding. There is one legal words log that
     /// begins with the log of each key and holds of each CPU just the events which its key has
     /// seen; each block is the fold of its lock's sections in that log. Takes no memory.
+    ///
+    /// Requires: there is one key for each CPU, each is one of this table, and none is at a lock.
     pub fn close(self, keys: Vec<Key<E>>) -> Vec<(LockId, E::Block)>
         requires covers { Covers self.cpus keys.items }
         requires keys { All (IsOver self) keys.items }

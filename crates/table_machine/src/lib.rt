@@ -2,6 +2,18 @@
 //! table serves both kinds of words, those of ticket locks and those with a grant word for each
 //! waiter. A seat meets the very law of words that the owned machine meets. No call waits for another
 //! thread, and no lock of the operating system is used.
+//!
+//! A table of two CPUs, and one section of the second of them at its seat:
+//!
+//! ```text
+//! let (shared, mut keys) = Shared::<AddOne, TicketWords>::open(alloc, blocks, 2)?;
+//! let mut seat = shared.seat(keys.pop()?);
+//! let ticket = seat.draw(CpuId(1), lock);
+//! let block = seat.look(CpuId(1), lock, ticket)?; // None: another CPU is before it
+//! seat.free(CpuId(1), lock, block + 1, mark);
+//! keys.push(seat.back())?;
+//! let blocks = shared.close(keys);
+//! ```
 #![tactic(auto)]
 
 mod close;

@@ -34,6 +34,8 @@ impl<E: Edit, K: TableWords> Shared<E, K> {
     /// one key for each CPU, from CPU 0 up. `cpus` is at most `CPUS`. Nothing has happened yet: the
     /// log of each key is empty.
     ///
+    /// Requires: no lock stands twice, and there are at most `CPUS` CPUs.
+    ///
     /// Errors: `NoMemory` where memory was refused; the blocks are dropped and nothing was made.
     pub fn open(
         alloc: Global,

@@ -40,6 +40,8 @@ impl<'a, E: Edit, K: TableWords> Model for Seat<'a, E, K> {
 
 impl<E: Edit, K: TableWords> Shared<E, K> {
     /// Takes the seat of the key's CPU. The key is one of this table. Takes no memory.
+    ///
+    /// Requires: the key is one of this table.
     pub fn seat(&self, key: Key<E>) -> Seat<'_, E, K>
         requires { IsOf self.now key }
         ensures seat { result ≡ key }
@@ -115,6 +117,8 @@ impl<'a, E: Edit> UsesGrantWords for Seat<'a, E, WaiterWords> {}
 /// Brings the second seat's view up to the first's: afterwards the second's log begins with all
 /// that the first has seen, and each still has all that it had seen. It may come at any moment, in
 /// the middle of a section too, and is no event of the log. Takes no memory.
+///
+/// Requires: both seats are at one table.
 pub fn meet<E: Edit, K: TableWords>(first: &mut Seat<'_, E, K>, second: &mut Seat<'_, E, K>)
     requires { second.old.table ≡ first.old.table }
     ensures first { first.new ≡ first.old }

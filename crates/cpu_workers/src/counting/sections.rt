@@ -90,6 +90,9 @@ fn work_at<L: LockLayer<AddOne> + Drop, R: Wait>(
 /// The words of a table's locks, by which the workers of a count take turns.
 pub trait CountWords: TableWords {
     /// So many sections of the key's CPU, which add 1 each.
+    ///
+    /// Requires: the key is one of this table, its CPU neither waits at a lock nor holds one, and
+    /// the lock of the number is there.
     fn work<R: Wait>(
         rt: &R,
         shared: &Shared<AddOne, Self>,

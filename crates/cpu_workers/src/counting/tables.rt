@@ -36,6 +36,9 @@ fn open_number<K: TableWords>(
 /// Closes the table, whose number was 0 before each of its CPUs did `times` sections that add 1, and
 /// gives the number. It is how often its lock was freed in one legal log, which begins with the log
 /// of each key and has no other CPU's events.
+///
+/// Requires: the table has the one lock of the number, which was 0, and at most `CPUS` CPUs. Each
+/// key has made just so many sections. All sections together are fewer than 2^64.
 pub fn number_left<K: TableWords>(
     shared: Shared<AddOne, K>,
     keys: Vec<Key<AddOne>>,
@@ -94,6 +97,10 @@ fn count_if_open<K: CountWords + Sync, R: Threads + Wait + Sync>(
 }
 
 /// As [`count_table`], with the number that is left where nothing was counted.
+///
+/// Requires: there are at most `CPUS` CPUs, and all sections together are fewer than 2^64.
+///
+/// Errors: as `count_table`; then the number that is left is 0.
 pub fn count_or_leave<R: Threads + Wait + Sync>(
     rt: &R,
     alloc: Global,
@@ -120,6 +127,8 @@ pub fn count_or_leave<R: Threads + Wait + Sync>(
 /// a thread of its own, with its own seat at one table. All threads are started before any is handed
 /// its CPU's key, without which there is no section, and all are joined. The number is read from the
 /// block that the closed table gives.
+///
+/// Requires: there are at most `CPUS` CPUs, and all sections together are fewer than 2^64.
 ///
 /// Errors: `NoMemory` where memory ran out and `NoThread` where a thread could not be started; then
 /// no section was done, and the threads that were started are joined.
