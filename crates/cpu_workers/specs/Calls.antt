@@ -26,6 +26,7 @@ abbrev pub MayBegin : Tid → Threads → Begun → Type 0
 MayBegin t own Calls = own.current ≡ Some t
 MayBegin t own (Passes pass) = MayPass pass own
 
+-- the same of a CPU that has begun this, or nothing
 abbrev pub MayPoll : Tid → Threads → Option Begun → Type 0
 MayPoll t own None = Unit {0}
 MayPoll t own (Some begun) = MayBegin t own begun
