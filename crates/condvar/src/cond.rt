@@ -17,17 +17,18 @@ pub struct Cond<Q> {
 }
 
 impl<G: Guarded, Q: QLockLayer<CvEdit<G>>> CvLayer<G> for Cond<Q> {
-    ghost use Rattle.std.specs.Prelude.{◌≡◌, ◌≢◌, ◌+◌, ◌<◌, ◌≤◌, None, Some, IsSome, IfSome};
-    ghost use Rattle.event_log.specs.declared.ids.CpuId.{CpuId};
+    ghost use Rattle.std.specs.Prelude.{◌≡◌, ◌<◌, None, Some, IsSome, IfSome};
     ghost use Rattle.event_log.specs.declared.ids.LockId.TheVariants.{Buffer};
     ghost use Rattle.layer_traits.specs.Conditions.{cv_rules};
     ghost use Rattle.layer_traits.specs.CvLaw.{CvPolled, MayWait, MustStay, cv_plan, waiting_with};
+    ghost use Rattle.layer_traits.specs.Framed.{Framed};
     ghost use Rattle.layer_traits.specs.LockLaw.{MayGo, MayLock, lock_kernel, slept_for};
     ghost use Rattle.layer_traits.specs.Locking.{lock_caller, lock_moves, lock_rules};
-    ghost use Rattle.layer_traits.specs.Plans.{Follows, IsWhole, table_of};
+    ghost use Rattle.layer_traits.specs.Plans.{Follows, table_of};
     ghost use Rattle.layer_traits.specs.QueueBlocks.{homes_in};
     ghost use Rattle.layer_traits.specs.QueueRules.{queue_rules};
     ghost use Rattle.layer_traits.specs.Payloads.{cv_brought, cv_carried, lock_brought, lock_carried};
+    ghost use Rattle.condvar.specs.declared.cond.Cond.{Cond};
     ghost use Rattle.condvar.specs.Waiting.{with_waits};
 
     type Machine = Q::Machine;
@@ -44,6 +45,8 @@ impl<G: Guarded, Q: QLockLayer<CvEdit<G>>> CvLayer<G> for Cond<Q> {
 
     ghost IsOutside = { λ m c. Q.IsOutside m c };
 
+    ghost MayHold = { λ m c. Q.MayHold m c };
+
     ghost cpu_of = { λ p. Q.cpu_of p.lower };
 
     ghost own = { λ p. with_waits (Q.own p.lower) p.waits.buffers };
@@ -55,6 +58,8 @@ impl<G: Guarded, Q: QLockLayer<CvEdit<G>>> CvLayer<G> for Cond<Q> {
     ghost Fits = { λ p m. Q.Fits p.lower m };
 
     ghost IsStepwise = { Q.IsStepwise };
+
+    ghost IsWhole = { Q.IsWhole };
 
     ghost acts = { λ m. Q.acts m };
 
@@ -130,15 +135,10 @@ impl<G: Guarded, Q: QLockLayer<CvEdit<G>>> CvLayer<G> for Cond<Q> {
             (waiting_with (Q.own self.new.lower) self.new.waits.buffers result) }
         ensures woken { IsSome (slept_for self.old.waits.buffers (lock_caller (cv_rules G.monitor_rules) call)) → m.new ≡ m.old }
         ensures handed { IsSome (slept_for (Q.own self.old.lower).slept (lock_caller (cv_rules G.monitor_rules) call)) → m.new ≡ m.old }
-        ensures fits { Q.Fits self.new.lower m.new }
-        ensures cpu { Q.cpu_of self.new.lower ≡ Q.cpu_of self.old.lower }
-        ensures opening { Q.opening m.new ≡ Q.opening m.old }
-        ensures site { Q.site m.new ≡ Q.site m.old }
-        ensures room { Q.room m.old ≤ Q.room m.new + 1 }
-        ensures acts { (c : CpuId) → Q.ActsFor m.old c → Q.ActsFor m.new c }
-        ensures others { (p : Q) → Q.cpu_of p ≢ Q.cpu_of self.old.lower → Q.Fits p m.old → Q.Fits p m.new }
+        ensures framed { Framed (λ (p : Cond Q) k. Q.Fits p.lower k) (λ p. Q.cpu_of p.lower) (λ k. Q.opening k) (λ k. Q.site k) (λ k. Q.room k)
+            (λ k c. Q.ActsFor k c) (λ k c. Q.MayHold k c) self.old self.new m.old m.new }
         ensures brought { IfSome result (λ outcome. lock_brought (cv_brought G.brought) outcome.out payload.new.message) }
-        ensures prompt { IsWhole Q.IsStepwise → result ≡ None
+        ensures prompt { Q.IsWhole → result ≡ None
             → MustStay (lock_caller (cv_rules G.monitor_rules) call) buffer (with_waits (Q.own self.old.lower) self.old.waits.buffers)
             (with_waits (Q.own self.new.lower) self.new.waits.buffers) }
         ensures follows { Q.IsStepwise
@@ -193,14 +193,12 @@ impl<G: Guarded, Q: QLockLayer<CvEdit<G>>> CvLayer<G> for Cond<Q> {
 }
 
 impl<G: Guarded, Q: OwnedQLocks<CvEdit<G>>> OwnedConds<G> for Cond<Q> {
-    ghost use Rattle.std.specs.Prelude.{◌≡◌, Some, true, refl};
+    ghost use Rattle.std.specs.Prelude.{Some, refl};
     ghost use Rattle.event_log.specs.declared.ids.LockId.TheVariants.{Buffer};
-    ghost use Rattle.event_log.specs.Actions.{phase};
     ghost use Rattle.layer_traits.specs.Conditions.{cv_rules};
     ghost use Rattle.layer_traits.specs.LockLaw.{lock_kernel};
     ghost use Rattle.layer_traits.specs.Locking.{lock_after};
     ghost use Rattle.layer_traits.specs.Places.{pending_by};
-    ghost use Rattle.layer_traits.specs.Plans.{is_in_section};
     ghost use Rattle.layer_traits.specs.QueueBlocks.{inner};
     ghost use Rattle.layer_traits.specs.Queues.{buffer_sections, moves_in};
     ghost use Rattle.layer_traits.proofs.OwnedLemmas.{shown_under};
@@ -255,14 +253,14 @@ impl<G: Guarded, Q: OwnedQLocks<CvEdit<G>>> OwnedConds<G> for Cond<Q> {
 
     ghost shown = { λ m c b acts there. shown_under (λ (p : Self). p.lower) (λ p. Q.Fits p m) (λ (p : Self). Self.Fits p m) (λ p. Q.cpu_of p)
         (λ (p : Self). Q.cpu_of p.lower)
-        (λ d. Q.IsStepwise × (is_in_section (phase d (Q.acts m)) ≡ true)) (λ d. Q.IsStepwise × (is_in_section (phase d (Q.acts m)) ≡ true))
+        (Q.MayHold m) (Q.MayHold m)
         (λ p. Q.lock_with p b) (Q.lock_at m b)
         (lock_after (cv_rules G.monitor_rules) (inner (Q.opening m)) (Buffer b) (buffer_sections (Q.seen m)))
         (λ p fits. fits) (λ p fits. refl) (λ d inside. inside) (Q.shown m c b acts there) };
 
     ghost queues = { λ m c d acts there. shown_under (λ (p : Self). p.lower) (λ p. Q.Fits p m) (λ (p : Self). Self.Fits p m) (λ p. Q.cpu_of p)
         (λ (p : Self). Q.cpu_of p.lower)
-        (λ d. Q.IsStepwise × (is_in_section (phase d (Q.acts m)) ≡ true)) (λ d. Q.IsStepwise × (is_in_section (phase d (Q.acts m)) ≡ true))
+        (Q.MayHold m) (Q.MayHold m)
         (λ p. Q.queue_with p d) (Q.queue_at m d)
         (Some (pending_by (moves_in (lock_kernel (cv_rules G.monitor_rules) (Q.opening m)) (Q.seen m)) d))
         (λ p fits. fits) (λ p fits. refl) (λ d inside. inside) (Q.queues m c d acts there) };

@@ -85,15 +85,16 @@ cpu_frame homes homes2 buffers buffers2 seen seen2 own call_states under_way num
     (seen_stays (valid_cpu is) seen2 same))
 
 -- the system after a step of CPU k, which left y in its place
-pub system_step : {X N : Type 0} (One Two : X → Type 0) (number : X → CpuId) (Acts1 Acts2 : CpuId → Type 0) (IsStepwise : Type 0)
+pub system_step : {X N : Type 0} (One Two : X → Type 0) (number : X → CpuId) (Acts1 Acts2 Holds1 Holds2 : CpuId → Type 0) (IsStepwise : Type 0)
     (acts1 acts2 : List (Action N)) (cpus : List X) (homes homes2 : List CpuId) (seen seen2 : List Entry) (room taken left left2 k : ℕ) (y : X)
     (Sound1 Sound2 : Type 0)
-    → IsSystem One number Acts1 IsStepwise acts1 cpus homes seen room taken left Sound1 → Sound2 → k < length cpus → number y ≡ cpu_at k → Two y
+    → IsSystem One number Acts1 Holds1 IsStepwise acts1 cpus homes seen room taken left Sound1 → Sound2 → k < length cpus → number y ≡ cpu_at k → Two y
     → ((j : ℕ) (x : X) → j ≢ k → j < CPUS → IsAt One number j x → Two x) → ((c : CpuId) → Acts1 c → Acts2 c)
+    → ((c : CpuId) → c ≢ cpu_at k → Acts1 c → Holds2 c → Holds1 c)
     → SeenGrows Acts1 (cpu_at k) seen seen2 → (IsStepwise → ActsGrow Acts1 (cpu_at k) acts1 acts2) → AllByRecursion (λ e. e.cpu.0 < CPUS) seen2 → homes2 ≡ homes
-    → left ≤ left2 + 1 → taken < room → IsSystem Two number Acts2 IsStepwise acts2 (slice_set cpus k y) homes2 seen2 room (taken + 1) left2 Sound2
-system_step One Two number Acts1 Acts2 IsStepwise acts1 acts2 cpus homes homes2 seen seen2 room taken left left2 k y
-    Sound1 Sound2 is sound within numbered here there goes grows does known
+    → left ≤ left2 + 1 → taken < room → IsSystem Two number Acts2 Holds2 IsStepwise acts2 (slice_set cpus k y) homes2 seen2 room (taken + 1) left2 Sound2
+system_step One Two number Acts1 Acts2 Holds1 Holds2 IsStepwise acts1 acts2 cpus homes homes2 seen seen2 room taken left left2 k y
+    Sound1 Sound2 is sound within numbered here there goes holders grows does known
     same room_left live = record {
       each = λ j x at. each_at j x at (cases_eq j k);
       some = let some = is.some in omega (arith, count, some);
@@ -105,6 +106,9 @@ system_step One Two number Acts1 Acts2 IsStepwise acts1 acts2 cpus homes homes2 
       within = λ t home at. let inside = is.within t home (ap (λ (h : List CpuId). slice_get h t.0) (sym same) ∙ at) in omega (arith, count, inside);
       rest = λ step c past exists. let out : length cpus ≤ c.0 = omega (arith, count, past) in
           phase_stays Acts1 (cpu_at k) c acts1 acts2 (λ e. omega (arith, e, out, within)) (is.acts_for c exists) (does step) ∙ is.rest step c out exists;
+      holders = λ c past exists holds. let out : length cpus ≤ c.0 = omega (arith, count, past) in
+          let apart : c ≢ cpu_at k = λ e. let same : c.0 ≡ k = ap (λ (d : CpuId). d.0) e in omega (arith, same, out, within) in
+          is.holders c out exists (holders c apart (is.acts_for c exists) holds);
       short = let few = grows.few in let short = is.short in let long = length_is in omega (arith, few, short, long);
       used = omega (arith, live);
       small = is.small;
@@ -147,8 +151,8 @@ system_step One Two number Acts1 Acts2 IsStepwise acts1 acts2 cpus homes homes2 
         record { number_is = before.number_is; holds = there j x other (omega (arith, inside, most)) before }
 
 -- What a machine M and the CPUs X that work in it tell of themselves: whether a CPU's part fits the machine, its number and that of its
--- part, what it shows, its call states, what it is doing, and for how many entries its trace has memory; of the machine for whom it acts, whether
--- it does one action a step, what it tells, and how much room is left; and what else is asked of a CPU and of the system.
+-- part, what it shows, its call states, what it is doing, and for how many entries its trace has memory; of the machine for whom it acts, who may hold
+-- a lock, whether it does one action a step, what it tells, and how much room is left; and what else is asked of a CPU and of the system.
 pub record Works (M X : Type 0) : Type 1 where
   pub Fits : X → M → Type 0
   pub number : X → CpuId
@@ -158,6 +162,7 @@ pub record Works (M X : Type 0) : Type 1 where
   pub under_way : X → Option UnderWay
   pub capacity : X → ℕ
   pub ActsFor : M → CpuId → Type 0
+  pub MayHold : M → CpuId → Type 0
   pub IsStepwise : Type 0
   pub told : M → Observed
   pub left : M → ℕ
@@ -174,8 +179,8 @@ module _ {M X : Type 0} (of : Works M X) where
   IsOne m x = of.Fits x m × (of.cpu x ≡ of.number x) × Keeps m x × of.Tabled m x
 
   abbrev pub Holds : M → List X → ℕ → ℕ → Type 0
-  Holds m cpus room taken = IsSystem (IsOne m) of.number (of.ActsFor m) of.IsStepwise (of.told m).acts cpus (of.told m).homes (of.told m).seen room taken
-      (of.left m) (of.Sound m cpus room taken)
+  Holds m cpus room taken = IsSystem (IsOne m) of.number (of.ActsFor m) (of.MayHold m) of.IsStepwise (of.told m).acts cpus (of.told m).homes
+      (of.told m).seen room taken (of.left m) (of.Sound m cpus room taken)
 
   -- nothing has changed
   pub again : (m m2 : M) (cpus : List X) (room taken k : ℕ) (x y : X) → Holds m cpus room taken → slice_get cpus k ≡ Some x → m2 ≡ m → y ≡ x
@@ -189,15 +194,18 @@ module _ {M X : Type 0} (of : Works M X) where
       → slice_get cpus k ≡ Some x → of.number y ≡ of.number x → of.cpu y ≡ of.number x → of.Fits y m2 → Keeps m2 y
       → of.Tabled m2 y → ((z : X) → of.Tabled m z → of.Tabled m2 z)
       → ((z : X) → of.cpu z ≢ of.number x → of.Fits z m → of.Fits z m2) → ((c : CpuId) → of.ActsFor m c → of.ActsFor m2 c)
+      → ((c : CpuId) → c ≢ of.number x → of.ActsFor m c → of.MayHold m2 c → of.MayHold m c)
       → SeenGrows (of.ActsFor m) (of.number x) (of.told m).seen (of.told m2).seen
       → (of.IsStepwise → ActsGrow (of.ActsFor m) (of.number x) (of.told m).acts (of.told m2).acts)
       → AllByRecursion (λ e. e.cpu.0 < CPUS) (of.told m2).seen → (of.told m2).homes ≡ (of.told m).homes → (of.told m2).caps ≡ (of.told m).caps
       → of.left m ≤ of.left m2 + 1 → taken < room → Holds m2 (slice_set cpus k y) room (taken + 1)
-  stepped m m2 cpus room taken k x y is sound at numbered of_cpu_is fits here tabled tables others goes grows does known same_homes same_caps room_left live =
-      system_step (IsOne m) (IsOne m2) of.number (of.ActsFor m) (of.ActsFor m2) of.IsStepwise (of.told m).acts (of.told m2).acts cpus
-      (of.told m).homes (of.told m2).homes (of.told m).seen (of.told m2).seen room taken (of.left m) (of.left m2) k y (of.Sound m cpus room taken)
+  stepped m m2 cpus room taken k x y is sound at numbered of_cpu_is fits here tabled tables others goes holders grows does known same_homes same_caps
+      room_left live =
+      system_step (IsOne m) (IsOne m2) of.number (of.ActsFor m) (of.ActsFor m2) (of.MayHold m) (of.MayHold m2) of.IsStepwise (of.told m).acts (of.told m2).acts
+      cpus (of.told m).homes (of.told m2).homes (of.told m).seen (of.told m2).seen room taken (of.left m) (of.left m2) k y (of.Sound m cpus room taken)
       (of.Sound m2 (slice_set cpus k y) room (taken + 1)) is sound
       (slice_get_within cpus k x at) (numbered ∙ is_k) (fits, of_cpu_is ∙ sym numbered, here, tabled) there goes
+      (subst (λ (d : CpuId). (c : CpuId) → c ≢ d → of.ActsFor m c → of.MayHold m2 c → of.MayHold m c) is_k holders)
       (subst (λ (c : CpuId). SeenGrows (of.ActsFor m) c (of.told m).seen (of.told m2).seen) is_k grows)
       (λ step. subst (λ (c : CpuId). ActsGrow (of.ActsFor m) c (of.told m).acts (of.told m2).acts) is_k (does step)) known same_homes room_left live
     where

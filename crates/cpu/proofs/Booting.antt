@@ -87,12 +87,14 @@ boots_as I m p homes buffers k guests most is fresh counted same none are few = 
 )
 
 -- a system before its first step
-pub opens : {X N : Type 0} (IsOne : X → Type 0) (number : X → CpuId) (ActsFor : CpuId → Type 0) (IsStepwise : Type 0) (acts : List (Action N)) (cpus : List X)
+pub opens : {X N : Type 0} (IsOne : X → Type 0) (number : X → CpuId) (ActsFor MayHold : CpuId → Type 0) (IsStepwise : Type 0) (acts : List (Action N))
+    (cpus : List X)
     (homes homes2 : List CpuId) (seen : List Entry) (caps : List ℕ) (room left n : ℕ) (Sound : Type 0) → Sound → AreOpenable n caps homes → length cpus ≡ n
-    → ((k : ℕ) (x : X) → slice_get cpus k ≡ Some x → IsAt IsOne number k x) → ((c : CpuId) → c.0 < CPUS → ActsFor c) → acts ≡ [] → homes2 ≡ homes → seen ≡ []
-    → room < 2 ^ 64 → room ≤ left → IsSystem IsOne number ActsFor IsStepwise acts cpus homes2 seen room 0 left Sound
-opens IsOne number ActsFor IsStepwise acts cpus homes homes2 seen caps room left n Sound sound openable count each acts_for nothing same none small
-    enough = record {
+    → ((k : ℕ) (x : X) → slice_get cpus k ≡ Some x → IsAt IsOne number k x) → ((c : CpuId) → c.0 < CPUS → ActsFor c)
+    → ((c : CpuId) → MayHold c → ⊥) → acts ≡ [] → homes2 ≡ homes → seen ≡ []
+    → room < 2 ^ 64 → room ≤ left → IsSystem IsOne number ActsFor MayHold IsStepwise acts cpus homes2 seen room 0 left Sound
+opens IsOne number ActsFor MayHold IsStepwise acts cpus homes homes2 seen caps room left n Sound sound openable count each acts_for nobody nothing same none
+    small enough = record {
       each = each;
       some = let some = openable.some_cpus in omega (arith, some, count);
       most = let most = openable.most_cpus in omega (arith, most, count);
@@ -105,6 +107,7 @@ opens IsOne number ActsFor IsStepwise acts cpus homes homes2 seen caps room left
           let below : home.0 < n = subst (λ (h : CpuId). h.0 < n) (get_or_from_slice_get homes t.0 home home there) exists in
           omega (arith, below, count);
       rest = λ step c past exists. rw nothing refl;
+      holders = λ c past exists holds. nobody c holds;
       short = rw none (omega arith);
       used = omega arith;
       small = small;
@@ -113,11 +116,12 @@ opens IsOne number ActsFor IsStepwise acts cpus homes homes2 seen caps room left
     }
 
 -- the same system, of which the table says something that follows
-pub sounds : {X N : Type 0} (IsOne : X → Type 0) (number : X → CpuId) (ActsFor : CpuId → Type 0) (IsStepwise : Type 0) (acts : List (Action N)) (cpus : List X)
+pub sounds : {X N : Type 0} (IsOne : X → Type 0) (number : X → CpuId) (ActsFor MayHold : CpuId → Type 0) (IsStepwise : Type 0) (acts : List (Action N))
+    (cpus : List X)
     (homes : List CpuId) (seen : List Entry) (room taken left : ℕ) (Sound Sound2 : Type 0) → (Sound → Sound2)
-    → IsSystem IsOne number ActsFor IsStepwise acts cpus homes seen room taken left Sound
-    → IsSystem IsOne number ActsFor IsStepwise acts cpus homes seen room taken left Sound2
-sounds IsOne number ActsFor IsStepwise acts cpus homes seen room taken left Sound Sound2 goes is = record {
+    → IsSystem IsOne number ActsFor MayHold IsStepwise acts cpus homes seen room taken left Sound
+    → IsSystem IsOne number ActsFor MayHold IsStepwise acts cpus homes seen room taken left Sound2
+sounds IsOne number ActsFor MayHold IsStepwise acts cpus homes seen room taken left Sound Sound2 goes is = record {
   each = is.each;
   some = is.some;
   most = is.most;
@@ -126,6 +130,7 @@ sounds IsOne number ActsFor IsStepwise acts cpus homes seen room taken left Soun
   known = is.known;
   within = is.within;
   rest = is.rest;
+  holders = is.holders;
   short = is.short;
   used = is.used;
   small = is.small;

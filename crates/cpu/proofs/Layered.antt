@@ -121,4 +121,5 @@ left_alone I m p q at number limit part programs = record {
   room = omega arith;
   acts = λ c acts. acts;
   others = λ other apart fits. fits;
+  holders = λ c apart acts holds. holds;
 }

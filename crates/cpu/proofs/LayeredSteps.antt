@@ -46,6 +46,7 @@ works_by I owner threads = record {
   under_way = λ x. I.under_way x.part;
   capacity = λ x. vec_capacity x.trace;
   ActsFor = λ m c. I.ActsFor m c;
+  MayHold = λ m c. I.MayHold m c;
   IsStepwise = I.IsStepwise;
   told = observed_by I owner;
   left = λ m. I.room m;
@@ -64,8 +65,8 @@ module _ {P M : Type 0} (I : Ghosts P M) (owner : M → BufId → Option Tid) (t
       → Leaves I m x n y → AllByRecursion (λ e. e.cpu.0 < CPUS) (I.seen n) → taken < room → Holds W n (slice_set cpus k y) room (taken + 1)
   went_on m n cpus room taken k x y is sound at fits keeps table left known live =
       stepped W m n cpus room taken k x y is sound at left.number left.cpu fits keeps table
-      (λ z before step. rw (left.homes, left.caps, left.opening) (before step)) (λ z other there. left.others z.part other there) left.acts left.seen
-      left.grows known left.homes left.caps left.room live
+      (λ z before step. rw (left.homes, left.caps, left.opening) (before step)) (λ z other there. left.others z.part other there) left.acts
+      left.holders left.seen left.grows known left.homes left.caps left.room live
 
   -- and the system keeps its plan
   pub plan_preserved : (m n : M) (cpus : List (Cpu P M)) (room taken later k : ℕ) (x y : Cpu P M) → slice_get cpus k ≡ Some x → Leaves I m x n y

@@ -1,45 +1,38 @@
 -- What the machine and the parts of a system tell of its buffers and of where its threads stand: some of them tells.
-use Rattle.std.proofs.Common.{◌≡◌, ◌⊎◌, inl, inr, ℕ, ◌+◌, ◌<◌, ◌≤◌, true, false, List, length, Option, Some, None, refl, ap, sym, ◌∙◌, subst, arith}
+use Rattle.std.proofs.Common.{◌≡◌, ◌⊎◌, inl, inr, ℕ, ◌+◌, ◌<◌, ◌≤◌, List, length, Option, Some, None, refl, ap, sym, ◌∙◌, subst, arith}
 use Rattle.std.specs.Prelude.{slice_get, slice_index_or}
 use Rattle.std.proofs.lemmas.Bool.{cases_eq, cases_lt}
 use Rattle.std.proofs.lemmas.Option.{slice_get_read, slice_get_within}
 use Rattle.event_log.specs.declared.ids.CpuId.{CpuId}
 use Rattle.event_log.specs.declared.ids.Tid.{Tid}
 use Rattle.event_log.specs.declared.ids.TheConstants.{CPUS}
-use Rattle.event_log.specs.Actions.{Action, Rests, phase}
 use Rattle.layer_traits.specs.declared.calls.Place.{Place}
 use Rattle.layer_traits.specs.declared.ipc_layers.IpcLayer.{Ghosts}
 use Rattle.layer_traits.specs.OnePlace.{cpu_at}
 use Rattle.layer_traits.specs.Owned.{IsHeld}
 use Rattle.layer_traits.specs.Places.{AreMoves, Step, home_of, where_is}
-use Rattle.layer_traits.specs.Plans.{is_in_section}
 use Rattle.layer_traits.specs.Observed.{IsOwnPlace, MayObserve, ReadsPlace}
 use Rattle.layer_traits.proofs.PlaceLemmas.{hand_home}
 use Rattle.cpu.specs.declared.cpus.Cpu.{Cpu}
 use Rattle.cpu.specs.Claims.{CpuShown}
 use Rattle.cpu.proofs.ListReads.{there_is}
 
--- a CPU that is in a section is one of the first n, if all others rest
-inside_within : {N : Type 0} (n : ℕ) (acts : List (Action N)) (c : CpuId) → (n ≤ c.0 → c.0 < CPUS → phase c acts ≡ Rests) → c.0 < CPUS
-    → is_in_section (phase c acts) ≡ true → c.0 < n
-inside_within n acts c rest known inside = go (cases_lt c.0 n)
+-- a CPU that may hold a lock is one of the first n, if no other may
+inside_within : (MayHold : CpuId → Type 0) (n : ℕ) (c : CpuId) → (n ≤ c.0 → c.0 < CPUS → MayHold c → ⊥) → c.0 < CPUS → MayHold c → c.0 < n
+inside_within MayHold n c holders known inside = go (cases_lt c.0 n)
   where
     go : (c.0 < n) ⊎ (n ≤ c.0) → c.0 < n
     go (inl within) = within
-    go (inr past) = let resting : is_in_section (phase c acts) ≡ false = ap is_in_section (rest past known) in absurd (cc (resting, inside))
+    go (inr past) = absurd (holders past known inside)
 
 module _ {P M : Type 0} (I : Ghosts P M) (m : M) (cpus : List (Cpu P M))
     (each : (k : ℕ) (x : Cpu P M) → slice_get cpus k ≡ Some x → (x.number ≡ cpu_at k) × I.Fits x.part m × (I.cpu_of x.part ≡ x.number))
-    (rest : I.IsStepwise → (c : CpuId) → length cpus ≤ c.0 → c.0 < CPUS → phase c (I.acts m) ≡ Rests) where
-  -- whether a CPU has a section under way, where a poll is one action
-  abbrev IsInside : CpuId → Type 0
-  IsInside d = I.IsStepwise × (is_in_section (phase d (I.acts m)) ≡ true)
-
+    (holders : (c : CpuId) → length cpus ≤ c.0 → c.0 < CPUS → I.MayHold m c → ⊥) where
   -- what a CPU has in its hands, some part of the system's tells
-  pub held_here : {A : Type 0} (here : P → Option A) → IsHeld (λ p. I.Fits p m) (λ p. I.cpu_of p) IsInside here
+  pub held_here : {A : Type 0} (here : P → Option A) → IsHeld (λ p. I.Fits p m) (λ p. I.cpu_of p) (I.MayHold m) here
       → ((k : ℕ) (x : Cpu P M) → slice_get cpus k ≡ Some x → here x.part ≡ None) → ⊥
   held_here here held nobody =
-      let within = inside_within (length cpus) (I.acts m) held.cpu (rest held.inside.0 held.cpu) held.known held.inside.1 in
+      let within = inside_within (I.MayHold m) (length cpus) held.cpu (holders held.cpu) held.known held.inside in
       let there = there_is cpus held.cpu.0 within in
       let is = each held.cpu.0 there.0 there.1 in
       held.has there.0.part (is.2 ∙ is.0) is.1 (nobody held.cpu.0 there.0 there.1)
@@ -47,18 +40,18 @@ module _ {P M : Type 0} (I : Ghosts P M) (m : M) (cpus : List (Cpu P M))
   -- of a thread at home in the system some part is not silent
   pub wait_channel_here : (IsSilent : P → Type 0) (homes : List CpuId) (moves : List Step) (t : Tid) → AreMoves homes moves
       → ((u : Tid) (home : CpuId) → home_of homes u ≡ Some home → home.0 < length cpus)
-      → ReadsPlace (λ p. I.Fits p m) (λ p. I.cpu_of p) IsInside IsSilent (home_of homes t) (where_is homes moves t)
+      → ReadsPlace (λ p. I.Fits p m) (λ p. I.cpu_of p) (I.MayHold m) IsSilent (home_of homes t) (where_is homes moves t)
       → ((k : ℕ) (x : Cpu P M) → slice_get cpus k ≡ Some x → IsSilent x.part) → ⊥
   wait_channel_here IsSilent homes moves t moved within tells silent =
       let there = there_is cpus tells.cpu.0 (may_within tells.may) in
       let is = each tells.cpu.0 there.0 there.1 in
       tells.has there.0.part (is.2 ∙ is.0) is.1 (silent tells.cpu.0 there.0 there.1)
     where
-      may_within : MayObserve IsInside (home_of homes t) (where_is homes moves t) tells.cpu
+      may_within : MayObserve (I.MayHold m) (home_of homes t) (where_is homes moves t) tells.cpu
           → tells.cpu.0 < length cpus
       may_within (inl home) = within t tells.cpu home
       may_within (inr (inl hand)) = let u = hand_home homes moves t tells.cpu moved hand in within u.0 tells.cpu u.1
-      may_within (inr (inr inside)) = inside_within (length cpus) (I.acts m) tells.cpu (rest inside.1.0 tells.cpu) inside.0 inside.1.1
+      may_within (inr (inr inside)) = inside_within (I.MayHold m) (length cpus) tells.cpu (holders tells.cpu) inside.0 inside.1
 
 -- a loop over the CPUs: what holds of those before and of this one holds of those up to here
 pub up_to : {X : Type 0} (P : X → Type 0) (xs : List X) (i : ℕ) (y : X) → i < length xs → y ≡ slice_index_or xs i y → P y

@@ -44,3 +44,4 @@ pub record Leaves {P M : Type 0} (I : Ghosts P M) (m : M) (p : Cpu P M) (n : M) 
   pub room : I.room m ≤ I.room n + 1
   pub acts : (c : CpuId) → I.ActsFor m c → I.ActsFor n c
   pub others : (part : P) → I.cpu_of part ≢ p.number → I.Fits part m → I.Fits part n
+  pub holders : (c : CpuId) → c ≢ p.number → I.ActsFor m c → I.MayHold n c → I.MayHold m c

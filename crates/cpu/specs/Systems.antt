@@ -53,7 +53,7 @@ pub record IsAt {X : Type 0} (IsOne : X → Type 0) (number : X → CpuId) (k : 
   pub holds : IsOne x
 
 -- what always holds of a machine and its CPUs
-pub record IsSystem {X N : Type 0} (IsOne : X → Type 0) (number : X → CpuId) (ActsFor : CpuId → Type 0) (IsStepwise : Type 0) (acts : List (Action N))
+pub record IsSystem {X N : Type 0} (IsOne : X → Type 0) (number : X → CpuId) (ActsFor MayHold : CpuId → Type 0) (IsStepwise : Type 0) (acts : List (Action N))
     (cpus : List X) (homes : List CpuId) (seen : List Entry) (room taken left : ℕ) (Sound : Type 0) : Type 0 where
   -- each CPU is numbered by its place, and is as it is to be; there is one, and no more than a machine may have
   pub each : (k : ℕ) (x : X) → slice_get cpus k ≡ Some x → IsAt IsOne number k x
@@ -66,6 +66,8 @@ pub record IsSystem {X N : Type 0} (IsOne : X → Type 0) (number : X → CpuId)
   pub known : AllByRecursion (λ e. e.cpu.0 < length cpus) seen
   pub within : (t : Tid) (home : CpuId) → home_of homes t ≡ Some home → home.0 < length cpus
   pub rest : IsStepwise → (c : CpuId) → length cpus ≤ c.0 → c.0 < CPUS → phase c acts ≡ Rests
+  -- no CPU past them holds a lock
+  pub holders : (c : CpuId) → length cpus ≤ c.0 → c.0 < CPUS → MayHold c → ⊥
   -- there are no more effects than steps, no more steps than there is room for, and the machine has room for those that are left
   pub short : length seen ≤ taken
   pub used : taken ≤ room

@@ -55,8 +55,8 @@ where
         × IsCpu (I.homes_of s.machine) (length (I.caps s.machine)) (I.seen s.machine) (I.threads c.part) (I.call_states c.part)
         (I.under_way c.part) c.number c.guests.items c.trace.items c.limit (vec_capacity c.trace)
         × (I.IsStepwise → IsTabled (I.homes_of s.machine) (I.caps s.machine) c.number (I.own c.part) (I.under_way c.part) c.guests.items (I.opening s.machine)))
-        (λ c. c.number) (λ c. I.ActsFor s.machine c) I.IsStepwise (I.acts s.machine) s.cpus.items (I.homes_of s.machine) (I.seen s.machine) s.room s.taken
-        (I.room s.machine)
+        (λ c. c.number) (λ c. I.ActsFor s.machine c) (λ c. I.MayHold s.machine c) I.IsStepwise (I.acts s.machine) s.cpus.items
+        (I.homes_of s.machine) (I.seen s.machine) s.room s.taken (I.room s.machine)
         ((s.threads ≡ length (I.homes_of s.machine)) × (I.IsStepwise
         → IsReachedByTable (shown_of (I.caps s.machine) (I.homes_of s.machine) (I.seen s.machine) (I.wait_lists s.machine) (I.owner s.machine)
         (I.moves s.machine) (I.acts s.machine)

@@ -26,9 +26,7 @@ use Rattle.cpu.proofs.PlanGuests.{by_task}
 use Rattle.cpu.proofs.Started.{private_boots}
 use Rattle.cpu.proofs.TableCalls.{boots_tabled}
 use Rattle.cpu.proofs.GuestLists.{guest_with}
-use Rattle.layer_traits.specs.OnePlace.{cpu_at}
 use Rattle.cpu_workers.specs.declared.gates.Go.{Go}
-use Rattle.cpu_workers.specs.declared.seating.Left.{Left}
 use Rattle.cpu_workers.specs.declared.turns.Did.{Did}
 use Rattle.cpu_workers.specs.Reports.{Both, HasRun}
 use Rattle.cpu_workers.specs.Seating.{HasLeft, IsApart, IsAtBoot}
@@ -155,10 +153,3 @@ pub found_within : {X : Type 0} (xs : List X) (k : ℕ) (x : X) → slice_get xs
 found_within [] k x at = absurd (cc at)
 found_within (y ∷ xs) zero x at = omega arith
 found_within (y ∷ xs) (suc k) x at = let before = found_within xs k x at in omega (arith, before)
-
--- who acts for a CPU at a tower's machine acts for it at the locks beneath
-pub acts_beneath : {M V E : Type 0} (items : V → List (Left M)) (Acts : M → CpuId → Type 0) (Starts Boots : M → Type 0) (r : Result V E)
-    → IfOk r (λ left. (k : ℕ) (x : Left M) → slice_get (items left) k ≡ Some x → (Acts x.machine (cpu_at k) × Starts x.machine) × Boots x.machine)
-    → IfOk r (λ left. (k : ℕ) (x : Left M) → slice_get (items left) k ≡ Some x → Acts x.machine (cpu_at k))
-acts_beneath items Acts Starts Boots (Ok left) owns = λ k x at. (owns k x at).0.0
-acts_beneath items Acts Starts Boots (Err e) owns = tt

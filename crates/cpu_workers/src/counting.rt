@@ -10,13 +10,18 @@ mod tables;
 mod threads;
 
 use event_log::{BufId, LockId};
-use layer_traits::{Edit, Payload};
+use layer_traits::{Edit, LockLaw, Payload, SectionOf};
 pub use sections::CountWords;
+use std::marker::PhantomData;
 pub use tables::{NotCounted, count_or_leave, count_table, number_left};
 use thiserror::Error;
 
 /// The lock that guards the number.
 pub const NUMBER: LockId = LockId::Buffer(BufId(0));
+
+/// The law of the locks of a count, with the types that its clauses name. A function that names such a
+/// lock names these too, since the check looks for them there.
+pub type CountLaws = PhantomData<(LockLaw<AddOne>, SectionOf<AddOne>)>;
 
 /// Adds 1 to a number, modulo 2^64, and answers the number before.
 #[derive(Clone, Copy, Debug, PartialEq, Eq)]

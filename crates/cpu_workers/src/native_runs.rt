@@ -17,10 +17,11 @@ use crate::seats::TowerSeat;
 use crate::starting::WorkerError;
 use arrayvec::ArrayVec;
 use event_log::{BufId, CAPACITY, CPUS, CpuId, LockId, Msg, NoMemory};
-use ipc_calls::{TowerBlock, TowerEdit, tower_blocks};
+use ipc_calls::{TowerBlock, TowerEdit, TowerLockLaws, tower_blocks};
 use layer_traits::Edit;
 use spinlock::Ticket;
 use std::alloc::{AllocError, Global};
+use std::marker::PhantomData;
 use std::sync::Wait;
 use std::thread::Threads;
 use table_machine::{Key, Shared, TableWords, TicketWords};
@@ -108,6 +109,7 @@ fn call_tickets<N: Native + Drop + Send, R: Threads + Wait + Sync>(
 {
     let back = NativeBack::with_capacity(alloc, natives.len())?;
     let seats = seats_at(alloc, shared, keys)?;
+    let _laws: TowerLockLaws = PhantomData;
     let left = call_over::<Ticket<TowerSeat<'_, TicketWords>>, N, R>(
         rt, alloc, caps, homes, seats, natives,
     )?;

@@ -11,12 +11,16 @@ ghost use Rattle.cpu_workers.specs.Seating.{IsReady, IsUnused, tower_acts};
 
 use crate::callers::Caller;
 use crate::native_threads::{NativeTask, call_all};
+use crate::native_towers::call_scheds;
 use crate::natives::Native;
 use crate::starting::WorkerError;
 use event_log::{CpuId, NoMemory, Tid};
-use ipc_calls::{Ipc, TowerEdit, TowerOver};
+use ipc_calls::{TowerEdit, TowerLaws};
 use layer_traits::{IpcLayer, LockLayer};
+use scheduler::Sched;
+use shared_queue::SharedQueues;
 use std::alloc::Global;
+use std::marker::PhantomData;
 use std::sync::Wait;
 use std::thread::Threads;
 
@@ -110,7 +114,11 @@ where
 }
 
 // Lets each native run over its machine, as `call_over` does, whatever the layers beneath the calls are.
-fn call_each<I: IpcLayer + Drop + Send, N: Native + Drop + Send, R: Threads + Wait + Sync>(
+pub(crate) fn call_each<
+    I: IpcLayer + Drop + Send,
+    N: Native + Drop + Send,
+    R: Threads + Wait + Sync,
+>(
     rt: &R,
     alloc: Global,
     caps: &[u8],
@@ -144,8 +152,8 @@ where
 }
 
 /// Lets each native run over its machine, in a thread of its own, and gives what they leave, in their
-/// order. All memory is taken before any call. It alone names the layers of the tower, each of which
-/// makes a proof above it dearer.
+/// order. All memory is taken before any call. With `native_towers` it alone names the layers of the
+/// tower, each of which makes a proof above it dearer.
 ///
 /// Errors: `NoMemory` where memory was refused and `NoThread` where a thread could not be started;
 /// then no call was made.
@@ -180,5 +188,6 @@ where
     ensures left { IfOk result (λ left. (k : ℕ) (x : _) (n : N) → slice_get left.items k ≡ Some x → slice_get natives.items k ≡ Some n
         → HasLeftCalls N.Kept caps.now (cpu_at k) n x.native (tower_acts (L.acts x.machine))) }
 {
-    call_each::<Ipc<TowerOver<L>>, N, R>(rt, alloc, caps, homes, machines, natives)
+    let _laws: TowerLaws = PhantomData;
+    call_scheds::<Sched<SharedQueues<L>>, N, R>(rt, alloc, caps, homes, machines, natives)
 }

@@ -19,10 +19,11 @@ use crate::stops::Stop;
 use boot::{Boot, LockKind};
 use cpu::homes_of;
 use event_log::{Entry, NoMemory};
-use ipc_calls::{TowerEdit, tower_blocks};
+use ipc_calls::{TowerEdit, TowerLockLaws, tower_blocks};
 use layer_traits::Edit;
 use spinlock::{Grant, Ticket};
 use std::alloc::{AllocError, Global};
+use std::marker::PhantomData;
 use std::sync::Wait;
 use std::thread::Threads;
 use table_machine::{Key, Shared, TableWords, TicketWords, WaiterWords};
@@ -128,6 +129,7 @@ fn run_tickets<G: Gate + Sync, R: Threads + Wait + Sync>(
 {
     let back = Back::with_capacity(alloc, boot.cpus() as usize)?;
     let seats = seats_at(alloc, shared, keys)?;
+    let _laws: TowerLockLaws = PhantomData;
     let left = run_over::<Ticket<TowerSeat<'_, TicketWords>>, G, R>(
         rt, alloc, boot, turns, gate, seats,
     )?;
@@ -152,6 +154,7 @@ fn run_grants<G: Gate + Sync, R: Threads + Wait + Sync>(
 {
     let back = Back::with_capacity(alloc, boot.cpus() as usize)?;
     let seats = seats_at(alloc, shared, keys)?;
+    let _laws: TowerLockLaws = PhantomData;
     let left = run_over::<Grant<TowerSeat<'_, WaiterWords>>, G, R>(
         rt, alloc, boot, turns, gate, seats,
     )?;

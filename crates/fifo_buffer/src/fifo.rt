@@ -1,11 +1,11 @@
 //! First-in first-out buffers.
 
-ghost use Rattle.std.specs.Prelude.{◌≡◌, ◌≢◌, ◌+◌, ◌<◌, ◌≤◌, Some, None, IsSome, slice_set, if◌then◌else◌};
-ghost use Rattle.event_log.specs.declared.ids.CpuId.{CpuId};
+ghost use Rattle.std.specs.Prelude.{◌≡◌, ◌<◌, Some, None, IsSome, slice_set, if◌then◌else◌};
 ghost use Rattle.event_log.specs.declared.ids.LockId.TheVariants.{Buffer};
 ghost use Rattle.event_log.specs.declared.ids.TheConstants.{THREADS};
 ghost use Rattle.layer_traits.specs.BufferLaw.{buffer_of, buffering, going, plan_of, replied, call_state_of};
 ghost use Rattle.layer_traits.specs.BufferProtocol.{buffer_rules};
+ghost use Rattle.layer_traits.specs.Framed.{Framed};
 ghost use Rattle.layer_traits.specs.Locking.{lock_moves, lock_rules};
 ghost use Rattle.layer_traits.specs.LockLaw.{slept_for};
 ghost use Rattle.layer_traits.specs.Plans.{Follows, table_of};
@@ -54,13 +54,8 @@ impl<C: CvLayer<BufferEdit>> Fifo<C> {
         ensures calling { self.new.calling ≡ self.old.calling }
         ensures woken { IsSome (slept_for (C.own self.old.lower).waits t) → m.new ≡ m.old }
         ensures handed { IsSome (slept_for (C.own self.old.lower).lock.slept t) → m.new ≡ m.old }
-        ensures fits { C.Fits self.new.lower m.new }
-        ensures cpu { C.cpu_of self.new.lower ≡ C.cpu_of self.old.lower }
-        ensures opening { C.opening m.new ≡ C.opening m.old }
-        ensures site { C.site m.new ≡ C.site m.old }
-        ensures room { C.room m.old ≤ C.room m.new + 1 }
-        ensures acts { (c : CpuId) → C.ActsFor m.old c → C.ActsFor m.new c }
-        ensures others { (p : C) → C.cpu_of p ≢ C.cpu_of self.old.lower → C.Fits p m.old → C.Fits p m.new }
+        ensures framed { Framed (λ (p : C) k. C.Fits p k) (λ p. C.cpu_of p) (λ k. C.opening k) (λ k. C.site k) (λ k. C.room k)
+            (λ k c. C.ActsFor k c) (λ k c. C.MayHold k c) self.old.lower self.new.lower m.old m.new }
         ensures follows { C.IsStepwise
             → Follows (C.ActsFor m.old) (table_of (queue_rules (lock_rules buffer_rules) (lock_moves buffer_rules))) (C.opening m.old)
             (C.cpu_of self.old.lower)
@@ -138,6 +133,8 @@ impl<C: CvLayer<BufferEdit>> BufferLayer for Fifo<C> {
     ghost site = { λ m. C.site m };
 
     ghost IsOutside = { λ m c. C.IsOutside m c };
+
+    ghost MayHold = { λ m c. C.MayHold m c };
 
     ghost cpu_of = { λ p. C.cpu_of p.lower };
 
@@ -243,8 +240,7 @@ impl<C: CvLayer<BufferEdit>> BufferLayer for Fifo<C> {
 }
 
 impl<C: OwnedConds<BufferEdit>> OwnedBuffers for Fifo<C> {
-    ghost use Rattle.std.specs.Prelude.{◌≡◌, true, option_map};
-    ghost use Rattle.event_log.specs.Actions.{phase};
+    ghost use Rattle.std.specs.Prelude.{option_map};
     ghost use Rattle.event_log.specs.Buffers.{items_of};
     ghost use Rattle.event_log.specs.Runs.{is_closed};
     ghost use Rattle.layer_traits.proofs.ActedLemmas.{owner_by_acts};
@@ -254,7 +250,6 @@ impl<C: OwnedConds<BufferEdit>> OwnedBuffers for Fifo<C> {
     ghost use Rattle.layer_traits.specs.LockLaw.{lock_kernel};
     ghost use Rattle.layer_traits.specs.Locking.{wait_list_in, owner_in};
     ghost use Rattle.layer_traits.specs.Places.{pending_by};
-    ghost use Rattle.layer_traits.specs.Plans.{is_in_section};
     ghost use Rattle.layer_traits.specs.QueueBlocks.{inner};
     ghost use Rattle.layer_traits.specs.Queues.{buffer_sections, moves_in};
     ghost use Rattle.fifo_buffer.specs.FifoFits.{caps_in};
@@ -354,21 +349,21 @@ impl<C: OwnedConds<BufferEdit>> OwnedBuffers for Fifo<C> {
     ghost known = { λ m c acts. effects_known (inner (C.opening m)) (C.seen m) (C.known m c acts.0) };
 
     ghost items = { λ m c b acts within. lock_read (λ (p : Self). p.lower) (λ p. C.Fits p m) (λ (p : Self). Self.Fits p m)
-        (λ p. C.cpu_of p) (λ d. C.IsStepwise × (is_in_section (phase d (C.acts m)) ≡ true)) (λ p fits. fits.0)
+        (λ p. C.cpu_of p) (C.MayHold m) (λ p fits. fits.0)
         (buffer_lock_of (C.opening m) (C.seen m) b) items_in (λ p. C.lock_with p b) (C.lock_at m b)
         (items_of (contents_of (caps_in (C.opening m)) (effects_in (inner (C.opening m)) (buffer_sections (C.seen m)))) b.0)
         (items_read (C.opening m) acts.1 b within (C.seen m) (C.lawful m c acts.0))
         (C.shown m c b acts.0 (block_there (C.opening m) acts.1 b within)) };
 
     ghost closed = { λ m c b acts within. lock_read (λ (p : Self). p.lower) (λ p. C.Fits p m) (λ (p : Self). Self.Fits p m)
-        (λ p. C.cpu_of p) (λ d. C.IsStepwise × (is_in_section (phase d (C.acts m)) ≡ true)) (λ p fits. fits.0)
+        (λ p. C.cpu_of p) (C.MayHold m) (λ p fits. fits.0)
         (buffer_lock_of (C.opening m) (C.seen m) b) closed_of (λ p. C.lock_with p b) (C.lock_at m b)
         (is_closed (effects_in (inner (C.opening m)) (buffer_sections (C.seen m))) b.0)
         (closed_read (C.opening m) acts.1 b within (C.seen m) (C.lawful m c acts.0))
         (C.shown m c b acts.0 (block_there (C.opening m) acts.1 b within)) };
 
     ghost owners = { λ m c b acts within. lock_read (λ (p : Self). p.lower) (λ p. C.Fits p m) (λ (p : Self). Self.Fits p m)
-        (λ p. C.cpu_of p) (λ d. C.IsStepwise × (is_in_section (phase d (C.acts m)) ≡ true)) (λ p fits. fits.0)
+        (λ p. C.cpu_of p) (C.MayHold m) (λ p fits. fits.0)
         (buffer_lock_of (C.opening m) (C.seen m) b) owner_of (λ p. C.lock_with p b) (C.lock_at m b)
         (owner_in (buffer_lock_of (C.opening m) (C.seen m) b)) (owner_read (C.opening m) acts.1 b within (C.seen m))
         (C.shown m c b acts.0 (block_there (C.opening m) acts.1 b within)) };
@@ -380,13 +375,13 @@ impl<C: OwnedConds<BufferEdit>> OwnedBuffers for Fifo<C> {
         (C.proper step m c acts.0) (C.seen_is step m) (C.lawful m c acts.0) };
 
     ghost waiters_law = { λ m c b acts within. lock_read (λ (p : Self). p.lower) (λ p. C.Fits p m) (λ (p : Self). Self.Fits p m)
-        (λ p. C.cpu_of p) (λ d. C.IsStepwise × (is_in_section (phase d (C.acts m)) ≡ true)) (λ p fits. fits.0)
+        (λ p. C.cpu_of p) (C.MayHold m) (λ p fits. fits.0)
         (buffer_lock_of (C.opening m) (C.seen m) b) wait_lists_of (λ p. C.lock_with p b) (C.lock_at m b)
         (λ line. wait_list_in line (buffer_lock_of (C.opening m) (C.seen m) b)) (wait_lists_read (C.opening m) acts.1 b within (C.seen m))
         (C.shown m c b acts.0 (block_there (C.opening m) acts.1 b within)) };
 
     ghost queues = { λ m c d acts there. queue_read (λ (p : Self). p.lower) (λ p. C.Fits p m)
-        (λ (p : Self). Self.Fits p m) (λ p. C.cpu_of p) (λ d. C.IsStepwise × (is_in_section (phase d (C.acts m)) ≡ true)) (λ p fits. fits.0)
+        (λ (p : Self). Self.Fits p m) (λ p. C.cpu_of p) (C.MayHold m) (λ p fits. fits.0)
         (λ p. C.queue_with p d) (C.queue_at m d) (pending_by (moves_in (lock_kernel (cv_rules buffer_monitor_rules) (C.opening m)) (C.seen m)) d)
         (C.queues m c d acts.0 there) };
 }

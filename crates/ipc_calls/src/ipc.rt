@@ -1,6 +1,6 @@
 //! Message calls over buffers.
 
-ghost use Rattle.std.specs.Prelude.{◌≡◌, ◌<◌, ◌≤◌, true, [], None, Some, IsSome, length, refl};
+ghost use Rattle.std.specs.Prelude.{◌≡◌, ◌<◌, [], None, Some, IsSome, length, refl};
 ghost use Rattle.event_log.specs.declared.ids.CpuId.{CpuId};
 ghost use Rattle.event_log.specs.declared.ids.LockId.TheVariants.{Pending};
 ghost use Rattle.event_log.specs.declared.ids.TheConstants.{THREADS};
@@ -96,6 +96,8 @@ impl<B: BufferLayer> IpcLayer for Ipc<B> {
 
     ghost IsFresh = { λ m homes c. B.ActsFor m c × B.IsOutside m c × (B.seen m ≡ []) × (B.moves m ≡ []) × (homes_in (B.opening m) ≡ homes)
         × IsSome (B.opening m (Pending c)) × (inner (B.opening m) ≡ opening_locks (B.caps m)) };
+
+    ghost MayHold = { λ m c. B.MayHold m c };
 
     ghost cpu_of = { λ p. B.cpu_of p.lower };
 
@@ -278,13 +280,11 @@ impl<B: OwnedBuffers> Ipc<B> {
 }
 
 impl<B: OpensBuffers> Owned for Ipc<B> {
-    ghost use Rattle.event_log.specs.Actions.{phase};
     ghost use Rattle.event_log.specs.Buffers.{items_of};
     ghost use Rattle.event_log.specs.Runs.{is_closed};
     ghost use Rattle.layer_traits.proofs.OwnedLemmas.{read_under};
     ghost use Rattle.layer_traits.specs.BufferEffects.{contents_of};
     ghost use Rattle.layer_traits.specs.Places.{pending_by};
-    ghost use Rattle.layer_traits.specs.Plans.{is_in_section};
     ghost use Rattle.layer_traits.specs.QueueBlocks.{homes_in};
     ghost use Rattle.ipc_calls.specs.Parts.{IsSilentOf};
     ghost use Rattle.ipc_calls.specs.PlaceLaws.{home_there, place_reads};
@@ -355,18 +355,18 @@ impl<B: OpensBuffers> Owned for Ipc<B> {
     ghost known = { B.known };
 
     ghost items = { λ m c b acts within. read_under (λ (p : Self). p.lower) (λ p. B.Fits p m) (λ (p : Self). Self.Fits p m) (λ p. B.cpu_of p)
-        (λ (p : Self). B.cpu_of p.lower) (λ d. B.IsStepwise × (is_in_section (phase d (B.acts m)) ≡ true))
-        (λ d. B.IsStepwise × (is_in_section (phase d (B.acts m)) ≡ true)) (λ p. B.items_with p b) (B.items_at m b)
+        (λ (p : Self). B.cpu_of p.lower) (B.MayHold m)
+        (B.MayHold m) (λ p. B.items_with p b) (B.items_at m b)
         (items_of (contents_of (B.caps m) (B.seen m)) b.0) (λ p fits. fits.0) (λ p fits. refl) (λ d inside. inside) (B.items m c b acts within) };
 
     ghost closed = { λ m c b acts within. read_under (λ (p : Self). p.lower) (λ p. B.Fits p m) (λ (p : Self). Self.Fits p m) (λ p. B.cpu_of p)
-        (λ (p : Self). B.cpu_of p.lower) (λ d. B.IsStepwise × (is_in_section (phase d (B.acts m)) ≡ true))
-        (λ d. B.IsStepwise × (is_in_section (phase d (B.acts m)) ≡ true)) (λ p. B.closed_with p b) (B.closed_at m b)
+        (λ (p : Self). B.cpu_of p.lower) (B.MayHold m)
+        (B.MayHold m) (λ p. B.closed_with p b) (B.closed_at m b)
         (is_closed (B.seen m) b.0) (λ p fits. fits.0) (λ p fits. refl) (λ d inside. inside) (B.closed m c b acts within) };
 
     ghost owners = { λ m c b acts within. read_under (λ (p : Self). p.lower) (λ p. B.Fits p m) (λ (p : Self). Self.Fits p m) (λ p. B.cpu_of p)
-        (λ (p : Self). B.cpu_of p.lower) (λ d. B.IsStepwise × (is_in_section (phase d (B.acts m)) ≡ true))
-        (λ d. B.IsStepwise × (is_in_section (phase d (B.acts m)) ≡ true)) (λ p. B.owner_with p b) (B.owner_at m b)
+        (λ (p : Self). B.cpu_of p.lower) (B.MayHold m)
+        (B.MayHold m) (λ p. B.owner_with p b) (B.owner_at m b)
         (B.owner m b) (λ p fits. fits.0) (λ p fits. refl) (λ d inside. inside) (B.owners m c b acts within) };
 
     ghost owner_is = { B.owner_is };
@@ -380,7 +380,7 @@ impl<B: OpensBuffers> Owned for Ipc<B> {
         place_reads (record {
           Fits = λ (q : Self). Self.Fits q m;
           cpu_of = λ (q : Self). B.cpu_of q.lower;
-          IsInside = λ d. B.IsStepwise × (is_in_section (phase d (B.acts m)) ≡ true);
+          IsInside = B.MayHold m;
           homes = homes_in (B.opening m);
           moves = B.moves m;
           n = length (B.caps m);
@@ -394,13 +394,13 @@ impl<B: OpensBuffers> Owned for Ipc<B> {
           agree = B.lists p.lower m fits.0;
           stands = λ q fit. B.stands q.lower m fit.0;
           queues = λ u d at. read_under (λ (q : Self). q.lower) (λ q. B.Fits q m) (λ (q : Self). Self.Fits q m) (λ q. B.cpu_of q)
-              (λ (q : Self). B.cpu_of q.lower) (λ d. B.IsStepwise × (is_in_section (phase d (B.acts m)) ≡ true))
-              (λ d. B.IsStepwise × (is_in_section (phase d (B.acts m)) ≡ true)) (λ q. B.queue_with q d) (B.queue_at m d)
+              (λ (q : Self). B.cpu_of q.lower) (B.MayHold m)
+              (B.MayHold m) (λ q. B.queue_with q d) (B.queue_at m d)
               (pending_by (B.moves m) d) (λ q fit. fit.0) (λ q fit. refl) (λ d inside. inside)
               (B.queues m cpu d acts ((B.opens m cpu acts).queues u d at));
           waiters_law = λ b within. read_under (λ (q : Self). q.lower) (λ q. B.Fits q m) (λ (q : Self). Self.Fits q m) (λ q. B.cpu_of q)
-              (λ (q : Self). B.cpu_of q.lower) (λ d. B.IsStepwise × (is_in_section (phase d (B.acts m)) ≡ true))
-              (λ d. B.IsStepwise × (is_in_section (phase d (B.acts m)) ≡ true)) (λ q. B.wait_lists_with q b) (B.wait_lists_at m b)
+              (λ (q : Self). B.cpu_of q.lower) (B.MayHold m)
+              (B.MayHold m) (λ q. B.wait_lists_with q b) (B.wait_lists_at m b)
               (B.wait_lists m b) (λ q fit. fit.0) (λ q fit. refl) (λ d inside. inside) (B.waiters_law m cpu b acts within);
         }) t home.0 home.1 };
 }

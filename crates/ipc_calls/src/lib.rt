@@ -17,9 +17,14 @@ mod tower;
 mod whole;
 
 pub use ipc::Ipc;
-pub use opening::{OpensBuffers, OpensLocks};
-pub use stepwise::{StepwiseBuffers, StepwiseLocks, StepwiseSections, tower_is_stepwise};
-pub use tower::{LockEdit, TowerBlock, TowerEdit, TowerOver, part_over, tower_blocks};
+pub use opening::{OpensBuffers, OpensLocks, OpensQueues, OpensScheds};
+pub use stepwise::{
+    StepwiseBuffers, StepwiseLocks, StepwiseQueues, StepwiseScheds, StepwiseSections,
+    tower_is_stepwise,
+};
+pub use tower::{
+    LockEdit, TowerBlock, TowerEdit, TowerLaws, TowerLockLaws, TowerOver, part_over, tower_blocks,
+};
 pub use whole::{WholeBuffers, calls_are_whole};
 
 #[cfg(test)]

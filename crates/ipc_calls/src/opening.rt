@@ -4,7 +4,8 @@ ghost use Rattle.std.specs.Prelude.{◌≡◌, ◌<◌, ◌≤◌, [], IsSome, I
 
 use crate::tower::LockEdit;
 use event_log::{CpuId, NoMemory};
-use layer_traits::{OwnedBuffers, OwnedSleeps};
+use layer_traits::{OwnedBuffers, OwnedQueues, OwnedScheds, OwnedSleeps};
+use sleep_wakeup::SleepEdit;
 use std::alloc::Global;
 
 /// A layer of buffers whose machine is opened with its buffers, and tells of its blocks.
@@ -37,7 +38,76 @@ pub trait OpensBuffers: OwnedBuffers {
         ensures queues { IfOk result (λ m. (c : CpuId) → c.0 < cpus → IsSome (Self.opening m (Pending c))) }
         ensures acts { IfOk result (λ m. (c : CpuId) → c.0 < CPUS → Self.ActsFor m c) }
         ensures outside { IfOk result (λ m. (c : CpuId) → c.0 < CPUS → Self.IsOutside m c) }
-        ensures none { IfOk result (λ m. Self.acts m ≡ []) };
+        ensures none { IfOk result (λ m. Self.acts m ≡ []) }
+        ensures holders { IfOk result (λ m. (c : CpuId) → Self.MayHold m c → ⊥) };
+}
+
+/// Shared queues whose machine is opened with the locks of buffers, and that tell of its blocks.
+pub trait OpensQueues: OwnedQueues<SleepEdit<LockEdit>> {
+    ghost use Rattle.event_log.specs.declared.ids.CpuId.{CpuId};
+    ghost use Rattle.event_log.specs.declared.ids.LockId.TheVariants.{Pending};
+    ghost use Rattle.event_log.specs.declared.ids.TheConstants.{CPUS};
+    ghost use Rattle.layer_traits.specs.BufferEffects.{opening_locks};
+    ghost use Rattle.layer_traits.specs.Openings.{AreOpenable};
+    ghost use Rattle.layer_traits.specs.QueueBlocks.{homes_in, inner};
+    ghost use Rattle.layer_traits.specs.Renaming.{viewed};
+    ghost use Rattle.queuing_lock.specs.Nested.{nested_lock_of};
+    ghost use Rattle.sleep_wakeup.specs.Nested.{state_of};
+
+    /// As `open` of [`OpensLocks`].
+    ///
+    /// Errors: `NoMemory` where an allocation was refused.
+    fn open(
+        alloc: Global,
+        cpus: u8,
+        caps: &[u8],
+        homes: &[CpuId],
+        room: usize,
+    ) -> Result<Self::Machine, NoMemory>
+        requires { AreOpenable cpus caps.now homes.now }
+        ensures seen { IfOk result (λ m. Self.seen m ≡ []) }
+        ensures room { IfOk result (λ m. room ≤ Self.room m) }
+        ensures homes { IfOk result (λ m. homes_in (Self.opening m) ≡ homes.now) }
+        ensures queues { IfOk result (λ m. (c : CpuId) → c.0 < cpus → IsSome (Self.opening m (Pending c))) }
+        ensures locks { IfOk result (λ m. inner (viewed nested_lock_of (viewed state_of (Self.opening m))) ≡ opening_locks caps.now) }
+        ensures acts { IfOk result (λ m. (c : CpuId) → c.0 < CPUS → Self.ActsFor m c) }
+        ensures outside { IfOk result (λ m. (c : CpuId) → Self.IsOutside m c) }
+        ensures none { IfOk result (λ m. Self.acts m ≡ []) }
+        ensures holders { IfOk result (λ m. (c : CpuId) → Self.MayHold m c → ⊥) };
+}
+
+/// Schedulers whose machine is opened with the locks of buffers, and that tell of its blocks.
+pub trait OpensScheds: OwnedScheds<SleepEdit<LockEdit>> {
+    ghost use Rattle.event_log.specs.declared.ids.CpuId.{CpuId};
+    ghost use Rattle.event_log.specs.declared.ids.LockId.TheVariants.{Pending};
+    ghost use Rattle.event_log.specs.declared.ids.TheConstants.{CPUS};
+    ghost use Rattle.layer_traits.specs.BufferEffects.{opening_locks};
+    ghost use Rattle.layer_traits.specs.Openings.{AreOpenable};
+    ghost use Rattle.layer_traits.specs.QueueBlocks.{homes_in, inner};
+    ghost use Rattle.layer_traits.specs.Renaming.{viewed};
+    ghost use Rattle.queuing_lock.specs.Nested.{nested_lock_of};
+    ghost use Rattle.sleep_wakeup.specs.Nested.{state_of};
+
+    /// As `open` of [`OpensLocks`].
+    ///
+    /// Errors: `NoMemory` where an allocation was refused.
+    fn open(
+        alloc: Global,
+        cpus: u8,
+        caps: &[u8],
+        homes: &[CpuId],
+        room: usize,
+    ) -> Result<Self::Machine, NoMemory>
+        requires { AreOpenable cpus caps.now homes.now }
+        ensures seen { IfOk result (λ m. Self.seen m ≡ []) }
+        ensures room { IfOk result (λ m. room ≤ Self.room m) }
+        ensures homes { IfOk result (λ m. homes_in (Self.opening m) ≡ homes.now) }
+        ensures queues { IfOk result (λ m. (c : CpuId) → c.0 < cpus → IsSome (Self.opening m (Pending c))) }
+        ensures locks { IfOk result (λ m. inner (viewed nested_lock_of (viewed state_of (Self.opening m))) ≡ opening_locks caps.now) }
+        ensures acts { IfOk result (λ m. (c : CpuId) → c.0 < CPUS → Self.ActsFor m c) }
+        ensures outside { IfOk result (λ m. (c : CpuId) → Self.IsOutside m c) }
+        ensures none { IfOk result (λ m. Self.acts m ≡ []) }
+        ensures holders { IfOk result (λ m. (c : CpuId) → Self.MayHold m c → ⊥) };
 }
 
 /// A layer of sections that put threads to sleep, whose machine is opened with the locks of buffers,
@@ -74,5 +144,6 @@ pub trait OpensLocks: OwnedSleeps<LockEdit> {
         ensures locks { IfOk result (λ m. inner (viewed nested_lock_of (Self.opening m)) ≡ opening_locks caps.now) }
         ensures acts { IfOk result (λ m. (c : CpuId) → c.0 < CPUS → Self.ActsFor m c) }
         ensures outside { IfOk result (λ m. (c : CpuId) → Self.IsOutside m c) }
-        ensures none { IfOk result (λ m. Self.acts m ≡ []) };
+        ensures none { IfOk result (λ m. Self.acts m ≡ []) }
+        ensures holders { IfOk result (λ m. (c : CpuId) → Self.MayHold m c → ⊥) };
 }

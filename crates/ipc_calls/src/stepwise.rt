@@ -1,7 +1,7 @@
 //! The tower is stepwise: each layer's polls are single actions where those beneath it are.
 
 use crate::ipc::Ipc;
-use crate::opening::{OpensBuffers, OpensLocks};
+use crate::opening::{OpensBuffers, OpensLocks, OpensQueues, OpensScheds};
 use crate::tower::{LockEdit, TowerEdit};
 use condvar::Cond;
 use fifo_buffer::Fifo;
@@ -23,14 +23,34 @@ impl<M: OwnedFairLock<LockProtocol, Edit = TowerEdit>, LockProtocol> StepwiseSec
     ghost steps = { tt };
 }
 
+/// Shared queues of which each poll is one action.
+pub trait StepwiseQueues: OpensQueues {
+    /// Law: one poll is one action.
+    ghost steps: { Self.IsStepwise };
+}
+
+impl<L: StepwiseSections> StepwiseQueues for SharedQueues<L> {
+    ghost steps = { L.steps };
+}
+
+/// Schedulers of which each poll is one action.
+pub trait StepwiseScheds: OpensScheds {
+    /// Law: one poll is one action.
+    ghost steps: { Self.IsStepwise };
+}
+
+impl<Q: StepwiseQueues> StepwiseScheds for Sched<Q> {
+    ghost steps = { Q.steps };
+}
+
 /// Sections that put threads to sleep, of which each poll is one action.
 pub trait StepwiseLocks: OpensLocks {
     /// Law: one poll is one action.
     ghost steps: { Self.IsStepwise };
 }
 
-impl<L: StepwiseSections> StepwiseLocks for Sleeper<LockEdit, Sched<SharedQueues<L>>> {
-    ghost steps = { L.steps };
+impl<S: StepwiseScheds> StepwiseLocks for Sleeper<LockEdit, S> {
+    ghost steps = { S.steps };
 }
 
 /// Buffers of which each poll is one action.

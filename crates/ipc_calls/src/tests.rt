@@ -5,7 +5,10 @@ ghost use Rattle.event_log.specs.declared.ids.TheConstants.{THREADS};
 ghost use Rattle.layer_traits.specs.BufferLaw.{Calling, MayGoOn, MayPollCall, buffer_of, no_call, call_state_of};
 
 use crate::buffer_tests::{BufferRow, goes};
-use crate::{Ipc, LockEdit, OpensBuffers, OpensLocks, TowerEdit, part_over, tower_blocks};
+use crate::{
+    Ipc, LockEdit, OpensBuffers, OpensLocks, OpensQueues, OpensScheds, TowerEdit, TowerLaws,
+    part_over, tower_blocks,
+};
 use arrayvec::ArrayVec;
 use condvar::Cond;
 use event_log::{BufId, CAPACITY, CpuId, Msg, NoMemory, Tid};
@@ -18,6 +21,7 @@ use shared_queue::SharedQueues;
 use sleep_wakeup::Sleeper;
 use spinlock::Ticket;
 use std::alloc::Global;
+use std::marker::PhantomData;
 use std::process::Abort;
 use std::test::Fail;
 
@@ -156,6 +160,7 @@ fn is_ready_at_boot<L: OwnedLocks<TowerEdit> + Drop>(
 where
     L::Machine: Drop,
 {
+    let _laws: TowerLaws = PhantomData;
     let homes = [CpuId(0), CpuId(1)];
     let m = L::open(alloc, tower_blocks(alloc, 2, &[1], &homes)?, 8)?;
     let ready = is_ready(part_over::<L>(&m, CpuId(1), &[1], &homes));
@@ -207,6 +212,30 @@ where
     calls_go::<Fifo<Cond<QLock<S>>>>(rt, alloc, row)
 }
 
+/// The same over a scheduler.
+fn scheds_go<S: OpensScheds + Drop>(
+    rt: &impl Abort,
+    alloc: Global,
+    row: Row,
+) -> Result<(), NoMemory>
+where
+    S::Machine: Drop,
+{
+    buffers_go::<Sleeper<LockEdit, S>>(rt, alloc, row)
+}
+
+/// The same over shared queues.
+fn queues_go<Q: OpensQueues + Drop>(
+    rt: &impl Abort,
+    alloc: Global,
+    row: Row,
+) -> Result<(), NoMemory>
+where
+    Q::Machine: Drop,
+{
+    scheds_go::<Sched<Q>>(rt, alloc, row)
+}
+
 /// The same over a layer of critical sections.
 fn sections_go<L: OwnedLocks<TowerEdit> + Drop>(
     rt: &impl Abort,
@@ -216,15 +245,17 @@ fn sections_go<L: OwnedLocks<TowerEdit> + Drop>(
 where
     L::Machine: Drop,
 {
+    let _laws: TowerLaws = PhantomData;
     match row {
         Row::Boots => is_ready_at_boot::<L>(rt, alloc),
-        row => buffers_go::<Sleeper<LockEdit, Sched<SharedQueues<L>>>>(rt, alloc, row),
+        row => queues_go::<SharedQueues<L>>(rt, alloc, row),
     }
 }
 
 /// The same over ticket locks. Each step names the few layers that it adds, since the proof of a
 /// function that names the whole nest takes minutes.
 fn tower_goes(rt: &impl Abort, alloc: Global, row: Row) -> Result<(), NoMemory> {
+    let _laws: TowerLaws = PhantomData;
     sections_go::<Ticket<Plain<TowerEdit>>>(rt, alloc, row)
 }
 

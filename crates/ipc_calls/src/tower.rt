@@ -14,19 +14,20 @@ ghost use Rattle.queuing_lock.specs.Nested.{nested_lock_of};
 ghost use Rattle.sleep_wakeup.specs.Nested.{state_of};
 
 use crate::ipc::Ipc;
-use crate::opening::{OpensBuffers, OpensLocks};
+use crate::opening::{OpensBuffers, OpensLocks, OpensQueues, OpensScheds};
 use condvar::Cond;
 use event_log::{CpuId, LockId, NoMemory};
 use fifo_buffer::{Fifo, empty_blocks};
 use layer_traits::{
-    BufferBlock, BufferEdit, CvEdit, CvLeave, IpcLayer, LockLayer, OwnedLocks, QueueBlock,
-    QueueEdit,
+    BufferBlock, BufferEdit, CvEdit, CvLeave, IpcLayer, LockLaw, LockLayer, OwnedLocks, QueueBlock,
+    QueueEdit, QueueEvent, QueueLaw, SchedCall, SchedLaw, SectionOf, ThreadsOf,
 };
 use queuing_lock::{QBlock, QLock, QLockEdit, lock_blocks};
 use scheduler::Sched;
 use shared_queue::{SharedQueues, queue_blocks};
 use sleep_wakeup::{SleepBlock, SleepEdit, Sleeper, sleep_blocks};
 use std::alloc::Global;
+use std::marker::PhantomData;
 
 /// A call on the lock of a buffer.
 pub type LockEdit = QLockEdit<CvEdit<BufferEdit>, CvLeave>;
@@ -40,6 +41,24 @@ pub type TowerBlock = QueueBlock<SleepBlock<QBlock<BufferBlock>>>;
 /// One CPU's part of the layers from buffers down to shared queues, over a part `L` of critical
 /// sections.
 pub type TowerOver<L> = Fifo<Cond<QLock<Sleeper<LockEdit, Sched<SharedQueues<L>>>>>>;
+
+/// The law of the tower's locks, with the type of its events. A function that hands a lock on to the
+/// tower names them, since the check looks for them there.
+pub type TowerLockLaws = PhantomData<(LockLaw<TowerEdit>, SectionOf<TowerEdit>)>;
+
+/// The laws of the layers beneath sleep and wakeup, with the types that their clauses name. A function
+/// that makes a part of the tower names them, since the check looks for them there.
+pub type TowerLaws = PhantomData<
+    (
+        LockLaw<TowerEdit>,
+        SectionOf<TowerEdit>,
+        QueueLaw<SleepEdit<LockEdit>>,
+        QueueEvent<SleepEdit<LockEdit>>,
+        SchedLaw<SleepEdit<LockEdit>>,
+        SchedCall<SleepEdit<LockEdit>>,
+        ThreadsOf,
+    ),
+>;
 
 /// The locks of the tower at boot, each with its block: an empty pending queue for each of so many
 /// CPUs, and an empty buffer under a free lock for each of these capacities. `homes` holds the home
@@ -94,10 +113,12 @@ pub fn part_over<L: LockLayer<TowerEdit>>(
     ensures fits { ⟦<Ipc<TowerOver<L>> as IpcLayer>⟧.Fits result m.now }
 {
     let _ = m;
+    let _laws: TowerLaws = PhantomData;
     Ipc::part(cpu, homes, caps.len() as u8)
 }
 
-impl<L: OwnedLocks<TowerEdit>> OpensLocks for Sleeper<LockEdit, Sched<SharedQueues<L>>> {
+// One impl a layer: the check of an impl over several layers passes its limit.
+impl<L: OwnedLocks<TowerEdit>> OpensQueues for SharedQueues<L> {
     fn open(
         alloc: Global,
         cpus: u8,
@@ -106,6 +127,30 @@ impl<L: OwnedLocks<TowerEdit>> OpensLocks for Sleeper<LockEdit, Sched<SharedQueu
         room: usize,
     ) -> Result<L::Machine, NoMemory> {
         L::open(alloc, tower_blocks(alloc, cpus, caps, homes)?, room)
+    }
+}
+
+impl<Q: OpensQueues> OpensScheds for Sched<Q> {
+    fn open(
+        alloc: Global,
+        cpus: u8,
+        caps: &[u8],
+        homes: &[CpuId],
+        room: usize,
+    ) -> Result<Q::Machine, NoMemory> {
+        Q::open(alloc, cpus, caps, homes, room)
+    }
+}
+
+impl<S: OpensScheds> OpensLocks for Sleeper<LockEdit, S> {
+    fn open(
+        alloc: Global,
+        cpus: u8,
+        caps: &[u8],
+        homes: &[CpuId],
+        room: usize,
+    ) -> Result<S::Machine, NoMemory> {
+        <S as OpensScheds>::open(alloc, cpus, caps, homes, room)
     }
 }
 

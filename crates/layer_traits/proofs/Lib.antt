@@ -19,3 +19,4 @@ pub mod OwnedLemmas
 pub mod EffectRunLemmas
 pub mod ItemLemmas
 pub mod CapacityLemmas
+pub mod FrameLemmas

@@ -1,11 +1,8 @@
 -- What a layer beneath tells of its blocks, a layer tells of what it makes of them.
-use Rattle.std.proofs.Common.{◌≡◌, true, List, Option, Some, None, option_map, map, refl, ap, sym, ◌∙◌, subst}
+use Rattle.std.proofs.Common.{◌≡◌, Option, Some, None, option_map, refl, ap, sym, ◌∙◌, subst}
 use Rattle.std.proofs.lemmas.Option.{same_Some}
 use Rattle.event_log.specs.declared.ids.CpuId.{CpuId}
-use Rattle.event_log.specs.Actions.{Action, phase, renamed}
-use Rattle.event_log.proofs.Renaming.{phase_renamed}
 use Rattle.layer_traits.specs.Owned.{IsHeld, IsObserved}
-use Rattle.layer_traits.specs.Plans.{is_in_section}
 use Rattle.layer_traits.specs.Observed.{IsObservedAs}
 
 -- what is true under one name is true under another
@@ -39,37 +36,27 @@ shown_under below FitsP FitsQ cpu_below cpu_of InsideP InsideQ here home truth f
   somewhere = λ none. held_under below FitsP FitsQ cpu_below cpu_of InsideP InsideQ here fits cpus inside (shown.somewhere none);
 }
 
--- parts that stand on parts beneath, each of the CPU of its lower part, which fits where it does; and the actions beneath, in terms of M
-pub record PartsOn (P Q M : Type 0) : Type 1 where
+-- parts that stand on parts beneath, each of the CPU of its lower part, which fits where it does; and who may hold a lock beneath
+pub record PartsOn (P Q : Type 0) : Type 1 where
   pub below : Q → P
   pub FitsP : P → Type 0
   pub FitsQ : Q → Type 0
   pub cpu_below : P → CpuId
-  pub IsStepwise : Type 0
-  pub acts : List (Action M)
+  pub MayHold : CpuId → Type 0
   pub fits : (q : Q) → FitsQ q → FitsP (below q)
 
-abbrev pub parts_on : {P Q M : Type 0} (below : Q → P) (FitsP : P → Type 0) (FitsQ : Q → Type 0) → (P → CpuId) → Type 0 → List (Action M)
-    → ((q : Q) → FitsQ q → FitsP (below q)) → PartsOn P Q M
-parts_on below FitsP FitsQ cpu_below IsStepwise acts fits =
-    record { below = below; FitsP = FitsP; FitsQ = FitsQ; cpu_below = cpu_below; IsStepwise = IsStepwise; acts = acts; fits = fits }
+abbrev pub parts_on : {P Q : Type 0} (below : Q → P) (FitsP : P → Type 0) (FitsQ : Q → Type 0) → (P → CpuId) → (CpuId → Type 0)
+    → ((q : Q) → FitsQ q → FitsP (below q)) → PartsOn P Q
+parts_on below FitsP FitsQ cpu_below MayHold fits =
+    record { below = below; FitsP = FitsP; FitsQ = FitsQ; cpu_below = cpu_below; MayHold = MayHold; fits = fits }
 
--- a CPU is in a section, by the actions of a machine that goes step by step
-abbrev pub InSection : {M : Type 0} → Type 0 → List (Action M) → CpuId → Type 0
-InSection IsStepwise acts c = IsStepwise × (is_in_section (phase c acts) ≡ true)
-
-module _ {P Q M N : Type 0} (parts : PartsOn P Q M) (name : M → N) where
-  open parts use {below, FitsP, FitsQ, cpu_below, IsStepwise, acts, fits}
-
-  inside : (c : CpuId) → InSection IsStepwise acts c → InSection IsStepwise (map (renamed name) acts) c
-  inside c is = (is.0, ap is_in_section (phase_renamed name c acts) ∙ is.1)
-
-  -- they tell what those beneath tell, by the actions under other names
-  pub shown_on : {A : Type 0} (tells : P → Option A) (home truth : Option A) → IsObserved FitsP cpu_below (InSection IsStepwise acts) tells home truth
-      → IsObserved FitsQ (λ q. cpu_below (below q)) (InSection IsStepwise (map (renamed name) acts)) (λ q. tells (below q)) home truth
-  shown_on tells home truth shown =
-      shown_under below FitsP FitsQ cpu_below (λ q. cpu_below (below q)) (InSection IsStepwise acts) (InSection IsStepwise (map (renamed name) acts))
-      tells home truth fits (λ q fit. refl) inside shown
+-- they tell what those beneath tell
+pub shown_on : {P Q A : Type 0} (parts : PartsOn P Q) (tells : P → Option A) (home truth : Option A)
+    → IsObserved parts.FitsP parts.cpu_below parts.MayHold tells home truth
+    → IsObserved parts.FitsQ (λ q. parts.cpu_below (parts.below q)) parts.MayHold (λ q. tells (parts.below q)) home truth
+shown_on parts tells home truth shown =
+    shown_under parts.below parts.FitsP parts.FitsQ parts.cpu_below (λ q. parts.cpu_below (parts.below q)) parts.MayHold parts.MayHold
+    tells home truth parts.fits (λ q fit. refl) (λ c held. held) shown
 
 viewed_some : {A B : Type 0} (view : A → B) (truth : Option A) (o : Option A) (y : B)
     → ((x : A) → o ≡ Some x → truth ≡ Some x) → option_map view o ≡ Some y

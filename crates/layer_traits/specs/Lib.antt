@@ -2,6 +2,7 @@ pub mod Protocol
 pub mod WordsProtocol
 pub mod GrantProtocol
 pub mod Polls
+pub mod Framed
 pub mod OneLock
 pub mod AsGrants
 pub mod Plans

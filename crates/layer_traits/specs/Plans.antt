@@ -8,10 +8,6 @@ use Rattle.event_log.specs.Actions.{Action, Phase, Rests, Waits, Holds, cpu_of_a
 use Rattle.event_log.specs.Sections.{block_after, sections_in}
 use Rattle.layer_traits.specs.Protocol.{Rules}
 
--- a machine of which a poll is not one action is whole: it does a whole call in one poll
-abbrev pub IsWhole : Type 0 → Type 0
-IsWhole IsStepwise = IsStepwise → ⊥
-
 -- what the names of sections mean: the block that a section leaves, and its answer
 pub record Table (N B R : Type 0) : Type 0 where
   pub edited : N → B → B

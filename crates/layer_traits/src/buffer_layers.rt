@@ -2,7 +2,7 @@
 //!
 //! No call takes memory, and none waits.
 
-ghost use Rattle.std.specs.Prelude.{◌≡◌, ◌≢◌, ℕ, ◌+◌, ◌<◌, ◌≤◌, Bool, true, false, List, [], Option, Some, None, IsSome, length, map};
+ghost use Rattle.std.specs.Prelude.{◌≡◌, ◌≢◌, ℕ, ◌<◌, ◌≤◌, Bool, true, false, List, [], Option, Some, None, IsSome, length, map};
 
 use crate::calls::{Call, Effect, Reply};
 use crate::passes::Pass;
@@ -33,6 +33,7 @@ pub trait BufferLayer {
     ghost use Rattle.layer_traits.specs.Conditions.{CvCall};
     ghost use Rattle.layer_traits.specs.Places.{Step, Stands, AreMoves};
     ghost use Rattle.layer_traits.specs.Plans.{Follows, table_of, is_in_section};
+    ghost use Rattle.layer_traits.specs.Framed.{Framed};
     ghost use Rattle.layer_traits.specs.Looks.{Tries};
     ghost use Rattle.layer_traits.specs.QueueBlocks.{StartsWell, homes_in, inner};
     ghost use Rattle.layer_traits.specs.Queues.{buffer_sections, event_of};
@@ -75,6 +76,9 @@ pub trait BufferLayer {
 
     /// No section of this CPU is under way.
     ghost IsOutside: { Self.Machine → CpuId → Type 0 };
+
+    /// This CPU may hold a lock, as far as the machine tells.
+    ghost MayHold: { Self.Machine → CpuId → Type 0 };
 
     /// Whose part it is.
     ghost cpu_of: { Self → CpuId };
@@ -155,19 +159,13 @@ pub trait BufferLayer {
         requires room { 0 < room m.old }
         ensures still { result ≡ false → (self.new ≡ self.old) × (m.new ≡ m.old) }
         ensures waits { result ≡ true → is_inside self.old ≡ true }
-        ensures fits { Fits self.new m.new }
-        ensures cpu { cpu_of self.new ≡ cpu_of self.old }
+        ensures framed { Framed Fits cpu_of opening site room ActsFor MayHold self.old self.new m.old m.new }
         ensures own { own self.new ≡ own self.old }
         ensures inside { is_inside self.new ≡ is_inside self.old }
         ensures under_way { under_way self.new ≡ under_way self.old }
         ensures seen { OthersSeen (ActsFor m.old) (seen m.old) (seen m.new) }
         ensures moves { MovesGrow (ActsFor m.old) (cpu_of self.old) (moves m.old) (moves m.new) }
-        ensures opening { opening m.new ≡ opening m.old }
         ensures caps { caps m.new ≡ caps m.old }
-        ensures site { site m.new ≡ site m.old }
-        ensures room { room m.old ≤ room m.new + 1 }
-        ensures acts { (c : CpuId) → ActsFor m.old c → ActsFor m.new c }
-        ensures others { (p : Self) → cpu_of p ≢ cpu_of self.old → Fits p m.old → Fits p m.new }
         ensures tries { IsStepwise → result ≡ true → Tries (ActsFor m.old) (cpu_of self.old) (acts m.old) (acts m.new) };
 
     /// Does at most one action of the call of `t`. Gives the reply once the call has ended, and
@@ -191,14 +189,8 @@ pub trait BufferLayer {
         ensures moves { MovesGrow (ActsFor m.old) (cpu_of self.old) (moves m.old) (moves m.new) }
         ensures prompt { IsWhole → result ≡ None
             → IsRefused call.now (caps m.old) (seen m.new) × ((own self.new).cv.lock.sleep.threads.current ≡ None) }
-        ensures fits { Fits self.new m.new }
-        ensures cpu { cpu_of self.new ≡ cpu_of self.old }
-        ensures opening { opening m.new ≡ opening m.old }
+        ensures framed { Framed Fits cpu_of opening site room ActsFor MayHold self.old self.new m.old m.new }
         ensures caps { caps m.new ≡ caps m.old }
-        ensures site { site m.new ≡ site m.old }
-        ensures room { room m.old ≤ room m.new + 1 }
-        ensures acts { (c : CpuId) → ActsFor m.old c → ActsFor m.new c }
-        ensures others { (p : Self) → cpu_of p ≢ cpu_of self.old → Fits p m.old → Fits p m.new }
         ensures follows { IsStepwise
             → Follows (ActsFor m.old) (table_of (queue_rules (lock_rules buffer_rules) (lock_moves buffer_rules)))
             (opening m.old) (cpu_of self.old) (fifo_plan (homes_in (opening m.old)) (cpu_of self.old) t call.now (own self.old))
@@ -220,14 +212,8 @@ pub trait BufferLayer {
         ensures call_states { (own self.new).call_states ≡ (own self.old).call_states }
         ensures still { IsLocalPass call → m.new ≡ m.old }
         ensures prompt { IsWhole → IsSome result }
-        ensures fits { Fits self.new m.new }
-        ensures cpu { cpu_of self.new ≡ cpu_of self.old }
-        ensures opening { opening m.new ≡ opening m.old }
+        ensures framed { Framed Fits cpu_of opening site room ActsFor MayHold self.old self.new m.old m.new }
         ensures caps { caps m.new ≡ caps m.old }
-        ensures site { site m.new ≡ site m.old }
-        ensures room { room m.old ≤ room m.new + 1 }
-        ensures acts { (c : CpuId) → ActsFor m.old c → ActsFor m.new c }
-        ensures others { (p : Self) → cpu_of p ≢ cpu_of self.old → Fits p m.old → Fits p m.new }
         ensures follows { IsStepwise
             → Follows (ActsFor m.old) (table_of (queue_rules (lock_rules buffer_rules) (lock_moves buffer_rules)))
             (opening m.old) (cpu_of self.old) (fifo_pass_plan (homes_in (opening m.old)) (cpu_of self.old) call (own self.old))

@@ -2,7 +2,7 @@
 //!
 //! No call takes memory, and none waits.
 
-ghost use Rattle.std.specs.Prelude.{◌≡◌, ◌≢◌, ℕ, ◌+◌, ◌<◌, ◌≤◌, Bool, true, false, List, [], Option};
+ghost use Rattle.std.specs.Prelude.{◌≡◌, ◌≢◌, ℕ, ◌<◌, ◌≤◌, Bool, true, false, List, [], Option};
 ghost use Rattle.std.specs.Prelude.{Some, None, IsSome, IfSome, OnSome, is_some, length, map, if◌then◌else◌};
 
 use crate::conditions::{CvEdit, CvLeave, CvOut, Guarded};
@@ -35,7 +35,8 @@ pub trait CvLayer<G: Guarded> {
     ghost use Rattle.layer_traits.specs.declared.scheds.SchedCall.TheVariants as sched;
     ghost use Rattle.layer_traits.specs.Places.{Stands, AreMoves};
     ghost use Rattle.thread_blocks.specs.Queues.{is_in};
-    ghost use Rattle.layer_traits.specs.Plans.{Follows, IsWhole, table_of, is_in_section};
+    ghost use Rattle.layer_traits.specs.Plans.{Follows, table_of, is_in_section};
+    ghost use Rattle.layer_traits.specs.Framed.{Framed};
     ghost use Rattle.layer_traits.specs.Looks.{Tries};
     ghost use Rattle.layer_traits.specs.QueueBlocks.{StartsWell, homes_in, inner};
     ghost use Rattle.layer_traits.specs.Queues.{QueueAllowed, IsKnownEvent, buffer_sections, cpu_of_queue_event, event_of, moves_in};
@@ -71,6 +72,9 @@ pub trait CvLayer<G: Guarded> {
     /// No section of this CPU is under way.
     ghost IsOutside: { Self.Machine → CpuId → Type 0 };
 
+    /// This CPU may hold a lock, as far as the machine tells.
+    ghost MayHold: { Self.Machine → CpuId → Type 0 };
+
     /// Whose part it is.
     ghost cpu_of: { Self → CpuId };
 
@@ -86,9 +90,12 @@ pub trait CvLayer<G: Guarded> {
     /// The part and the machine agree.
     ghost Fits: { Self → Self.Machine → Type 0 };
 
-    /// Whether one poll is one action, as in the tower; false of a machine that does a whole
-    /// section in one step.
+    /// Whether one poll is one action, as in the tower.
     ghost IsStepwise: { Type 0 };
+
+    /// Whether one poll is one call: each poll answers or leaves its thread to wait. A lock that lets
+    /// polls pass without an action is neither.
+    ghost IsWhole: { Type 0 };
 
     /// The actions on the locks, newest first, each Give under its section's edit.
     ghost acts: { Self.Machine → List (Action (QueueEdit (CvCall G))) };
@@ -144,17 +151,11 @@ pub trait CvLayer<G: Guarded> {
         requires room { 0 < room m.old }
         ensures still { result ≡ false → (self.new ≡ self.old) × (m.new ≡ m.old) }
         ensures waits { result ≡ true → is_inside self.old ≡ true }
-        ensures fits { Fits self.new m.new }
-        ensures cpu { cpu_of self.new ≡ cpu_of self.old }
+        ensures framed { Framed Fits cpu_of opening site room ActsFor MayHold self.old self.new m.old m.new }
         ensures call { under_way self.new ≡ under_way self.old }
         ensures own { own self.new ≡ own self.old }
         ensures inside { is_inside self.new ≡ is_inside self.old }
         ensures seen { Grows (ActsFor m.old) cpu_of_queue_event (seen m.old) (seen m.new) }
-        ensures opening { opening m.new ≡ opening m.old }
-        ensures site { site m.new ≡ site m.old }
-        ensures room { room m.old ≤ room m.new + 1 }
-        ensures acts { (c : CpuId) → ActsFor m.old c → ActsFor m.new c }
-        ensures others { (p : Self) → cpu_of p ≢ cpu_of self.old → Fits p m.old → Fits p m.new }
         ensures tries { IsStepwise → result ≡ true → Tries (ActsFor m.old) (cpu_of self.old) (acts m.old) (acts m.new) };
 
     /// Does at most one action of the call. Gives its outcome once it has ended, and `None` while
@@ -187,15 +188,9 @@ pub trait CvLayer<G: Guarded> {
             (under_way self.new) (record { own = own self.new; answer = result }) }
         ensures woken { IsSome (slept_for (own self.old).waits (lock_caller (cv_rules G.monitor_rules) call)) → m.new ≡ m.old }
         ensures handed { IsSome (slept_for (own self.old).lock.slept (lock_caller (cv_rules G.monitor_rules) call)) → m.new ≡ m.old }
-        ensures fits { Fits self.new m.new }
-        ensures cpu { cpu_of self.new ≡ cpu_of self.old }
-        ensures opening { opening m.new ≡ opening m.old }
-        ensures site { site m.new ≡ site m.old }
-        ensures room { room m.old ≤ room m.new + 1 }
-        ensures acts { (c : CpuId) → ActsFor m.old c → ActsFor m.new c }
-        ensures others { (p : Self) → cpu_of p ≢ cpu_of self.old → Fits p m.old → Fits p m.new }
+        ensures framed { Framed Fits cpu_of opening site room ActsFor MayHold self.old self.new m.old m.new }
         ensures brought { IfSome result (λ outcome. lock_brought (cv_brought G.brought) outcome.out payload.new.message) }
-        ensures prompt { IsWhole IsStepwise → result ≡ None
+        ensures prompt { IsWhole → result ≡ None
             → MustStay (lock_caller (cv_rules G.monitor_rules) call) buffer (own self.old) (own self.new) }
         ensures follows { IsStepwise
             → Follows (ActsFor m.old) (table_of (queue_rules (lock_rules (cv_rules G.monitor_rules)) (lock_moves (cv_rules G.monitor_rules))))
@@ -218,15 +213,9 @@ pub trait CvLayer<G: Guarded> {
         ensures waits { (own self.new).waits ≡ (own self.old).waits }
         ensures call { under_way self.new ≡ (if is_some result then None else Some (sched.Pass call)) }
         ensures still { IsLocalPass call → m.new ≡ m.old }
-        ensures fits { Fits self.new m.new }
-        ensures cpu { cpu_of self.new ≡ cpu_of self.old }
-        ensures opening { opening m.new ≡ opening m.old }
-        ensures site { site m.new ≡ site m.old }
-        ensures room { room m.old ≤ room m.new + 1 }
-        ensures acts { (c : CpuId) → ActsFor m.old c → ActsFor m.new c }
+        ensures framed { Framed Fits cpu_of opening site room ActsFor MayHold self.old self.new m.old m.new }
         ensures outside { OnSome result ((IsLocalPass call → ⊥) → IsOutside m.new (cpu_of self.old)) }
-        ensures others { (p : Self) → cpu_of p ≢ cpu_of self.old → Fits p m.old → Fits p m.new }
-        ensures prompt { IsWhole IsStepwise → IsSome result }
+        ensures prompt { IsWhole → IsSome result }
         ensures follows { IsStepwise
             → Follows (ActsFor m.old) (table_of (queue_rules (lock_rules (cv_rules G.monitor_rules)) (lock_moves (cv_rules G.monitor_rules))))
             (opening m.old) (cpu_of self.old)

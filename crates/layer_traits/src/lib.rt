@@ -7,8 +7,7 @@
 //! fn poll(&mut self, m: &mut L::Machine, call: QueueCall<E>, payload: &mut Payload)
 //!     -> Option<QueueAnswer<E::Out>>
 //! {
-//!     let (lock, edit) = section_of(call);
-//!     self.lower.poll(m, lock, edit, payload)
+//!     self.lower.poll(m, section_of(call), payload)
 //! }
 //! ```
 #![tactic(auto)]
@@ -26,6 +25,7 @@ mod grant_words;
 mod homes;
 mod ipc_layers;
 mod laws;
+mod layers;
 mod locked;
 mod locks;
 mod moves;
@@ -65,8 +65,9 @@ pub use grant_words::GrantWords;
 pub use homes::kept_homes;
 pub use ipc_layers::IpcLayer;
 pub use laws::{effects_are_run, one_place};
+pub use layers::{Law, Layer};
 pub use locked::{Locked, QEdit, QOut, Side, WakeWaiter};
-pub use locks::LockLayer;
+pub use locks::{LockCall, LockLaw, LockLayer, SectionOf};
 pub use moves::{Moves, WaitList};
 pub use owned::Owned;
 pub use owned_buffers::OwnedBuffers;
@@ -82,8 +83,8 @@ pub use passes::Pass;
 pub use payloads::{Ghost, Payload};
 pub use qlock_layers::QLockLayer;
 pub use queue_edits::{QueueBlock, QueueEdit};
-pub use queues::{QueueAnswer, QueueCall, QueueEvent, QueueLayer};
-pub use scheds::{SchedAnswer, SchedCall, SchedLayer};
+pub use queues::{QueueAnswer, QueueCall, QueueEvent, QueueLaw, QueueLayer};
+pub use scheds::{SchedAnswer, SchedCall, SchedLaw, SchedLayer, ThreadsOf};
 pub use sleep_layers::SleepLayer;
 pub use sleeps::{Outcome, Sleeps, Wake};
 pub use steps::{Reason, Step};

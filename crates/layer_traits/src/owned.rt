@@ -2,7 +2,7 @@
 //!
 //! Only `open` takes memory, and no call waits.
 
-ghost use Rattle.std.specs.Prelude.{◌≡◌, ◌⊎◌, ◌<◌, Bool, true, [], List, Option, Some, None, IfOk, length, option_map, slice_index};
+ghost use Rattle.std.specs.Prelude.{◌≡◌, ◌⊎◌, ◌<◌, Bool, [], List, Option, Some, None, IfOk, length, option_map, slice_index};
 
 use crate::calls::Place;
 use crate::ipc_layers::IpcLayer;
@@ -18,7 +18,6 @@ pub trait Owned: IpcLayer {
     ghost use Rattle.event_log.specs.declared.ids.CpuId.{CpuId};
     ghost use Rattle.event_log.specs.declared.ids.Tid.{Tid};
     ghost use Rattle.event_log.specs.declared.ids.TheConstants.{CPUS};
-    ghost use Rattle.event_log.specs.Actions.{phase};
     ghost use Rattle.event_log.specs.Buffers.{items_of};
     ghost use Rattle.event_log.specs.Messages.{Message};
     ghost use Rattle.event_log.specs.Runs.{is_closed};
@@ -27,7 +26,6 @@ pub trait Owned: IpcLayer {
     ghost use Rattle.layer_traits.specs.BufferEffects.{contents_of};
     ghost use Rattle.layer_traits.specs.Openings.{AreOpenable, Opened};
     ghost use Rattle.layer_traits.specs.Places.{home_of, where_is};
-    ghost use Rattle.layer_traits.specs.Plans.{is_in_section};
     ghost use Rattle.layer_traits.specs.Observed.{IsOwnPlace, IsObservedAs, ReadsPlace, queue_place};
 
     /// The owner of the lock of a buffer, as its last section left it.
@@ -74,7 +72,8 @@ pub trait Owned: IpcLayer {
             Opened (Self.caps m) (Self.homes_of m) (Self.seen m) (Self.moves m) (Self.room m) caps.now homes.now room) }
         ensures fresh { IfOk result (λ m. (c : CpuId) → c.0 < cpus → Self.IsFresh m homes.now c) }
         ensures acts { IfOk result (λ m. (c : CpuId) → c.0 < CPUS → Self.ActsFor m c) }
-        ensures none { IfOk result (λ m. Self.acts m ≡ []) };
+        ensures none { IfOk result (λ m. Self.acts m ≡ []) }
+        ensures holders { IfOk result (λ m. (c : CpuId) → Self.MayHold m c → ⊥) };
 
     /// The items of the buffer `b`, first in front; `None` where its block is in the hands of a CPU.
     ///
@@ -130,20 +129,20 @@ pub trait Owned: IpcLayer {
     /// Law: the items that the machine or a part tells of a buffer are those that the effects leave
     /// in it.
     ghost items: { (m : Self.Machine) (c : CpuId) (b : BufId) → Self.ActsFor m c → b.0 < length (Self.caps m)
-        → IsObservedAs (λ (p : Self). Self.Fits p m) (λ p. Self.cpu_of p) (λ d. Self.IsStepwise × (is_in_section (phase d (Self.acts m)) ≡ true))
+        → IsObservedAs (λ (p : Self). Self.Fits p m) (λ p. Self.cpu_of p) (Self.MayHold m)
         (λ p. items_here p b) (items_in m b)
         (items_of (contents_of (Self.caps m) (Self.seen m)) b.0) };
 
     /// Law: what the machine or a part tells of whether a buffer is closed is what the effects say.
     ghost closed: { (m : Self.Machine) (c : CpuId) (b : BufId) → Self.ActsFor m c → b.0 < length (Self.caps m)
-        → IsObservedAs (λ (p : Self). Self.Fits p m) (λ p. Self.cpu_of p) (λ d. Self.IsStepwise × (is_in_section (phase d (Self.acts m)) ≡ true))
+        → IsObservedAs (λ (p : Self). Self.Fits p m) (λ p. Self.cpu_of p) (Self.MayHold m)
         (λ p. closed_here p b) (closed_in m b)
         (is_closed (Self.seen m) b.0) };
 
     /// Law: the owner that the machine or a part tells of a buffer's lock is the one that its last
     /// section left.
     ghost owners: { (m : Self.Machine) (c : CpuId) (b : BufId) → Self.ActsFor m c → b.0 < length (Self.caps m)
-        → IsObservedAs (λ (p : Self). Self.Fits p m) (λ p. Self.cpu_of p) (λ d. Self.IsStepwise × (is_in_section (phase d (Self.acts m)) ≡ true))
+        → IsObservedAs (λ (p : Self). Self.Fits p m) (λ p. Self.cpu_of p) (Self.MayHold m)
         (λ p. owner_here p b) (owner_in m b)
         (owner m b) };
 
@@ -161,6 +160,6 @@ pub trait Owned: IpcLayer {
     /// Law: of each thread some CPU can tell where it stands: its home, the CPU that has it in its
     /// hand, or one that is in a section.
     ghost place: { (p : Self) (m : Self.Machine) (t : Tid) → Self.Fits p m → t.0 < length (Self.homes_of m)
-        → ReadsPlace (λ (q : Self). Self.Fits q m) (λ q. Self.cpu_of q) (λ d. Self.IsStepwise × (is_in_section (phase d (Self.acts m)) ≡ true)) (λ q. IsSilent q m t)
+        → ReadsPlace (λ (q : Self). Self.Fits q m) (λ q. Self.cpu_of q) (Self.MayHold m) (λ q. IsSilent q m t)
         (home_of (Self.homes_of m) t) (where_is (Self.homes_of m) (Self.moves m) t) };
 }

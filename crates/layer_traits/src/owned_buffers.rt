@@ -2,7 +2,7 @@
 //!
 //! No call takes memory, and none waits.
 
-ghost use Rattle.std.specs.Prelude.{◌≡◌, ◌<◌, Bool, true, List, Option, Some, IsSome, length, option_and_then, option_map, slice_index};
+ghost use Rattle.std.specs.Prelude.{◌≡◌, ◌<◌, Bool, List, Option, IsSome, length, option_and_then, option_map, slice_index};
 
 use crate::buffer_layers::BufferLayer;
 use crate::moves::WaitList;
@@ -18,7 +18,6 @@ pub trait OwnedBuffers: BufferLayer {
     ghost use Rattle.event_log.specs.declared.ids.LockId.TheVariants.{Pending};
     ghost use Rattle.event_log.specs.declared.ids.Tid.{Tid};
     ghost use Rattle.event_log.specs.declared.ids.TheConstants.{CPUS};
-    ghost use Rattle.event_log.specs.Actions.{phase};
     ghost use Rattle.event_log.specs.Buffers.{items_of};
     ghost use Rattle.event_log.specs.Messages.{Message};
     ghost use Rattle.event_log.specs.Runs.{is_closed};
@@ -27,7 +26,6 @@ pub trait OwnedBuffers: BufferLayer {
     ghost use Rattle.layer_traits.specs.BufferEffects.{contents_of};
     ghost use Rattle.layer_traits.specs.Owned.{wait_list_among};
     ghost use Rattle.layer_traits.specs.Places.{pending_by};
-    ghost use Rattle.layer_traits.specs.Plans.{is_in_section};
     ghost use Rattle.layer_traits.specs.Observed.{IsObservedAs};
     ghost use Rattle.thread_blocks.specs.Queues.{is_in};
 
@@ -140,20 +138,20 @@ pub trait OwnedBuffers: BufferLayer {
     /// Law: the items that the machine or a part tells of a buffer are those that the effects leave
     /// in it.
     ghost items: { (m : Self.Machine) (c : CpuId) (b : BufId) → Self.ActsFor m c → b.0 < length (Self.caps m)
-        → IsObservedAs (λ (p : Self). Self.Fits p m) (λ p. Self.cpu_of p) (λ d. Self.IsStepwise × (is_in_section (phase d (Self.acts m)) ≡ true))
+        → IsObservedAs (λ (p : Self). Self.Fits p m) (λ p. Self.cpu_of p) (Self.MayHold m)
         (λ p. items_with p b) (items_at m b)
         (items_of (contents_of (Self.caps m) (Self.seen m)) b.0) };
 
     /// Law: what the machine or a part tells of whether a buffer is closed is what the effects say.
     ghost closed: { (m : Self.Machine) (c : CpuId) (b : BufId) → Self.ActsFor m c → b.0 < length (Self.caps m)
-        → IsObservedAs (λ (p : Self). Self.Fits p m) (λ p. Self.cpu_of p) (λ d. Self.IsStepwise × (is_in_section (phase d (Self.acts m)) ≡ true))
+        → IsObservedAs (λ (p : Self). Self.Fits p m) (λ p. Self.cpu_of p) (Self.MayHold m)
         (λ p. closed_with p b) (closed_at m b)
         (is_closed (Self.seen m) b.0) };
 
     /// Law: the owner that the machine or a part tells of a buffer's lock is the one that its last
     /// section left.
     ghost owners: { (m : Self.Machine) (c : CpuId) (b : BufId) → Self.ActsFor m c → b.0 < length (Self.caps m)
-        → IsObservedAs (λ (p : Self). Self.Fits p m) (λ p. Self.cpu_of p) (λ d. Self.IsStepwise × (is_in_section (phase d (Self.acts m)) ≡ true))
+        → IsObservedAs (λ (p : Self). Self.Fits p m) (λ p. Self.cpu_of p) (Self.MayHold m)
         (λ p. owner_with p b) (owner_at m b)
         (owner m b) };
 
@@ -171,14 +169,14 @@ pub trait OwnedBuffers: BufferLayer {
     /// Law: the waiting lists that the machine or a part tells of a buffer are those that its last
     /// section left.
     ghost waiters_law: { (m : Self.Machine) (c : CpuId) (b : BufId) → Self.ActsFor m c → b.0 < length (Self.caps m)
-        → IsObservedAs (λ (p : Self). Self.Fits p m) (λ p. Self.cpu_of p) (λ d. Self.IsStepwise × (is_in_section (phase d (Self.acts m)) ≡ true))
+        → IsObservedAs (λ (p : Self). Self.Fits p m) (λ p. Self.cpu_of p) (Self.MayHold m)
         (λ p. wait_lists_with p b) (wait_lists_at m b)
         (Self.wait_lists m b) };
 
     /// Law: the threads that the machine or a part tells of a pending queue are those that the moves
     /// leave in it.
     ghost queues: { (m : Self.Machine) (c d : CpuId) → Self.ActsFor m c → IsSome (Self.opening m (Pending d))
-        → IsObservedAs (λ (p : Self). Self.Fits p m) (λ p. Self.cpu_of p) (λ d. Self.IsStepwise × (is_in_section (phase d (Self.acts m)) ≡ true))
+        → IsObservedAs (λ (p : Self). Self.Fits p m) (λ p. Self.cpu_of p) (Self.MayHold m)
         (λ p. queue_with p d) (queue_at m d)
         (pending_by (Self.moves m) d) };
 }

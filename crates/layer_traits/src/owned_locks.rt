@@ -44,7 +44,8 @@ pub trait OwnedLocks<E: Edit>: LockLayer<E> {
         ensures room { IfOk result (λ m. Self.room m ≡ room) }
         ensures acts { IfOk result (λ m. (c : CpuId) → c.0 < CPUS → Self.ActsFor m c) }
         ensures outside { IfOk result (λ m. (c : CpuId) → Self.IsOutside m c) }
-        ensures none { IfOk result (λ m. Self.acts m ≡ []) };
+        ensures none { IfOk result (λ m. Self.acts m ≡ []) }
+        ensures holders { IfOk result (λ m. (c : CpuId) → Self.MayHold m c → ⊥) };
 
     /// The block of `lock`; `None` where it is in the hands of a CPU.
     ///
@@ -60,7 +61,10 @@ pub trait OwnedLocks<E: Edit>: LockLayer<E> {
 
     /// Law: what the machine or a part tells of a block is what the sections make of it.
     ghost shown: { (m : Self.Machine) (c : CpuId) (lock : LockId) → Self.ActsFor m c → IsSome (Self.opening m lock)
-        → IsObserved (λ (p : Self). Self.Fits p m) (λ p. Self.cpu_of p) (λ d. Self.IsStepwise × (is_in_section (phase d (Self.acts m)) ≡ true))
+        → IsObserved (λ (p : Self). Self.Fits p m) (λ p. Self.cpu_of p) (Self.MayHold m)
         (λ p. block_with p lock) (block_at m lock)
         (block_after E.rules.edited (Self.opening m) lock (Self.seen m)) };
+
+    /// Law: if a poll is one action, a CPU that may hold a lock waits at one or holds one.
+    ghost holding: { Self.IsStepwise → (m : Self.Machine) (c : CpuId) → Self.MayHold m c → is_in_section (phase c (Self.acts m)) ≡ true };
 }

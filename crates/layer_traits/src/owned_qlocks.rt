@@ -2,7 +2,7 @@
 //!
 //! No call takes memory, and none waits.
 
-ghost use Rattle.std.specs.Prelude.{◌≡◌, true, List, Option, Some, IsSome, option_and_then, option_map};
+ghost use Rattle.std.specs.Prelude.{◌≡◌, List, Option, Some, IsSome, option_and_then, option_map};
 
 use crate::locked::Locked;
 use crate::moves::WaitList;
@@ -16,11 +16,8 @@ pub trait OwnedQLocks<F: Locked>: QLockLayer<F> {
     ghost use Rattle.event_log.specs.declared.ids.CpuId.{CpuId};
     ghost use Rattle.event_log.specs.declared.ids.LockId.TheVariants.{Buffer, Pending};
     ghost use Rattle.event_log.specs.declared.ids.Tid.{Tid};
-    ghost use Rattle.event_log.specs.Actions.{phase};
-    ghost use Rattle.event_log.specs.Sections.{block_after};
     ghost use Rattle.layer_traits.specs.Owned.{IsObserved, wait_list_under};
     ghost use Rattle.layer_traits.specs.Places.{pending_by};
-    ghost use Rattle.layer_traits.specs.Plans.{is_in_section};
     ghost use Rattle.layer_traits.specs.QueueBlocks.{inner};
     ghost use Rattle.layer_traits.specs.Queues.{buffer_sections, moves_in};
     ghost use Rattle.layer_traits.specs.LockLaw.{lock_kernel};
@@ -91,13 +88,13 @@ pub trait OwnedQLocks<F: Locked>: QLockLayer<F> {
 
     /// Law: what the machine or a part tells of a buffer is what the events make of it.
     ghost shown: { (m : Self.Machine) (c : CpuId) (b : BufId) → Self.ActsFor m c → IsSome (Self.opening m (Buffer b))
-        → IsObserved (λ (p : Self). Self.Fits p m) (λ p. Self.cpu_of p) (λ d. Self.IsStepwise × (is_in_section (phase d (Self.acts m)) ≡ true))
+        → IsObserved (λ (p : Self). Self.Fits p m) (λ p. Self.cpu_of p) (Self.MayHold m)
         (λ p. lock_with p b) (lock_at m b)
         (lock_after F.rules (inner (Self.opening m)) (Buffer b) (buffer_sections (Self.seen m))) };
 
     /// Law: what the machine or a part tells of a pending queue is what the moves make of it.
     ghost queues: { (m : Self.Machine) (c d : CpuId) → Self.ActsFor m c → IsSome (Self.opening m (Pending d))
-        → IsObserved (λ (p : Self). Self.Fits p m) (λ p. Self.cpu_of p) (λ d. Self.IsStepwise × (is_in_section (phase d (Self.acts m)) ≡ true))
+        → IsObserved (λ (p : Self). Self.Fits p m) (λ p. Self.cpu_of p) (Self.MayHold m)
         (λ p. queue_with p d) (queue_at m d)
         (Some (pending_by (moves_in (lock_kernel F.rules (Self.opening m)) (Self.seen m)) d)) };
 }

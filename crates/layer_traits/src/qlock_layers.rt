@@ -2,7 +2,7 @@
 //!
 //! No call takes memory, and none waits.
 
-ghost use Rattle.std.specs.Prelude.{◌≡◌, ◌≢◌, ℕ, ◌+◌, ◌<◌, ◌≤◌, Bool, true, false, List, [], length};
+ghost use Rattle.std.specs.Prelude.{◌≡◌, ◌≢◌, ℕ, ◌<◌, ◌≤◌, Bool, true, false, List, [], length};
 ghost use Rattle.std.specs.Prelude.{map, Option, Some, None, IsSome, IfSome, OnSome, is_some, if◌then◌else◌};
 
 use crate::locked::{Locked, QEdit, QOut};
@@ -34,13 +34,14 @@ pub trait QLockLayer<F: Locked> {
     ghost use Rattle.layer_traits.specs.declared.queues.QueueEvent.{QueueEvent};
     ghost use Rattle.layer_traits.specs.declared.scheds.SchedCall.{SchedCall};
     ghost use Rattle.layer_traits.specs.declared.scheds.SchedCall.TheVariants as sched;
+    ghost use Rattle.layer_traits.specs.Framed.{Framed};
     ghost use Rattle.layer_traits.specs.Looks.{Tries};
     ghost use Rattle.layer_traits.specs.LockLaw.{HasOrAwaits, Locking, LockPolled, LocksAgree, MayGo, MayLock, MustWait};
     ghost use Rattle.layer_traits.specs.LockLaw.{at_start, is_handed, lock_kernel, lock_pass_plan, lock_plan, slept_for};
     ghost use Rattle.layer_traits.specs.Locking.{AreAtRest, LockState, lock_after, lock_caller, lock_moves, lock_rules};
     ghost use Rattle.layer_traits.specs.Passes.{IsLocalPass, MayPass};
     ghost use Rattle.layer_traits.specs.Places.{AreMoves, Stands};
-    ghost use Rattle.layer_traits.specs.Plans.{Follows, IsWhole, is_in_section, table_of};
+    ghost use Rattle.layer_traits.specs.Plans.{Follows, is_in_section, table_of};
     ghost use Rattle.layer_traits.specs.QueueBlocks.{StartsWell, homes_in, inner};
     ghost use Rattle.layer_traits.specs.QueueRules.{AreProper, queue_rules};
     ghost use Rattle.layer_traits.specs.Queues.{IsKnownEvent, QueueAllowed, buffer_sections, cpu_of_queue_event, event_of, moves_in};
@@ -72,6 +73,9 @@ pub trait QLockLayer<F: Locked> {
     /// No section of this CPU is under way.
     ghost IsOutside: { Self.Machine → CpuId → Type 0 };
 
+    /// This CPU may hold a lock, as far as the machine tells.
+    ghost MayHold: { Self.Machine → CpuId → Type 0 };
+
     /// Whose part it is.
     ghost cpu_of: { Self → CpuId };
 
@@ -88,9 +92,12 @@ pub trait QLockLayer<F: Locked> {
     /// The part and the machine agree.
     ghost Fits: { Self → Self.Machine → Type 0 };
 
-    /// Whether one poll is one action, as in the tower; false of a machine that does a whole
-    /// section in one step.
+    /// Whether one poll is one action, as in the tower.
     ghost IsStepwise: { Type 0 };
+
+    /// Whether one poll is one call: each poll answers or leaves its thread to wait. A lock that lets
+    /// polls pass without an action is neither.
+    ghost IsWhole: { Type 0 };
 
     /// The actions on the locks, newest first, each Give under its section's edit.
     ghost acts: { Self.Machine → List (Action (QueueEdit (QEdit F F.Release))) };
@@ -147,17 +154,11 @@ pub trait QLockLayer<F: Locked> {
         requires room { 0 < room m.old }
         ensures still { result ≡ false → (self.new ≡ self.old) × (m.new ≡ m.old) }
         ensures waits { result ≡ true → is_inside self.old ≡ true }
-        ensures fits { Fits self.new m.new }
-        ensures cpu { cpu_of self.new ≡ cpu_of self.old }
+        ensures framed { Framed Fits cpu_of opening site room ActsFor MayHold self.old self.new m.old m.new }
         ensures own { own self.new ≡ own self.old }
         ensures call { under_way self.new ≡ under_way self.old }
         ensures inside { is_inside self.new ≡ is_inside self.old }
         ensures seen { Grows (ActsFor m.old) cpu_of_queue_event (seen m.old) (seen m.new) }
-        ensures opening { opening m.new ≡ opening m.old }
-        ensures site { site m.new ≡ site m.old }
-        ensures room { room m.old ≤ room m.new + 1 }
-        ensures acts { (c : CpuId) → ActsFor m.old c → ActsFor m.new c }
-        ensures others { (p : Self) → cpu_of p ≢ cpu_of self.old → Fits p m.old → Fits p m.new }
         ensures tries { IsStepwise → result ≡ true → Tries (ActsFor m.old) (cpu_of self.old) (acts m.old) (acts m.new) };
 
     /// Does at most one action of the current thread's call `edit` on the lock of `buffer`. Gives
@@ -185,19 +186,13 @@ pub trait QLockLayer<F: Locked> {
             (lock_caller F.rules edit)
             (MayLock F.rules (lock_kernel F.rules (opening m.old)) (cpu_of self.old) (seen m.old) (own self.old).sleep.threads.hand buffer edit) }
         requires carried { lock_carried F.carried edit payload.old.message }
-        ensures fits { Fits self.new m.new }
-        ensures cpu { cpu_of self.new ≡ cpu_of self.old }
+        ensures framed { Framed Fits cpu_of opening site room ActsFor MayHold self.old self.new m.old m.new }
         ensures seen { LockPolled F.rules (lock_kernel F.rules (opening m.old)) (ActsFor m.old) (cpu_of self.old) buffer edit
             (slept_for (own self.old).slept (lock_caller F.rules edit)) (seen m.old) (seen m.new) (own self.old) (under_way self.new)
             (record { own = own self.new; answer = result }) }
         ensures still { IsSome (slept_for (own self.old).slept (lock_caller F.rules edit)) → m.new ≡ m.old }
-        ensures opening { opening m.new ≡ opening m.old }
-        ensures site { site m.new ≡ site m.old }
-        ensures room { room m.old ≤ room m.new + 1 }
-        ensures acts { (c : CpuId) → ActsFor m.old c → ActsFor m.new c }
-        ensures others { (p : Self) → cpu_of p ≢ cpu_of self.old → Fits p m.old → Fits p m.new }
         ensures brought { IfSome result (λ outcome. lock_brought F.brought outcome.out payload.new.message) }
-        ensures prompt { IsWhole IsStepwise → result ≡ None → MustWait (lock_caller F.rules edit) buffer (own self.old) (own self.new) }
+        ensures prompt { IsWhole → result ≡ None → MustWait (lock_caller F.rules edit) buffer (own self.old) (own self.new) }
         ensures follows { IsStepwise → Follows (ActsFor m.old) (table_of (queue_rules (lock_rules F.rules) (lock_moves F.rules))) (opening m.old)
             (cpu_of self.old)
             (lock_plan (lock_moves F.rules) (homes_in (opening m.old)) (cpu_of self.old) buffer edit (own self.old))
@@ -212,21 +207,15 @@ pub trait QLockLayer<F: Locked> {
         requires fits { Fits self.old m.old }
         requires room { 0 < room m.old }
         requires call { MayCall (under_way self.old) (sched.Pass call) (MayPass call (own self.old).sleep.threads) }
-        ensures fits { Fits self.new m.new }
-        ensures cpu { cpu_of self.new ≡ cpu_of self.old }
+        ensures framed { Framed Fits cpu_of opening site room ActsFor MayHold self.old self.new m.old m.new }
         ensures call { under_way self.new ≡ (if is_some result then None else Some (sched.Pass call)) }
         ensures seen { SchedPolled (lock_kernel F.rules (opening m.old)) (ActsFor m.old) (cpu_of self.old) (sched.Pass call) (done_if result)
             (seen m.old) (seen m.new) (own self.old).sleep.threads (own self.new).sleep.threads }
         ensures deferred { (own self.new).sleep.deferred ≡ (own self.old).sleep.deferred }
         ensures slept { (own self.new).slept ≡ (own self.old).slept }
         ensures still { IsLocalPass call → m.new ≡ m.old }
-        ensures opening { opening m.new ≡ opening m.old }
-        ensures site { site m.new ≡ site m.old }
-        ensures room { room m.old ≤ room m.new + 1 }
-        ensures acts { (c : CpuId) → ActsFor m.old c → ActsFor m.new c }
         ensures outside { OnSome result ((IsLocalPass call → ⊥) → IsOutside m.new (cpu_of self.old)) }
-        ensures others { (p : Self) → cpu_of p ≢ cpu_of self.old → Fits p m.old → Fits p m.new }
-        ensures prompt { IsWhole IsStepwise → IsSome result }
+        ensures prompt { IsWhole → IsSome result }
         ensures follows { IsStepwise → Follows (ActsFor m.old) (table_of (queue_rules (lock_rules F.rules) (lock_moves F.rules))) (opening m.old)
             (cpu_of self.old)
             (lock_pass_plan (lock_moves F.rules) (homes_in (opening m.old)) (cpu_of self.old) call (own self.old))

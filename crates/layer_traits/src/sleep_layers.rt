@@ -2,7 +2,7 @@
 //!
 //! No call takes memory, and none waits.
 
-ghost use Rattle.std.specs.Prelude.{◌≡◌, ◌≢◌, ℕ, ◌+◌, ◌<◌, ◌≤◌, Bool, true, false, List, [], length};
+ghost use Rattle.std.specs.Prelude.{◌≡◌, ◌≢◌, ℕ, ◌<◌, ◌≤◌, Bool, true, false, List, [], length};
 ghost use Rattle.std.specs.Prelude.{map, Option, Some, None, IsSome, IfSome, OnSome, is_some, if◌then◌else◌};
 
 use crate::passes::Pass;
@@ -34,11 +34,12 @@ pub trait SleepLayer<E: Sleeps> {
     ghost use Rattle.layer_traits.specs.declared.queues.QueueEvent.{QueueEvent};
     ghost use Rattle.layer_traits.specs.declared.scheds.SchedCall.{SchedCall};
     ghost use Rattle.layer_traits.specs.declared.scheds.SchedCall.TheVariants as sched;
+    ghost use Rattle.layer_traits.specs.Framed.{Framed};
     ghost use Rattle.layer_traits.specs.Looks.{Tries};
     ghost use Rattle.layer_traits.specs.ListsAgree.{ListsAgree};
     ghost use Rattle.layer_traits.specs.Passes.{IsLocalPass, MayPass};
     ghost use Rattle.layer_traits.specs.Places.{AreMoves, Stands, at_boot};
-    ghost use Rattle.layer_traits.specs.Plans.{Follows, IsWhole, is_in_section, table_of};
+    ghost use Rattle.layer_traits.specs.Plans.{Follows, is_in_section, table_of};
     ghost use Rattle.layer_traits.specs.QueueBlocks.{StartsWell, homes_in, inner};
     ghost use Rattle.layer_traits.specs.QueueRules.{AreProper, queue_rules};
     ghost use Rattle.layer_traits.specs.Queues.{IsKnownEvent, QueueAllowed, cpu_of_queue_event, event_of, moves_in};
@@ -70,6 +71,9 @@ pub trait SleepLayer<E: Sleeps> {
     /// No section of this CPU is under way.
     ghost IsOutside: { Self.Machine → CpuId → Type 0 };
 
+    /// This CPU may hold a lock, as far as the machine tells.
+    ghost MayHold: { Self.Machine → CpuId → Type 0 };
+
     /// Whose part it is.
     ghost cpu_of: { Self → CpuId };
 
@@ -85,9 +89,12 @@ pub trait SleepLayer<E: Sleeps> {
     /// The part and the machine agree.
     ghost Fits: { Self → Self.Machine → Type 0 };
 
-    /// Whether one poll is one action, as in the tower; false of a machine that does a whole
-    /// section in one step.
+    /// Whether one poll is one action, as in the tower.
     ghost IsStepwise: { Type 0 };
+
+    /// Whether one poll is one call: each poll answers or leaves its thread to wait. A lock that lets
+    /// polls pass without an action is neither.
+    ghost IsWhole: { Type 0 };
 
     /// The actions on the locks, newest first, each Give under its section's edit.
     ghost acts: { Self.Machine → List (Action (QueueEdit E)) };
@@ -139,17 +146,11 @@ pub trait SleepLayer<E: Sleeps> {
         requires room { 0 < room m.old }
         ensures still { result ≡ false → (self.new ≡ self.old) × (m.new ≡ m.old) }
         ensures waits { result ≡ true → is_inside self.old ≡ true }
-        ensures fits { Fits self.new m.new }
-        ensures cpu { cpu_of self.new ≡ cpu_of self.old }
+        ensures framed { Framed Fits cpu_of opening site room ActsFor MayHold self.old self.new m.old m.new }
         ensures own { own self.new ≡ own self.old }
         ensures call { under_way self.new ≡ under_way self.old }
         ensures inside { is_inside self.new ≡ is_inside self.old }
         ensures seen { Grows (ActsFor m.old) cpu_of_queue_event (seen m.old) (seen m.new) }
-        ensures opening { opening m.new ≡ opening m.old }
-        ensures site { site m.new ≡ site m.old }
-        ensures room { room m.old ≤ room m.new + 1 }
-        ensures acts { (c : CpuId) → ActsFor m.old c → ActsFor m.new c }
-        ensures others { (p : Self) → cpu_of p ≢ cpu_of self.old → Fits p m.old → Fits p m.new }
         ensures tries { IsStepwise → result ≡ true → Tries (ActsFor m.old) (cpu_of self.old) (acts m.old) (acts m.new) };
 
     /// Does at most one action of the section of `edit` at the lock of `buffer`, or of sending home
@@ -173,19 +174,13 @@ pub trait SleepLayer<E: Sleeps> {
         requires call { MayCall (under_way self.old) (sched.OnBuffer buffer edit)
             (MaySleep (sleep_kernel E.rules (opening m.old)) (cpu_of self.old) (seen m.old) (own self.old).threads buffer edit) }
         requires carried { E.carried edit payload.old.message }
-        ensures fits { Fits self.new m.new }
-        ensures cpu { cpu_of self.new ≡ cpu_of self.old }
+        ensures framed { Framed Fits cpu_of opening site room ActsFor MayHold self.old self.new m.old m.new }
         ensures call { under_way self.new ≡ (if is_some result then None else Some (sched.OnBuffer buffer edit)) }
         ensures seen { SleepPolled (sleep_kernel E.rules (opening m.old)) (ActsFor m.old) (cpu_of self.old) buffer edit (seen m.old) (seen m.new)
             (own self.old) (record { own = own self.new; answer = result }) }
-        ensures opening { opening m.new ≡ opening m.old }
-        ensures site { site m.new ≡ site m.old }
-        ensures room { room m.old ≤ room m.new + 1 }
-        ensures acts { (c : CpuId) → ActsFor m.old c → ActsFor m.new c }
         ensures outside { OnSome result (IsOutside m.new (cpu_of self.old)) }
-        ensures others { (p : Self) → cpu_of p ≢ cpu_of self.old → Fits p m.old → Fits p m.new }
         ensures brought { IfSome result (λ outcome. E.brought outcome.out payload.new.message) }
-        ensures prompt { IsWhole IsStepwise → result ≡ None → MustSend (own self.old) (own self.new) }
+        ensures prompt { IsWhole → result ≡ None → MustSend (own self.old) (own self.new) }
         ensures follows { IsStepwise → Follows (ActsFor m.old) (table_of (queue_rules (sleep_rules E.rules) (sleep_moves E.rules))) (opening m.old)
             (cpu_of self.old)
             (sleep_plan (sleep_moves E.rules) (homes_in (opening m.old)) (cpu_of self.old) buffer edit (own self.old))
@@ -200,20 +195,14 @@ pub trait SleepLayer<E: Sleeps> {
         requires fits { Fits self.old m.old }
         requires room { 0 < room m.old }
         requires call { MayCall (under_way self.old) (sched.Pass call) (MayPass call (own self.old).threads) }
-        ensures fits { Fits self.new m.new }
-        ensures cpu { cpu_of self.new ≡ cpu_of self.old }
+        ensures framed { Framed Fits cpu_of opening site room ActsFor MayHold self.old self.new m.old m.new }
         ensures call { under_way self.new ≡ (if is_some result then None else Some (sched.Pass call)) }
         ensures seen { SchedPolled (sleep_kernel E.rules (opening m.old)) (ActsFor m.old) (cpu_of self.old) (sched.Pass call) (done_if result)
             (seen m.old) (seen m.new) (own self.old).threads (own self.new).threads }
         ensures deferred { (own self.new).deferred ≡ (own self.old).deferred }
         ensures still { IsLocalPass call → m.new ≡ m.old }
-        ensures opening { opening m.new ≡ opening m.old }
-        ensures site { site m.new ≡ site m.old }
-        ensures room { room m.old ≤ room m.new + 1 }
-        ensures acts { (c : CpuId) → ActsFor m.old c → ActsFor m.new c }
         ensures outside { OnSome result ((IsLocalPass call → ⊥) → IsOutside m.new (cpu_of self.old)) }
-        ensures others { (p : Self) → cpu_of p ≢ cpu_of self.old → Fits p m.old → Fits p m.new }
-        ensures prompt { IsWhole IsStepwise → IsSome result }
+        ensures prompt { IsWhole → IsSome result }
         ensures follows { IsStepwise → Follows (ActsFor m.old) (table_of (queue_rules (sleep_rules E.rules) (sleep_moves E.rules))) (opening m.old)
             (cpu_of self.old)
             (pass_plan (sleep_moves E.rules) (homes_in (opening m.old)) (cpu_of self.old) call (own self.old))

@@ -47,10 +47,11 @@ block_counts opening lock acts past block zeroth seen leaves =
     number ∙ ap (λ n. n % 2 ^ 64) (ap (sections_at lock) seen ∙ gives_are_sections lock acts)
 
 -- the block of a number that no CPU has in its hands is there
-pub there_at_rest : {P A : Type 0} (Fits : P → Type 0) (cpu_of : P → CpuId) (IsStepwise : Type 0) (acts : List (Action AddOne)) (here : P → Option A)
-    (home truth : Option A) → IsObserved Fits cpu_of (λ c. IsStepwise × (is_in_section (phase c acts) ≡ true)) here home truth
+pub there_at_rest : {P A : Type 0} (Fits : P → Type 0) (cpu_of : P → CpuId) (MayHold : CpuId → Type 0) (acts : List (Action AddOne)) (here : P → Option A)
+    (home truth : Option A) → ((c : CpuId) → MayHold c → is_in_section (phase c acts) ≡ true) → IsObserved Fits cpu_of MayHold here home truth
     → ((c : CpuId) → phase c acts ≡ Rests) → home ≡ None → ⊥
-there_at_rest Fits cpu_of IsStepwise acts here home truth shown rests away =
+there_at_rest Fits cpu_of MayHold acts here home truth holding shown rests away =
     let held = shown.somewhere away in
+    let inside : is_in_section (phase held.cpu acts) ≡ true = holding held.cpu held.inside in
     let rested : is_in_section (phase held.cpu acts) ≡ false = ap is_in_section (rests held.cpu) in
-    absurd (cc)
+    absurd (cc (inside, rested))

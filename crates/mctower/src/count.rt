@@ -10,12 +10,13 @@ ghost use Rattle.mctower.specs.Count.{AreReady, after_round, after_rounds};
 
 use crate::line::MOST_TIMES;
 use boot::LockKind;
-use cpu_workers::counting::{self, AddOne, CountFault, NUMBER};
+use cpu_workers::counting::{self, AddOne, CountFault, CountLaws, NUMBER};
 use event_log::{CpuId, LockId, NoMemory};
 use layer_traits::{LockLayer, OwnedLocks, Payload};
 use plain_machine::{GrantPlain, Plain};
 use spinlock::{Grant, Ticket, whole};
 use std::alloc::{AllocError, Global};
+use std::marker::PhantomData;
 use std::sync::Wait;
 use std::thread::Threads;
 
@@ -171,6 +172,7 @@ pub fn count_plain(alloc: Global, cpus: u8, times: u64, lock: LockKind) -> Resul
     requires times { times ≤ MOST_TIMES }
     ensures { IfOk result (λ number. number ≡ times * cpus) }
 {
+    let _laws: CountLaws = PhantomData;
     match lock {
         LockKind::Ticket => count_behind::<Ticket<Plain<AddOne>>>(alloc, cpus, times),
         LockKind::Grant => count_behind::<Grant<GrantPlain<AddOne>>>(alloc, cpus, times),

@@ -15,7 +15,10 @@ ghost use Rattle.mctower.specs.Serve.{Ends, NoCondition, reads_input};
 use crate::serve::serve;
 use condvar::Cond;
 use fifo_buffer::Fifo;
-use ipc_calls::{Ipc, LockEdit, StepwiseBuffers, StepwiseLocks, StepwiseSections, TowerEdit};
+use ipc_calls::{
+    Ipc, LockEdit, StepwiseBuffers, StepwiseLocks, StepwiseQueues, StepwiseScheds,
+    StepwiseSections, TowerEdit, TowerLaws, TowerLockLaws,
+};
 use layer_traits::Stepwise;
 use plain_machine::{GrantPlain, Plain};
 use queuing_lock::QLock;
@@ -153,14 +156,35 @@ where
     over_buffers::<N, Fifo<Cond<QLock<S>>>>(session)
 }
 
-/// [`over_locks`] over sleep and wakeup, a scheduler and shared queues.
+/// [`over_locks`] over sleep and wakeup.
+fn over_scheds<N: Next, S: StepwiseScheds + Drop>(session: &mut N::Served) -> u8
+where
+    S::Machine: Drop,
+    requires { N.Served.IsReady session.old }
+    ensures { N.Served.Serves session.old result session.new }
+{
+    over_locks::<N, Sleeper<LockEdit, S>>(session)
+}
+
+/// [`over_scheds`] over a scheduler.
+fn over_queues<N: Next, Q: StepwiseQueues + Drop>(session: &mut N::Served) -> u8
+where
+    Q::Machine: Drop,
+    requires { N.Served.IsReady session.old }
+    ensures { N.Served.Serves session.old result session.new }
+{
+    over_scheds::<N, Sched<Q>>(session)
+}
+
+/// [`over_queues`] over shared queues.
 fn over_sections<N: Next, L: StepwiseSections + Drop>(session: &mut N::Served) -> u8
 where
     L::Machine: Drop,
     requires { N.Served.IsReady session.old }
     ensures { N.Served.Serves session.old result session.new }
 {
-    over_locks::<N, Sleeper<LockEdit, Sched<SharedQueues<L>>>>(session)
+    let _laws: TowerLaws = PhantomData;
+    over_queues::<N, SharedQueues<L>>(session)
 }
 
 /// [`over_sections`] over locks with grant words of an owned machine.
@@ -168,6 +192,7 @@ fn over_grants<N: Next>(session: &mut N::Served) -> u8
     requires { N.Served.IsReady session.old }
     ensures { N.Served.Serves session.old result session.new }
 {
+    let _laws: TowerLockLaws = PhantomData;
     over_sections::<N, Grant<GrantPlain<TowerEdit>>>(session)
 }
 
@@ -176,6 +201,7 @@ fn over_tickets<N: Next>(session: &mut N::Served) -> u8
     requires { N.Served.IsReady session.old }
     ensures { N.Served.Serves session.old result session.new }
 {
+    let _laws: TowerLockLaws = PhantomData;
     over_sections::<N, Ticket<Plain<TowerEdit>>>(session)
 }
 

@@ -1,5 +1,6 @@
 -- How a thread stands after a poll of its call on a lock with conditions, by the law of the layer alone.
-use Rattle.std.proofs.Common.{◌≡◌, ◌⊎◌, inl, inr, true, false, List, Option, Some, None, IsSome, is_some, slice_set, length, ◌<◌, refl, ap, sym, ◌∙◌, subst}
+use Rattle.std.proofs.Common.{◌≡◌, ◌⊎◌, inl, inr, true, false, List, Option, Some, None, IsSome, is_some, slice_set, length, option_map, ◌<◌, refl, ap, sym, ◌∙◌, subst}
+use Rattle.std.proofs.lemmas.Option.{same_Some}
 use Rattle.std.proofs.lemmas.List.{get_or-set_same, length-replicate, length-set}
 use Rattle.event_log.specs.declared.ids.BufId.{BufId}
 use Rattle.event_log.specs.declared.ids.CpuId.{CpuId}
@@ -18,14 +19,16 @@ use Rattle.layer_traits.specs.declared.moves.WaitList.TheVariants as wait_list
 use Rattle.layer_traits.specs.declared.queue_edits.QueueBlock.{QueueBlock}
 use Rattle.layer_traits.specs.declared.queues.QueueEvent.{QueueEvent}
 use Rattle.layer_traits.specs.declared.scheds.SchedCall.{SchedCall}
+use Rattle.layer_traits.specs.declared.scheds.SchedCall.TheVariants.{OnBuffer}
 use Rattle.layer_traits.specs.declared.sleeps.Outcome.{Outcome}
 use Rattle.layer_traits.specs.Conditions.{CvCall, MonitorRules, cv_rules}
 use Rattle.layer_traits.specs.CvLaw.{CvPolled, MayWait, WaitOver, Waiting, left_reported, left_waiting, waiting_at_start, waiting_with}
-use Rattle.layer_traits.specs.Locking.{LockState, wait_list_for, wait_list_slept, lock_caller, owner_of}
+use Rattle.layer_traits.specs.Locking.{LockState, wait_list_for, wait_list_slept, lock_caller, owner_in, owner_of}
 use Rattle.layer_traits.specs.LockLaw.{IsAcquire, Locking, MayGo, MayLock, lock_kernel, slept_for}
 use Rattle.layer_traits.specs.Plans.{Left}
 use Rattle.layer_traits.specs.QueueBlocks.{inner}
-use Rattle.layer_traits.specs.Queues.{buffer_sections}
+use Rattle.layer_traits.specs.Queues.{Kernel, buffer_sections}
+use Rattle.layer_traits.specs.SleepLaw.{MayCall}
 use Rattle.queuing_lock.proofs.SleptLemmas.{none_at}
 use Rattle.plain_layers.proofs.LockSectionLemmas.{After, after_polled}
 use Rattle.plain_layers.specs.CondSections.{CondHasEnded, IsCondReady, MayPollCondSection, WaitsAt}
@@ -198,3 +201,30 @@ fresh_ended {O = O} monitor_rules homes c own under t is none small =
         };
       };
     })
+
+-- a caller whose last call has ended may poll one that it may make
+pub may_begin : {G B O : Type 0} (monitor_rules : MonitorRules G B O) (k : Kernel (CvCall G) (LockState B) (Outcome (QOut (CvOut O)))) (c : CpuId)
+    (past : List (QueueEvent (CvCall G))) (own : Waiting O) (under : Option (SchedCall (CvCall G))) (b : BufId) (call : CvCall G)
+    → own.lock.sleep.threads.current ≡ Some (lock_caller (cv_rules monitor_rules) call)
+    → CondHasEnded monitor_rules own under (lock_caller (cv_rules monitor_rules) call)
+    → MayLock (cv_rules monitor_rules) k c past own.lock.sleep.threads.hand b call
+    → MayPollCondSection monitor_rules k c past own under b call
+may_begin monitor_rules k c past own under b call runs ended lock = record {
+  runs = runs;
+  may = subst (λ o. MayWait o under b call t (MayGo (slept_for own.lock.slept t) under b call t Duty)) (sym ended.goes)
+      (subst (λ o. MayGo o under b call t Duty) (sym ended.awake) (subst (λ u. MayCall u (OnBuffer b call) Duty) (sym ended.none) lock));
+  apart = λ some. ended.awake;
+  ready = ended.ready;
+}
+  where
+    t : Tid
+    t = lock_caller (cv_rules monitor_rules) call
+
+    Duty : Type 0
+    Duty = MayLock (cv_rules monitor_rules) k c past own.lock.sleep.threads.hand b call
+
+-- the owner that the machine tells is the lock's
+pub owner_told : {B : Type 0} (home truth : Option (LockState B)) (owner : Option Tid) → ((x : LockState B) → home ≡ Some x → truth ≡ Some x)
+    → option_map (λ (state : LockState B). state.owner) home ≡ Some owner → owner_in truth ≡ owner
+owner_told None truth owner by is = absurd cc
+owner_told (Some x) truth owner by is = ap owner_in (by x refl) ∙ same_Some x.owner owner is

@@ -31,9 +31,9 @@ use Rattle.layer_traits.specs.Passes.{own_slept, passed_on}
 use Rattle.layer_traits.specs.Places.{Threads}
 use Rattle.layer_traits.specs.Plans.{Left}
 use Rattle.layer_traits.specs.QueueBlocks.{homes_in, inner}
-use Rattle.layer_traits.specs.Queues.{buffer_sections, event}
+use Rattle.layer_traits.specs.Queues.{Kernel, buffer_sections, event}
 use Rattle.layer_traits.specs.Scheds.{own_answered}
-use Rattle.layer_traits.specs.SleepLaw.{PollResult, Does, MayDo, Sends, Sleeping, Waits, left_with, must_send, seen_with}
+use Rattle.layer_traits.specs.SleepLaw.{MayCall, PollResult, Does, MayDo, Sends, Sleeping, Waits, left_with, must_send, seen_with}
 use Rattle.layer_traits.proofs.PlaceLemmas.{woken_current}
 use Rattle.queuing_lock.proofs.SleptLemmas.{none_at}
 use Rattle.plain_layers.specs.LockSections.{LockHasEnded, IsSteady, MayPollLockSection, SleepsFor}
@@ -339,3 +339,20 @@ fresh_ended {O = O} rules homes c own under t is none small =
         awake = λ outcome deferred. absurd cc;
       };
     })
+
+-- a caller whose last call has ended may poll one that it may make
+pub may_begin : {F R B O : Type 0} (rules : LockRules F R B O) (k : Kernel (QEdit F R) (LockState B) (Outcome (QOut O))) (c : CpuId)
+    (past : List (QueueEvent (QEdit F R))) (own : Locking O) (under : Option (SchedCall (QEdit F R))) (b : BufId) (e : QEdit F R)
+    → own.sleep.threads.current ≡ Some (lock_caller rules e) → LockHasEnded rules own under (lock_caller rules e)
+    → MayLock rules k c past own.sleep.threads.hand b e → MayPollLockSection rules k c past own under b e
+may_begin rules k c past own under b e runs ended lock = record {
+  runs = runs;
+  may = subst (λ o. MayGo o under b e t Duty) (sym ended.awake) (subst (λ u. MayCall u (call.OnBuffer b e) Duty) (sym ended.none) lock);
+  steady = ended.steady;
+}
+  where
+    t : Tid
+    t = lock_caller rules e
+
+    Duty : Type 0
+    Duty = MayLock rules k c past own.sleep.threads.hand b e

@@ -13,6 +13,10 @@ use Rattle.layer_traits.specs.Queues.{Kernel, event, out_at}
 use Rattle.layer_traits.specs.Scheds.{own_answered}
 use Rattle.layer_traits.specs.SleepLaw.{Sleeping, must_send}
 
+-- a machine of which one poll is one call, and not one action
+abbrev pub IsCoarse : Type 0 → Type 0 → Type 0
+IsCoarse IsWhole IsStepwise = IsWhole × (IsStepwise → ⊥)
+
 -- a section that is asked of a machine: on what, by which CPU, at which buffer, and the edit
 pub record Asked (E B O : Type 0) : Type 1 where
   pub kernel : Kernel E B (Outcome O)

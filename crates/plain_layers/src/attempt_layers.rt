@@ -19,9 +19,9 @@ pub trait OpensAttempts: OwnedSleeps<Attempt> {
     ghost use Rattle.event_log.specs.declared.ids.LockId.TheVariants.{Pending};
     ghost use Rattle.event_log.specs.declared.ids.TheConstants.{CPUS};
     ghost use Rattle.layer_traits.specs.Openings.{AreOpenable};
-    ghost use Rattle.layer_traits.specs.Plans.{IsWhole};
     ghost use Rattle.layer_traits.specs.QueueBlocks.{homes_in, inner};
     ghost use Rattle.plain_layers.specs.Fifos.{fresh_buffers};
+    ghost use Rattle.plain_layers.specs.Wholes.{IsCoarse};
 
     /// A machine of so many CPUs, with an empty buffer of each of these capacities and a thread of
     /// each of these homes, and with room for `room` events. All memory is taken here.
@@ -42,10 +42,11 @@ pub trait OpensAttempts: OwnedSleeps<Attempt> {
         ensures buffers { IfOk result (λ m. inner (Self.opening m) ≡ fresh_buffers caps.now) }
         ensures acts { IfOk result (λ m. (c : CpuId) → c.0 < CPUS → Self.ActsFor m c) }
         ensures outside { IfOk result (λ m. (c : CpuId) → Self.IsOutside m c) }
-        ensures none { IfOk result (λ m. Self.acts m ≡ []) };
+        ensures none { IfOk result (λ m. Self.acts m ≡ []) }
+        ensures holders { IfOk result (λ m. (c : CpuId) → Self.MayHold m c → ⊥) };
 
-    /// Law: one poll is not one action.
-    ghost whole: { IsWhole Self.IsStepwise };
+    /// Law: one poll is one call, and not one action.
+    ghost whole: { IsCoarse Self.IsWhole Self.IsStepwise };
 }
 
 /// Empty buffers of these capacities, in their order. All memory that they need is taken here.
@@ -78,5 +79,5 @@ impl OpensAttempts for Sleeper<Attempt, PlainSched<SleepEdit<Attempt>>> {
         PlainKernel::open(alloc, blocks, cpus, homes, room)
     }
 
-    ghost whole = { λ step. step };
+    ghost whole = { (tt, λ step. step) };
 }

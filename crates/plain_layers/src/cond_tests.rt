@@ -15,7 +15,7 @@ ghost use Rattle.sleep_wakeup.specs.Nested.{state_of};
 
 use crate::PlainSched;
 use crate::cond_sections::{PollSection, calls, drains, is_woken, section_polls, switches};
-use crate::openings::Opens;
+use crate::openings::{Opens, SchedLaws};
 use condvar::Cond;
 use event_log::{BufId, CPUS, CpuId, NoMemory, THREADS, Tid};
 use layer_traits::{
@@ -29,6 +29,7 @@ use shared_queue::SharedQueues;
 use sleep_wakeup::{SleepEdit, Sleeper, sleep_blocks};
 use spinlock::Ticket;
 use std::alloc::Global;
+use std::marker::PhantomData;
 use std::test::Fail;
 
 /// Reads the block: the thread that stands at the front of either line.
@@ -323,6 +324,7 @@ fn sections_go<L: OwnedLocks<QueueEdit<Edits>> + Drop>(alloc: Global) -> Result<
 where
     L::Machine: Drop,
 {
+    let _laws: SchedLaws<Edits> = PhantomData;
     if !is_woken_at_last::<Sched<SharedQueues<L>>>(alloc, 3)? {
         return Ok(false);
     }
@@ -331,6 +333,7 @@ where
 
 #[test]
 fn a_wait_is_over_once_woken_over_ticket_locks(rt: HostRuntime) -> Result<(), Fail> {
+    let _laws: SchedLaws<Edits> = PhantomData;
     assert!(rt; sections_go::<Ticket<Plain<QueueEdit<Edits>>>>(rt.alloc())?);
     Ok(())
 }

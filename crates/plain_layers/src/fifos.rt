@@ -110,7 +110,6 @@ impl<S: SleepLayer<Attempt>> BufferLayer for PlainFifo<S> {
     ghost use Rattle.layer_traits.proofs.KernelRenaming.{homes_viewed, starts_viewed};
     ghost use Rattle.layer_traits.specs.Places.{AreMoves, Stands};
     ghost use Rattle.layer_traits.specs.BufferLaw.{buffering};
-    ghost use Rattle.layer_traits.specs.Plans.{IsWhole as IsWholeOf};
     ghost use Rattle.layer_traits.specs.QueueBlocks.{inner};
     ghost use Rattle.layer_traits.specs.Queues.{buffer_sections, moves_in};
     ghost use Rattle.layer_traits.specs.Renaming.{viewed};
@@ -130,13 +129,15 @@ impl<S: SleepLayer<Attempt>> BufferLayer for PlainFifo<S> {
 
     ghost wait_lists = { λ m b line. wait_lists_in (inner (S.opening m)) (buffer_sections (S.seen m)) b line };
 
-    ghost ActsFor = { λ m c. S.ActsFor m c × IsWholeOf S.IsStepwise × IsOwned (λ d. S.ActsFor m d) (inner (S.opening m)) };
+    ghost ActsFor = { λ m c. S.ActsFor m c × S.IsWhole × IsOwned (λ d. S.ActsFor m d) (inner (S.opening m)) };
 
     ghost room = { λ m. S.room m / 2 };
 
     ghost site = { λ m. S.site m };
 
     ghost IsOutside = { λ m c. S.IsOutside m c };
+
+    ghost MayHold = { λ m c. S.MayHold m c };
 
     ghost cpu_of = { λ p. S.cpu_of p.lower };
 
@@ -146,7 +147,7 @@ impl<S: SleepLayer<Attempt>> BufferLayer for PlainFifo<S> {
 
     ghost under_way = { λ p. None };
 
-    ghost Fits = { λ p m. S.Fits p.lower m × IsWholeOf S.IsStepwise × IsOwned (λ d. S.ActsFor m d) (inner (S.opening m))
+    ghost Fits = { λ p m. S.Fits p.lower m × S.IsWhole × IsOwned (λ d. S.ActsFor m d) (inner (S.opening m))
         × Rests (S.under_way p.lower) (S.own p.lower) p.call_states };
 
     ghost IsWhole = { Unit {0} };
@@ -241,15 +242,13 @@ impl<S: SleepLayer<Attempt>> BufferLayer for PlainFifo<S> {
 }
 
 impl<S: OwnedSleeps<Attempt>> OwnedBuffers for PlainFifo<S> {
-    ghost use Rattle.std.specs.Prelude.{true, option_map};
+    ghost use Rattle.std.specs.Prelude.{option_map};
     ghost use Rattle.std.proofs.Common.{sym};
     ghost use Rattle.event_log.specs.declared.ids.LockId.TheVariants.{Buffer, Pending};
-    ghost use Rattle.event_log.specs.Actions.{phase};
     ghost use Rattle.event_log.specs.Buffers.{items_of};
     ghost use Rattle.event_log.specs.Runs.{is_closed};
     ghost use Rattle.layer_traits.specs.BufferEffects.{contents_of};
     ghost use Rattle.layer_traits.specs.Places.{pending_by};
-    ghost use Rattle.layer_traits.specs.Plans.{is_in_section};
     ghost use Rattle.layer_traits.specs.QueueBlocks.{inner};
     ghost use Rattle.layer_traits.specs.Queues.{buffer_sections, moves_in};
     ghost use Rattle.layer_traits.specs.Renaming.{viewed_block};
@@ -344,39 +343,39 @@ impl<S: OwnedSleeps<Attempt>> OwnedBuffers for PlainFifo<S> {
     ghost known = { λ m c acts. entries_known (inner (S.opening m)) (S.seen m) (S.known m c acts.0) };
 
     ghost items = { λ m c b acts within. view_read (λ (p : Self). p.lower) (λ p. S.Fits p m) (λ (p : Self). Self.Fits p m) (λ p. S.cpu_of p)
-        (λ d. S.IsStepwise × (is_in_section (phase d (S.acts m)) ≡ true)) (λ d. ⊥ × (is_in_section (phase d (Self.acts m)) ≡ true)) (λ p fits. fits.0)
-        (λ d inside. absurd (acts.1 inside.0)) (locked_after (inner (S.opening m)) (Buffer b) (buffer_sections (S.seen m))) items_in
+        (S.MayHold m) (S.MayHold m) (λ p fits. fits.0)
+        (λ d held. held) (locked_after (inner (S.opening m)) (Buffer b) (buffer_sections (S.seen m))) items_in
         (λ p. S.state_with p b) (S.state_at m b)
         (items_of (contents_of (caps_in (inner (S.opening m))) (entries_in (inner (S.opening m)) (buffer_sections (S.seen m)))) b.0)
         (items_read (S.opening m) acts.2.fresh b within (buffer_sections (S.seen m)))
         (S.shown m c b acts.0 (buffer_there (S.opening m) acts.2.fresh b within)) };
 
     ghost closed = { λ m c b acts within. view_read (λ (p : Self). p.lower) (λ p. S.Fits p m) (λ (p : Self). Self.Fits p m) (λ p. S.cpu_of p)
-        (λ d. S.IsStepwise × (is_in_section (phase d (S.acts m)) ≡ true)) (λ d. ⊥ × (is_in_section (phase d (Self.acts m)) ≡ true)) (λ p fits. fits.0)
-        (λ d inside. absurd (acts.1 inside.0)) (locked_after (inner (S.opening m)) (Buffer b) (buffer_sections (S.seen m))) closed_of
+        (S.MayHold m) (S.MayHold m) (λ p fits. fits.0)
+        (λ d held. held) (locked_after (inner (S.opening m)) (Buffer b) (buffer_sections (S.seen m))) closed_of
         (λ p. S.state_with p b) (S.state_at m b)
         (is_closed (entries_in (inner (S.opening m)) (buffer_sections (S.seen m))) b.0)
         (closed_read (S.opening m) acts.2.fresh b within (buffer_sections (S.seen m)))
         (S.shown m c b acts.0 (buffer_there (S.opening m) acts.2.fresh b within)) };
 
     ghost owners = { λ m c b acts within. nobody_owns (λ (p : Self). Self.Fits p m) (λ p. S.cpu_of p.lower)
-        (λ d. ⊥ × (is_in_section (phase d (Self.acts m)) ≡ true)) };
+        (S.MayHold m) };
 
     ghost owner_is = { λ step m c b acts. absurd step };
 
     ghost items_are = { λ step m c b acts within. absurd step };
 
     ghost waiters_law = { λ m c b acts within. view_read (λ (p : Self). p.lower) (λ p. S.Fits p m) (λ (p : Self). Self.Fits p m) (λ p. S.cpu_of p)
-        (λ d. S.IsStepwise × (is_in_section (phase d (S.acts m)) ≡ true)) (λ d. ⊥ × (is_in_section (phase d (Self.acts m)) ≡ true)) (λ p fits. fits.0)
-        (λ d inside. absurd (acts.1 inside.0)) (locked_after (inner (S.opening m)) (Buffer b) (buffer_sections (S.seen m))) wait_lists_of
+        (S.MayHold m) (S.MayHold m) (λ p fits. fits.0)
+        (λ d held. held) (locked_after (inner (S.opening m)) (Buffer b) (buffer_sections (S.seen m))) wait_lists_of
         (λ p. S.state_with p b) (S.state_at m b)
         (λ line. wait_lists_in (inner (S.opening m)) (buffer_sections (S.seen m)) b line)
         (wait_lists_read (S.opening m) acts.2.fresh b within (buffer_sections (S.seen m)))
         (S.shown m c b acts.0 (buffer_there (S.opening m) acts.2.fresh b within)) };
 
     ghost queues = { λ m c d acts there. pending_read (λ (p : Self). p.lower) (λ p. S.Fits p m) (λ (p : Self). Self.Fits p m) (λ p. S.cpu_of p)
-        (λ d. S.IsStepwise × (is_in_section (phase d (S.acts m)) ≡ true)) (λ d. ⊥ × (is_in_section (phase d (Self.acts m)) ≡ true)) (λ p fits. fits.0)
-        (λ d inside. absurd (acts.1 inside.0)) (λ p. S.queue_with p d) (S.queue_at m d)
+        (S.MayHold m) (S.MayHold m) (λ p fits. fits.0)
+        (λ d held. held) (λ p. S.queue_with p d) (S.queue_at m d)
         (pending_by (moves_in (sleep_kernel attempts (S.opening m)) (S.seen m)) d)
         (S.queues m c d acts.0 (there_viewed (viewed_block shown) (S.opening m (Pending d)) there)) };
 }

@@ -1,5 +1,7 @@
 //! Message calls in one step: the top of the layers, over one-step buffers.
 
+ghost use Rattle.plain_layers.specs.Wholes.{IsCoarse};
+
 use crate::attempt_layers::OpensAttempts;
 use crate::attempts::Attempt;
 use crate::fifos::PlainFifo;
@@ -33,7 +35,7 @@ impl<S: OpensAttempts> WholeBuffers for PlainFifo<S> {
     ghost whole = { tt };
 }
 
-/// Law: each poll of one-step message calls is a whole call.
+/// Law: each poll of one-step message calls is one call, and not one action.
 pub fn ipc_is_whole()
-    ensures { ⟦<PlainIpc as IpcLayer>⟧.IsWhole }
+    ensures { IsCoarse ⟦<PlainIpc as IpcLayer>⟧.IsWhole ⟦<PlainIpc as IpcLayer>⟧.IsStepwise }
 {}

@@ -39,6 +39,10 @@ pub use wholes::whole;
 #[cfg(test)]
 mod attempt_tests;
 #[cfg(test)]
+mod backoff;
+#[cfg(test)]
+mod backoff_tests;
+#[cfg(test)]
 mod cond_sections;
 #[cfg(test)]
 mod cond_tests;

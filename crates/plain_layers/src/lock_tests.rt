@@ -16,7 +16,7 @@ use crate::PlainSched;
 use crate::lock_sections::{
     PollSection, acquires, drains, is_handed, releases, section_polls, switches,
 };
-use crate::openings::Opens;
+use crate::openings::{Opens, SchedLaws};
 use event_log::{BufId, CPUS, CpuId, NoMemory, THREADS, Tid};
 use layer_traits::{
     Locked, OwnedLocks, OwnedQLocks, Payload, QEdit, QLockLayer, QOut, QueueEdit, Side, WaitList,
@@ -29,6 +29,7 @@ use shared_queue::SharedQueues;
 use sleep_wakeup::{SleepEdit, Sleeper, sleep_blocks};
 use spinlock::Ticket;
 use std::alloc::Global;
+use std::marker::PhantomData;
 use std::test::Fail;
 
 /// Reads the block inside the lock, of which the caller is the owner.
@@ -324,6 +325,7 @@ fn sections_go<L: OwnedLocks<QueueEdit<Edits>> + Drop>(alloc: Global) -> Result<
 where
     L::Machine: Drop,
 {
+    let _laws: SchedLaws<Edits> = PhantomData;
     if !is_handed_on::<Sched<SharedQueues<L>>>(alloc, 3)? {
         return Ok(false);
     }
@@ -332,6 +334,7 @@ where
 
 #[test]
 fn a_lock_is_handed_on_over_ticket_locks(rt: HostRuntime) -> Result<(), Fail> {
+    let _laws: SchedLaws<Edits> = PhantomData;
     assert!(rt; sections_go::<Ticket<Plain<QueueEdit<Edits>>>>(rt.alloc())?);
     Ok(())
 }

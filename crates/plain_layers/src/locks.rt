@@ -1,10 +1,10 @@
 //! Critical sections in one step.
 
-ghost use Rattle.std.specs.Prelude.{◌≡◌, [], None};
+ghost use Rattle.std.specs.Prelude.{◌≡◌, [], None, false, refl};
 
 use crate::lock_table::LockTable;
 use event_log::{CpuId, LockId, NoMemory};
-use layer_traits::{Edit, LockLayer, OwnedLocks, Payload};
+use layer_traits::{Edit, Layer, LockCall, LockLaw, OwnedLocks, Payload};
 use std::alloc::Global;
 use std::marker::PhantomData;
 
@@ -16,7 +16,7 @@ pub struct PlainLock<E> {
     edits: PhantomData<E>,
 }
 
-impl<E: Edit> LockLayer<E> for PlainLock<E> {
+impl<E: Edit> Layer<LockLaw<E>> for PlainLock<E> {
     ghost use Rattle.std.specs.Prelude.{◌<◌};
     ghost use Rattle.event_log.specs.declared.ids.TheConstants.{CPUS};
     ghost use Rattle.plain_layers.specs.Tables.{IsTable, opening_in, room_in, sections_noted};
@@ -33,13 +33,21 @@ impl<E: Edit> LockLayer<E> for PlainLock<E> {
 
     ghost IsOutside = { λ m c. Unit {0} };
 
+    ghost MayHold = { λ m c. ⊥ };
+
     ghost cpu_of = { λ p. p.cpu };
 
+    ghost own = { λ p. tt };
+
     ghost under_way = { λ p. None };
+
+    ghost is_inside = { λ p. false };
 
     ghost Fits = { λ p m. (p.cpu.0 < CPUS) × IsTable E.rules (opening_in m) (sections_noted m) m.blocks.items };
 
     ghost IsStepwise = { ⊥ };
+
+    ghost IsWhole = { Unit {0} };
 
     ghost acts = { λ m. [] };
 
@@ -61,11 +69,10 @@ impl<E: Edit> LockLayer<E> for PlainLock<E> {
     fn poll(
         &mut self,
         m: &mut LockTable<E>,
-        lock: LockId,
-        edit: E,
+        call: LockCall<E>,
         payload: &mut Payload,
     ) -> Option<E::Out> {
-        Some(m.done(self.cpu, lock, edit, payload))
+        Some(m.done(self.cpu, call.lock, call.edit, payload))
     }
 
     ghost own_cpu = { λ p m fits. fits };
@@ -74,20 +81,28 @@ impl<E: Edit> LockLayer<E> for PlainLock<E> {
 
     ghost known = { λ m c acts. acts.1.known };
 
+    ghost opens = { λ m c acts. tt };
+
+    ghost stands = { λ p m fits. tt };
+
+    ghost inside = { λ p. refl };
+
+    ghost idle = { λ p m fits none. refl };
+
     ghost legal = { λ m c acts. tt };
 
     ghost seen_is = { λ step m. absurd step };
+
+    ghost proper = { λ step m c acts. tt };
 
     ghost busy = { λ p m fits step. absurd step };
 }
 
 impl<E: Edit> OwnedLocks<E> for PlainLock<E> {
-    ghost use Rattle.event_log.specs.Actions.{phase};
     ghost use Rattle.layer_traits.specs.OneLock.{AreDistinct, opened};
-    ghost use Rattle.layer_traits.specs.Plans.{is_in_section};
     ghost use Rattle.plain_layers.specs.ShownLaws.{table_shown};
     ghost use Rattle.plain_layers.specs.Tables.{opening_in, sections_noted};
-    ghost use Rattle.std.specs.Prelude.{◌<◌, true, IfOk};
+    ghost use Rattle.std.specs.Prelude.{◌<◌, IfOk};
     ghost use Rattle.event_log.specs.declared.ids.TheConstants.{CPUS};
 
     ghost block_at = { λ m lock. opened m.blocks.items lock };
@@ -100,12 +115,13 @@ impl<E: Edit> OwnedLocks<E> for PlainLock<E> {
         room: usize,
     ) -> Result<LockTable<E>, NoMemory>
         requires distinct { AreDistinct blocks.items }
-        ensures seen { IfOk result (λ m. ⟦<PlainLock<E> as LockLayer<E>>⟧.seen m ≡ []) }
-        ensures opening { IfOk result (λ m. ⟦<PlainLock<E> as LockLayer<E>>⟧.opening m ≡ opened blocks.items) }
-        ensures room { IfOk result (λ m. ⟦<PlainLock<E> as LockLayer<E>>⟧.room m ≡ room) }
-        ensures acts { IfOk result (λ m. (c : _) → c.0 < CPUS → ⟦<PlainLock<E> as LockLayer<E>>⟧.ActsFor m c) }
-        ensures outside { IfOk result (λ m. (c : _) → ⟦<PlainLock<E> as LockLayer<E>>⟧.IsOutside m c) }
-        ensures none { IfOk result (λ m. ⟦<PlainLock<E> as LockLayer<E>>⟧.acts m ≡ []) }
+        ensures seen { IfOk result (λ m. ⟦<PlainLock<E> as Layer<LockLaw<E>>>⟧.seen m ≡ []) }
+        ensures opening { IfOk result (λ m. ⟦<PlainLock<E> as Layer<LockLaw<E>>>⟧.opening m ≡ opened blocks.items) }
+        ensures room { IfOk result (λ m. ⟦<PlainLock<E> as Layer<LockLaw<E>>>⟧.room m ≡ room) }
+        ensures acts { IfOk result (λ m. (c : _) → c.0 < CPUS → ⟦<PlainLock<E> as Layer<LockLaw<E>>>⟧.ActsFor m c) }
+        ensures outside { IfOk result (λ m. (c : _) → ⟦<PlainLock<E> as Layer<LockLaw<E>>>⟧.IsOutside m c) }
+        ensures none { IfOk result (λ m. ⟦<PlainLock<E> as Layer<LockLaw<E>>>⟧.acts m ≡ []) }
+        ensures holders { IfOk result (λ m. (c : _) → ⟦<PlainLock<E> as Layer<LockLaw<E>>>⟧.MayHold m c → ⊥) }
     {
         LockTable::open(alloc, blocks, room)
     }
@@ -119,5 +135,7 @@ impl<E: Edit> OwnedLocks<E> for PlainLock<E> {
     }
 
     ghost shown = { λ m c lock acts there. table_shown E.rules (opening_in m) (sections_noted m) m.blocks.items (λ (p : Self). Self.Fits p m)
-        (λ p. p.cpu) (λ d. ⊥ × (is_in_section (phase d (Self.acts m)) ≡ true)) lock acts.1 there };
+        (λ p. p.cpu) (Self.MayHold m) lock acts.1 there };
+
+    ghost holding = { λ step m c held. absurd held };
 }

@@ -13,10 +13,28 @@ use crate::kernel::PlainKernel;
 use crate::queues::PlainQueues;
 use crate::scheds::PlainSched;
 use event_log::{CpuId, NoMemory};
-use layer_traits::{Moves, OwnedLocks, OwnedScheds, QueueEdit, SchedLayer};
+use layer_traits::{
+    Layer, LockLaw, Moves, OwnedLocks, OwnedScheds, QueueEdit, QueueEvent, QueueLaw, SchedCall,
+    SchedLaw, SectionOf, ThreadsOf,
+};
 use scheduler::Sched;
 use shared_queue::{SharedQueues, queue_blocks};
 use std::alloc::Global;
+use std::marker::PhantomData;
+
+/// The laws of schedulers for the edits `E` and of the layers beneath, with the types that their clauses
+/// name. A function that names several of these layers names them, since the check looks for them there.
+pub type SchedLaws<E> = PhantomData<
+    (
+        LockLaw<QueueEdit<E>>,
+        SectionOf<QueueEdit<E>>,
+        QueueLaw<E>,
+        QueueEvent<E>,
+        SchedLaw<E>,
+        SchedCall<E>,
+        ThreadsOf,
+    ),
+>;
 
 /// A layer of schedulers whose machine is opened with the blocks of its buffers.
 pub trait Opens<E: Moves>: OwnedScheds<E> {
@@ -50,13 +68,13 @@ impl<E: Moves, L: OwnedLocks<QueueEdit<E>>> Opens<E> for Sched<SharedQueues<L>> 
         room: usize,
     ) -> Result<L::Machine, NoMemory>
         requires { AreQueues cpus homes.now (length buffers.items) }
-        ensures acts { IfOk result (λ m. (c : CpuId) → c.0 < CPUS → ⟦<Sched<SharedQueues<L>> as SchedLayer<E>>⟧.ActsFor m c) }
-        ensures outside { IfOk result (λ m. (c : CpuId) → ⟦<Sched<SharedQueues<L>> as SchedLayer<E>>⟧.IsOutside m c) }
-        ensures seen { IfOk result (λ m. ⟦<Sched<SharedQueues<L>> as SchedLayer<E>>⟧.seen m ≡ []) }
-        ensures room { IfOk result (λ m. ⟦<Sched<SharedQueues<L>> as SchedLayer<E>>⟧.room m ≡ room) }
-        ensures homes { IfOk result (λ m. homes_in (⟦<Sched<SharedQueues<L>> as SchedLayer<E>>⟧.opening m) ≡ homes.now) }
-        ensures queues { IfOk result (λ m. (c : CpuId) → c.0 < cpus → IsSome (⟦<Sched<SharedQueues<L>> as SchedLayer<E>>⟧.opening m (Pending c))) }
-        ensures blocks { IfOk result (λ m. (b : _) → inner (⟦<Sched<SharedQueues<L>> as SchedLayer<E>>⟧.opening m) (Buffer b) ≡ slice_get buffers.items b.0) }
+        ensures acts { IfOk result (λ m. (c : CpuId) → c.0 < CPUS → ⟦<Sched<SharedQueues<L>> as Layer<SchedLaw<E>>>⟧.ActsFor m c) }
+        ensures outside { IfOk result (λ m. (c : CpuId) → ⟦<Sched<SharedQueues<L>> as Layer<SchedLaw<E>>>⟧.IsOutside m c) }
+        ensures seen { IfOk result (λ m. ⟦<Sched<SharedQueues<L>> as Layer<SchedLaw<E>>>⟧.seen m ≡ []) }
+        ensures room { IfOk result (λ m. ⟦<Sched<SharedQueues<L>> as Layer<SchedLaw<E>>>⟧.room m ≡ room) }
+        ensures homes { IfOk result (λ m. homes_in (⟦<Sched<SharedQueues<L>> as Layer<SchedLaw<E>>>⟧.opening m) ≡ homes.now) }
+        ensures queues { IfOk result (λ m. (c : CpuId) → c.0 < cpus → IsSome (⟦<Sched<SharedQueues<L>> as Layer<SchedLaw<E>>>⟧.opening m (Pending c))) }
+        ensures blocks { IfOk result (λ m. (b : _) → inner (⟦<Sched<SharedQueues<L>> as Layer<SchedLaw<E>>>⟧.opening m) (Buffer b) ≡ slice_get buffers.items b.0) }
     {
         let locks = queue_blocks(alloc, buffers, cpus, homes)?;
         L::open(alloc, locks, room)
@@ -72,13 +90,13 @@ impl<E: Moves> Opens<E> for Sched<PlainQueues<E>> {
         room: usize,
     ) -> Result<PlainKernel<E>, NoMemory>
         requires { AreQueues cpus homes.now (length buffers.items) }
-        ensures acts { IfOk result (λ m. (c : CpuId) → c.0 < CPUS → ⟦<Sched<PlainQueues<E>> as SchedLayer<E>>⟧.ActsFor m c) }
-        ensures outside { IfOk result (λ m. (c : CpuId) → ⟦<Sched<PlainQueues<E>> as SchedLayer<E>>⟧.IsOutside m c) }
-        ensures seen { IfOk result (λ m. ⟦<Sched<PlainQueues<E>> as SchedLayer<E>>⟧.seen m ≡ []) }
-        ensures room { IfOk result (λ m. ⟦<Sched<PlainQueues<E>> as SchedLayer<E>>⟧.room m ≡ room) }
-        ensures homes { IfOk result (λ m. homes_in (⟦<Sched<PlainQueues<E>> as SchedLayer<E>>⟧.opening m) ≡ homes.now) }
-        ensures queues { IfOk result (λ m. (c : CpuId) → c.0 < cpus → IsSome (⟦<Sched<PlainQueues<E>> as SchedLayer<E>>⟧.opening m (Pending c))) }
-        ensures blocks { IfOk result (λ m. (b : _) → inner (⟦<Sched<PlainQueues<E>> as SchedLayer<E>>⟧.opening m) (Buffer b) ≡ slice_get buffers.items b.0) }
+        ensures acts { IfOk result (λ m. (c : CpuId) → c.0 < CPUS → ⟦<Sched<PlainQueues<E>> as Layer<SchedLaw<E>>>⟧.ActsFor m c) }
+        ensures outside { IfOk result (λ m. (c : CpuId) → ⟦<Sched<PlainQueues<E>> as Layer<SchedLaw<E>>>⟧.IsOutside m c) }
+        ensures seen { IfOk result (λ m. ⟦<Sched<PlainQueues<E>> as Layer<SchedLaw<E>>>⟧.seen m ≡ []) }
+        ensures room { IfOk result (λ m. ⟦<Sched<PlainQueues<E>> as Layer<SchedLaw<E>>>⟧.room m ≡ room) }
+        ensures homes { IfOk result (λ m. homes_in (⟦<Sched<PlainQueues<E>> as Layer<SchedLaw<E>>>⟧.opening m) ≡ homes.now) }
+        ensures queues { IfOk result (λ m. (c : CpuId) → c.0 < cpus → IsSome (⟦<Sched<PlainQueues<E>> as Layer<SchedLaw<E>>>⟧.opening m (Pending c))) }
+        ensures blocks { IfOk result (λ m. (b : _) → inner (⟦<Sched<PlainQueues<E>> as Layer<SchedLaw<E>>>⟧.opening m) (Buffer b) ≡ slice_get buffers.items b.0) }
     {
         PlainKernel::open(alloc, buffers, cpus, homes, room)
     }
@@ -93,13 +111,13 @@ impl<E: Moves> Opens<E> for PlainSched<E> {
         room: usize,
     ) -> Result<PlainKernel<E>, NoMemory>
         requires { AreQueues cpus homes.now (length buffers.items) }
-        ensures acts { IfOk result (λ m. (c : CpuId) → c.0 < CPUS → ⟦<PlainSched<E> as SchedLayer<E>>⟧.ActsFor m c) }
-        ensures outside { IfOk result (λ m. (c : CpuId) → ⟦<PlainSched<E> as SchedLayer<E>>⟧.IsOutside m c) }
-        ensures seen { IfOk result (λ m. ⟦<PlainSched<E> as SchedLayer<E>>⟧.seen m ≡ []) }
-        ensures room { IfOk result (λ m. ⟦<PlainSched<E> as SchedLayer<E>>⟧.room m ≡ room) }
-        ensures homes { IfOk result (λ m. homes_in (⟦<PlainSched<E> as SchedLayer<E>>⟧.opening m) ≡ homes.now) }
-        ensures queues { IfOk result (λ m. (c : CpuId) → c.0 < cpus → IsSome (⟦<PlainSched<E> as SchedLayer<E>>⟧.opening m (Pending c))) }
-        ensures blocks { IfOk result (λ m. (b : BufId) → inner (⟦<PlainSched<E> as SchedLayer<E>>⟧.opening m) (Buffer b) ≡ slice_get buffers.items b.0) }
+        ensures acts { IfOk result (λ m. (c : CpuId) → c.0 < CPUS → ⟦<PlainSched<E> as Layer<SchedLaw<E>>>⟧.ActsFor m c) }
+        ensures outside { IfOk result (λ m. (c : CpuId) → ⟦<PlainSched<E> as Layer<SchedLaw<E>>>⟧.IsOutside m c) }
+        ensures seen { IfOk result (λ m. ⟦<PlainSched<E> as Layer<SchedLaw<E>>>⟧.seen m ≡ []) }
+        ensures room { IfOk result (λ m. ⟦<PlainSched<E> as Layer<SchedLaw<E>>>⟧.room m ≡ room) }
+        ensures homes { IfOk result (λ m. homes_in (⟦<PlainSched<E> as Layer<SchedLaw<E>>>⟧.opening m) ≡ homes.now) }
+        ensures queues { IfOk result (λ m. (c : CpuId) → c.0 < cpus → IsSome (⟦<PlainSched<E> as Layer<SchedLaw<E>>>⟧.opening m (Pending c))) }
+        ensures blocks { IfOk result (λ m. (b : BufId) → inner (⟦<PlainSched<E> as Layer<SchedLaw<E>>>⟧.opening m) (Buffer b) ≡ slice_get buffers.items b.0) }
     {
         PlainKernel::open(alloc, buffers, cpus, homes, room)
     }

@@ -4,7 +4,6 @@ ghost use Rattle.std.specs.Prelude.{◌≡◌, ◌≢◌, ◌+◌, ◌<◌, ◌�
 ghost use Rattle.event_log.specs.declared.ids.CpuId.{CpuId};
 ghost use Rattle.event_log.specs.declared.ids.LockId.TheVariants.{Pending};
 ghost use Rattle.event_log.specs.declared.ids.TheConstants.{CPUS};
-ghost use Rattle.layer_traits.specs.Plans.{IsWhole};
 ghost use Rattle.layer_traits.specs.QueueBlocks.{homes_in, inner};
 ghost use Rattle.layer_traits.specs.Queues.{QueueAllowed, StaysCallable, event, kernel, lock_of};
 ghost use Rattle.layer_traits.specs.Payloads.{call_carried, queue_brought};
@@ -13,10 +12,11 @@ ghost use Rattle.plain_layers.specs.QueueSections.{cpu_one, cpu_zero};
 
 use crate::PlainQueues;
 use crate::kernel::PlainKernel;
-use crate::sched_tests::Nap;
+use crate::sched_tests::{Nap, NapLaws};
 use event_log::{BufId, CpuId, NoMemory, Tid};
-use layer_traits::{Moves, Payload, QueueAnswer, QueueCall, QueueLayer};
+use layer_traits::{Layer, Moves, Payload, QueueAnswer, QueueCall, QueueLayer};
 use std::alloc::Global;
+use std::marker::PhantomData;
 use std::process::Abort;
 use std::test::Fail;
 use thread_blocks::ThreadQueue;
@@ -29,7 +29,7 @@ fn at_once<E: Moves, Q: QueueLayer<E>>(
     call: QueueCall<E>,
     payload: &mut Payload,
 ) -> QueueAnswer<E::Out>
-    requires whole { IsWhole Q.IsStepwise }
+    requires whole { Q.IsWhole }
     requires all { (c : CpuId) → c.0 < CPUS → Q.ActsFor m.old c }
     requires fits { Q.Fits part.old m.old }
     requires idle { Q.under_way part.old ≡ None }
@@ -69,7 +69,7 @@ fn meet_at_one_queue<Q: QueueLayer<Nap>>(
     second: &mut Q,
     m: &mut Q::Machine,
 )
-    requires whole { IsWhole Q.IsStepwise }
+    requires whole { Q.IsWhole }
     requires all { (c : CpuId) → c.0 < CPUS → Q.ActsFor m.old c }
     requires first { Q.Fits first.old m.old }
     requires second { Q.Fits second.old m.old }
@@ -106,6 +106,7 @@ fn meet_at_one_queue<Q: QueueLayer<Nap>>(
 
 /// Two CPUs at the queue of the first, on a machine of lists.
 fn cpus_meet(rt: &impl Abort, alloc: Global) -> Result<(), NoMemory> {
+    let _laws: NapLaws = PhantomData;
     let homes = [CpuId(1), CpuId(0)];
     let mut blocks = Vec::new(alloc);
     if blocks.push(None).is_err() {

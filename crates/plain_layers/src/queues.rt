@@ -1,10 +1,10 @@
 //! Shared queues in one step.
 
-ghost use Rattle.std.specs.Prelude.{◌≡◌, [], None};
+ghost use Rattle.std.specs.Prelude.{[], None, false, refl};
 
 use crate::kernel::PlainKernel;
 use event_log::{BufId, CpuId, Tid};
-use layer_traits::{Moves, OwnedQueues, Payload, QueueAnswer, QueueCall, QueueLayer};
+use layer_traits::{Layer, Moves, OwnedQueues, Payload, QueueAnswer, QueueCall, QueueLaw};
 use std::marker::PhantomData;
 
 /// One CPU's part of shared queues as they are meant: a push, a taking or an edit is done in one
@@ -15,14 +15,7 @@ pub struct PlainQueues<E> {
     edits: PhantomData<E>,
 }
 
-impl<E: Moves> QueueLayer<E> for PlainQueues<E> {
-    ghost use Rattle.std.specs.Prelude.{◌≢◌, ◌+◌, ◌<◌, ◌≤◌, IfSome, IsSome, OnSome, Some, if◌then◌else◌, is_some};
-    ghost use Rattle.event_log.specs.declared.ids.CpuId.{CpuId};
-    ghost use Rattle.layer_traits.specs.Plans.{Follows, IsWhole, answered, table_of};
-    ghost use Rattle.layer_traits.specs.QueueRules.{queue_rules};
-    ghost use Rattle.layer_traits.specs.Queues.{MayQueue, QueueAllowed, QueuePolled, event, kernel, lock_of, queue_plan};
-    ghost use Rattle.layer_traits.specs.Payloads.{call_carried, queue_brought};
-    ghost use Rattle.plain_layers.specs.declared.queues.PlainQueues.{PlainQueues};
+impl<E: Moves> Layer<QueueLaw<E>> for PlainQueues<E> {
     ghost use Rattle.plain_layers.specs.Kernels.{HasKernel, calls_in, call_room, no_site, opening_of};
 
     type Machine = PlainKernel<E>;
@@ -39,13 +32,21 @@ impl<E: Moves> QueueLayer<E> for PlainQueues<E> {
 
     ghost IsOutside = { λ m c. Unit {0} };
 
+    ghost MayHold = { λ m c. ⊥ };
+
     ghost cpu_of = { λ p. p.cpu };
 
+    ghost own = { λ p. tt };
+
     ghost under_way = { λ p. None };
+
+    ghost is_inside = { λ p. false };
 
     ghost Fits = { λ p m. HasKernel E.rules E.moves m p.cpu };
 
     ghost IsStepwise = { ⊥ };
+
+    ghost IsWhole = { Unit {0} };
 
     ghost acts = { λ m. [] };
 
@@ -69,29 +70,7 @@ impl<E: Moves> QueueLayer<E> for PlainQueues<E> {
         m: &mut PlainKernel<E>,
         call: QueueCall<E>,
         payload: &mut Payload,
-    ) -> Option<QueueAnswer<E::Out>>
-        requires fits { HasKernel E.rules E.moves m.old self.old.cpu }
-        requires lock { IsSome (opening_of m.old.opening (lock_of call)) }
-        requires room { 0 < call_room m.old }
-        requires call { MayQueue (QueueAllowed (kernel E.rules E.moves (opening_of m.old.opening))) (calls_in m.old) None
-            (event self.old.cpu call) }
-        requires carried { call_carried E.carried call payload.old }
-        ensures fits { HasKernel E.rules E.moves m.new self.new.cpu }
-        ensures cpu { self.new.cpu ≡ self.old.cpu }
-        ensures call { None ≡ (if is_some result then None else Some (event self.old.cpu call)) }
-        ensures prompt { IsWhole ⊥ → IsSome result }
-        ensures brought { IfSome result (λ answer. queue_brought E.brought answer payload.new) }
-        ensures seen { QueuePolled (kernel E.rules E.moves (opening_of m.old.opening)) (HasKernel E.rules E.moves m.old)
-            (event self.old.cpu call) result (calls_in m.old) (calls_in m.new) }
-        ensures opening { opening_of m.new.opening ≡ opening_of m.old.opening }
-        ensures site { no_site ≡ no_site }
-        ensures room { call_room m.old ≤ call_room m.new + 1 }
-        ensures acts { (c : CpuId) → HasKernel E.rules E.moves m.old c → HasKernel E.rules E.moves m.new c }
-        ensures outside { OnSome result (Unit {0}) }
-        ensures others { (p : PlainQueues E) → p.cpu ≢ self.old.cpu → HasKernel E.rules E.moves m.old p.cpu → HasKernel E.rules E.moves m.new p.cpu }
-        ensures follows { ⊥ → Follows (HasKernel E.rules E.moves m.old) (table_of (queue_rules E.rules E.moves)) (opening_of m.old.opening) self.old.cpu
-            (queue_plan call) [] [] (answered result) }
-    {
+    ) -> Option<QueueAnswer<E::Out>> {
         Some(m.done(self.cpu, call, payload))
     }
 
@@ -103,6 +82,12 @@ impl<E: Moves> QueueLayer<E> for PlainQueues<E> {
 
     ghost known = { λ m c acts. acts.1.known };
 
+    ghost stands = { λ p m fits. tt };
+
+    ghost inside = { λ p. refl };
+
+    ghost idle = { λ p m fits none. refl };
+
     ghost legal = { λ m c acts. tt };
 
     ghost seen_is = { λ step m. absurd step };
@@ -113,9 +98,7 @@ impl<E: Moves> QueueLayer<E> for PlainQueues<E> {
 }
 
 impl<E: Moves> OwnedQueues<E> for PlainQueues<E> {
-    ghost use Rattle.std.specs.Prelude.{true, slice_get};
-    ghost use Rattle.event_log.specs.Actions.{phase};
-    ghost use Rattle.layer_traits.specs.Plans.{is_in_section};
+    ghost use Rattle.std.specs.Prelude.{slice_get};
     ghost use Rattle.plain_layers.specs.Kernels.{calls_in};
     ghost use Rattle.plain_layers.specs.ShownLaws.{block_shown, queue_shown};
 
@@ -144,8 +127,8 @@ impl<E: Moves> OwnedQueues<E> for PlainQueues<E> {
     }
 
     ghost shown = { λ m c b acts there. block_shown E.rules E.moves m.opening (calls_in m) m.lists acts.1 (λ (p : Self). Self.Fits p m)
-        (λ p. p.cpu) (λ d. ⊥ × (is_in_section (phase d (Self.acts m)) ≡ true)) b there };
+        (λ p. p.cpu) (Self.MayHold m) b there };
 
     ghost queues = { λ m c d acts there. queue_shown E.rules E.moves m.opening (calls_in m) m.lists acts.1 (λ (p : Self). Self.Fits p m)
-        (λ p. p.cpu) (λ d. ⊥ × (is_in_section (phase d (Self.acts m)) ≡ true)) d there };
+        (λ p. p.cpu) (Self.MayHold m) d there };
 }

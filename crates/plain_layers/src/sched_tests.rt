@@ -1,6 +1,6 @@
 //! Schedulers, run over ticket locks and over each one-step machine in its layer's place.
 
-ghost use Rattle.std.specs.Prelude.{◌≡◌, ◌≢◌, ◌+◌, ◌<◌, ◌≤◌, [], IsSome, IfOk, MatchOption, None, Some, true, length};
+ghost use Rattle.std.specs.Prelude.{◌≡◌, ◌≢◌, ◌+◌, ◌<◌, ◌≤◌, [], IsSome, IfOk, MatchOption, None, Some, is_some, true, length};
 ghost use Rattle.event_log.specs.declared.ids.CpuId.{CpuId};
 ghost use Rattle.event_log.specs.declared.ids.LockId.TheVariants.{Buffer, Pending};
 ghost use Rattle.event_log.specs.declared.ids.TheConstants.{CPUS, THREADS};
@@ -10,17 +10,19 @@ ghost use Rattle.layer_traits.specs.QueueBlocks.{StartsWell, homes_in, inner};
 ghost use Rattle.plain_layers.specs.Naps.{waiters_of};
 ghost use Rattle.shared_queue.specs.Opening.{AreQueues};
 
-use crate::openings::Opens;
+use crate::openings::{Opens, SchedLaws};
 use crate::{PlainLock, PlainQueues, PlainSched};
 use event_log::{BufId, CPUS, CpuId, LockId, NoMemory, Tid};
 use layer_traits::{
-    Edit, Moves, OwnedLocks, OwnedScheds, Pass, Payload, QueueEdit, SchedCall, SchedLayer, WaitList,
+    Edit, Moves, OwnedLocks, OwnedScheds, Pass, Payload, QueueAnswer, QueueBlock, QueueEdit,
+    SchedCall, SchedLayer, WaitList,
 };
 use plain_machine::{GrantLockWords, GrantPlain, Plain};
 use scheduler::Sched;
 use shared_queue::SharedQueues;
 use spinlock::{Grant, Ticket};
 use std::alloc::Global;
+use std::marker::PhantomData;
 use std::process::Abort;
 use std::test::Fail;
 
@@ -76,6 +78,16 @@ impl Moves for Nap {
     ghost wakes_sleepers = { naps_wake_sleepers (λ e. e.wakes) (λ e. e.by) };
 }
 
+/// The laws of schedulers for naps, with the types that their clauses name: those of one-step queues name
+/// these besides.
+pub(crate) type NapLaws = PhantomData<
+    (
+        SchedLaws<Nap>,
+        QueueBlock<Option<Tid>>,
+        QueueAnswer<(bool, Option<Tid>)>,
+    ),
+>;
+
 /// A machine with one buffer, in which nobody sleeps, and with room for 40 events.
 fn machine<S: Opens<Nap>>(alloc: Global, cpus: u8, homes: &[CpuId]) -> Result<S::Machine, NoMemory>
     requires { AreQueues cpus homes.now 1 }
@@ -96,7 +108,7 @@ fn machine<S: Opens<Nap>>(alloc: Global, cpus: u8, homes: &[CpuId]) -> Result<S:
 
 /// Whether what the part's CPU has of its own lets a pass come.
 fn may_pass<S: SchedLayer<Nap>>(part: &S, pass: Pass) -> bool
-    ensures { result ≡ true → MayPass pass (S.threads part.now) }
+    ensures { result ≡ true → MayPass pass (S.own part.now) }
 {
     match pass {
         Pass::Switch => part.current().is_none() && part.hand().is_none() && part.has_ready(),
@@ -105,6 +117,13 @@ fn may_pass<S: SchedLayer<Nap>>(part: &S, pass: Pass) -> bool
         Pass::MakeReady(t) => part.hand() == Some(t),
         Pass::End => part.current().is_some() && part.hand().is_none(),
     }
+}
+
+/// Whether a call of the part's CPU has begun and not ended.
+fn has_begun<S: SchedLayer<Nap>>(part: &S) -> bool
+    ensures { result ≡ is_some (S.under_way part.now) }
+{
+    part.is_busy()
 }
 
 /// Polls a pass, if it may come, until it answers, and tells at which poll it did; 0 where none of
@@ -119,7 +138,7 @@ fn passed_at<S: SchedLayer<Nap>>(part: &mut S, m: &mut S::Machine, pass: Pass) -
     ensures cpu { S.cpu_of part.new ≡ S.cpu_of part.old }
     ensures others { (p : S) → S.cpu_of p ≢ S.cpu_of part.old → S.Fits p m.old → S.Fits p m.new }
 {
-    if part.is_busy() || !may_pass(part, pass) {
+    if has_begun(part) || !may_pass(part, pass) {
         return 0;
     }
     let mut payload = Payload::new();
@@ -147,7 +166,7 @@ fn napped_at<S: SchedLayer<Nap>>(part: &mut S, m: &mut S::Machine, nap: Nap) -> 
     ensures cpu { S.cpu_of part.new ≡ S.cpu_of part.old }
     ensures others { (p : S) → S.cpu_of p ≢ S.cpu_of part.old → S.Fits p m.old → S.Fits p m.new }
 {
-    if part.is_busy() || part.current() != Some(nap.by) || part.hand().is_some() {
+    if has_begun(part) || part.current() != Some(nap.by) || part.hand().is_some() {
         return 0;
     }
     let mut payload = Payload::new();
@@ -193,9 +212,9 @@ fn looks_again<S: OwnedScheds<Nap>>(rt: &impl Abort, part: &mut S, m: &mut S::Ma
     requires fits { S.Fits part.old m.old }
     requires room { 4 ≤ S.room m.old }
 {
-    assert!(rt; !part.is_busy());
+    assert!(rt; !has_begun(part));
     assert!(rt; !polled(part, m, Pass::Drain));
-    assert!(rt; part.is_busy() && part.pends_here(CpuId(0), Tid(0)).is_none());
+    assert!(rt; has_begun(part) && part.pends_here(CpuId(0), Tid(0)).is_none());
     assert!(rt; part.look(m));
     assert!(rt; part.pends_here(CpuId(0), Tid(0)) == Some(false));
     assert!(rt; polled(part, m, Pass::Drain));
@@ -232,7 +251,7 @@ fn take_turns<S: SchedLayer<Nap>>(rt: &impl Abort, part: &mut S, m: &mut S::Mach
     assert_eq!(rt; passed_at(part, m, Pass::Switch), 1);
     assert!(rt; part.current() == Some(Tid(1)));
     assert_eq!(rt; passed_at(part, m, Pass::End), 1);
-    assert!(rt; part.has_ended(Tid(1)) && !part.is_busy());
+    assert!(rt; part.has_ended(Tid(1)) && !has_begun(part));
 }
 
 /// The front of the ready threads, which is `t`, runs and goes to sleep.
@@ -333,7 +352,7 @@ fn polled<S: SchedLayer<Nap>>(part: &mut S, m: &mut S::Machine, pass: Pass) -> b
     ensures cpu { S.cpu_of part.new ≡ S.cpu_of part.old }
     ensures others { (p : S) → S.cpu_of p ≢ S.cpu_of part.old → S.Fits p m.old → S.Fits p m.new }
 {
-    if !part.is_busy() && !may_pass(part, pass) {
+    if !has_begun(part) && !may_pass(part, pass) {
         return false;
     }
     part.poll(m, SchedCall::Pass(pass), &mut Payload::new())
@@ -354,7 +373,7 @@ fn meet_at_one_queue<S: SchedLayer<Nap>>(
     requires others { S.cpu_of second.old ≢ S.cpu_of first.old }
     requires room { 7 ≤ S.room m.old }
 {
-    assert!(rt; !first.is_busy() && !second.is_busy());
+    assert!(rt; !has_begun(first) && !has_begun(second));
     let push = Pass::MakeReady(Tid(1));
     assert!(rt; !polled(second, m, push));
     assert!(rt; !polled(first, m, Pass::Drain));
@@ -462,6 +481,7 @@ fn sections_go<L: OwnedLocks<QueueEdit<Nap>> + Drop>(
 where
     L::Machine: Drop,
 {
+    let _laws: SchedLaws<Nap> = PhantomData;
     in_three_polls::<Sched<SharedQueues<L>>>(rt, alloc)
 }
 
@@ -473,23 +493,27 @@ fn whole_sections_go<L: OwnedLocks<QueueEdit<Nap>> + Drop>(
 where
     L::Machine: Drop,
 {
+    let _laws: SchedLaws<Nap> = PhantomData;
     in_one_poll::<Sched<SharedQueues<L>>>(rt, alloc)
 }
 
 #[test]
 fn schedulers_run_over_ticket_locks(rt: HostRuntime) -> Result<(), Fail> {
+    let _laws: SchedLaws<Nap> = PhantomData;
     sections_go::<Ticket<Plain<QueueEdit<Nap>>>>(&rt, rt.alloc())?;
     Ok(())
 }
 
 #[test]
 fn one_step_sections_do_a_call_in_one_poll(rt: HostRuntime) -> Result<(), Fail> {
+    let _laws: SchedLaws<Nap> = PhantomData;
     whole_sections_go::<PlainLock<QueueEdit<Nap>>>(&rt, rt.alloc())?;
     Ok(())
 }
 
 #[test]
 fn one_step_queues_do_a_call_in_one_poll(rt: HostRuntime) -> Result<(), Fail> {
+    let _laws: NapLaws = PhantomData;
     in_one_poll::<Sched<PlainQueues<Nap>>>(&rt, rt.alloc())?;
     Ok(())
 }
@@ -520,6 +544,7 @@ fn drains_twice<S: SchedLayer<Nap>>(part: &mut S, m: &mut S::Machine) -> bool
 /// The words of CPU 0's pending lock behind two drains of its empty queue, each in its third poll;
 /// `None` where one took other polls.
 fn words_behind_two_drains(alloc: Global) -> Result<Option<GrantLockWords>, NoMemory> {
+    let _laws: SchedLaws<Nap> = PhantomData;
     let homes = [CpuId(1)];
     let mut m = machine::<TowerOverGrants>(alloc, 2, &homes)?;
     let mut drains: TowerOverGrants = part(&m, CpuId(0), &homes);

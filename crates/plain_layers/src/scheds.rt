@@ -1,11 +1,13 @@
 //! Schedulers in one step.
 
-ghost use Rattle.std.specs.Prelude.{◌≡◌, [], None};
+ghost use Rattle.std.specs.Prelude.{[], None, false, refl};
 
 use crate::kernel::PlainKernel;
 use arrayvec::ArrayVec;
 use event_log::{BufId, CpuId, THREADS, Tid};
-use layer_traits::{Moves, OwnedScheds, Payload, SchedAnswer, SchedCall, SchedLayer, kept_homes};
+use layer_traits::{
+    Layer, Moves, OwnedScheds, Payload, SchedAnswer, SchedCall, SchedLaw, SchedLayer, kept_homes,
+};
 use scheduler::{OwnThreads, call_beneath};
 use std::marker::PhantomData;
 
@@ -19,16 +21,7 @@ pub struct PlainSched<E> {
     edits: PhantomData<E>,
 }
 
-impl<E: Moves> SchedLayer<E> for PlainSched<E> {
-    ghost use Rattle.std.specs.Prelude.{◌≢◌, ◌+◌, ◌<◌, ◌≤◌, IfSome, IsSome, OnSome, Some, if◌then◌else◌, is_some};
-    ghost use Rattle.event_log.specs.declared.ids.CpuId.{CpuId};
-    ghost use Rattle.layer_traits.specs.Plans.{Follows, IsWhole, table_of};
-    ghost use Rattle.layer_traits.specs.QueueBlocks.{homes_in};
-    ghost use Rattle.layer_traits.specs.QueueRules.{queue_rules};
-    ghost use Rattle.layer_traits.specs.Queues.{kernel};
-    ghost use Rattle.layer_traits.specs.Scheds.{BufferIsThere, IsLocal, IsShared, MaySched, SchedPolled, left, sched_plan};
-    ghost use Rattle.layer_traits.specs.Payloads.{sched_brought, sched_carried};
-    ghost use Rattle.plain_layers.specs.declared.scheds.PlainSched.{PlainSched};
+impl<E: Moves> Layer<SchedLaw<E>> for PlainSched<E> {
     ghost use Rattle.plain_layers.specs.Kernels.{HasKernel, calls_in, call_room, no_site, opening_of};
     ghost use Rattle.plain_layers.specs.KernelParts.{HasThreads};
 
@@ -46,15 +39,21 @@ impl<E: Moves> SchedLayer<E> for PlainSched<E> {
 
     ghost IsOutside = { λ m c. Unit {0} };
 
+    ghost MayHold = { λ m c. ⊥ };
+
     ghost cpu_of = { λ p. p.cpu };
 
-    ghost threads = { λ p. p.own };
+    ghost own = { λ p. p.own };
 
     ghost under_way = { λ p. None };
+
+    ghost is_inside = { λ p. false };
 
     ghost Fits = { λ p m. HasThreads E.rules E.moves m p.cpu p.homes.items p.own };
 
     ghost IsStepwise = { ⊥ };
+
+    ghost IsWhole = { Unit {0} };
 
     ghost acts = { λ m. [] };
 
@@ -71,26 +70,6 @@ impl<E: Moves> SchedLayer<E> for PlainSched<E> {
         false
     }
 
-    fn current(&self) -> Option<Tid> {
-        self.own.current()
-    }
-
-    fn hand(&self) -> Option<Tid> {
-        self.own.hand()
-    }
-
-    fn has_ready(&self) -> bool {
-        self.own.has_ready()
-    }
-
-    fn is_ready(&self, t: Tid) -> bool {
-        self.own.is_ready(t)
-    }
-
-    fn has_ended(&self, t: Tid) -> bool {
-        self.own.has_ended(t)
-    }
-
     fn look(&mut self, _m: &mut PlainKernel<E>) -> bool {
         false
     }
@@ -100,30 +79,7 @@ impl<E: Moves> SchedLayer<E> for PlainSched<E> {
         m: &mut PlainKernel<E>,
         call: SchedCall<E>,
         payload: &mut Payload,
-    ) -> Option<SchedAnswer<E::Out>>
-        requires fits { HasThreads E.rules E.moves m.old self.old.cpu self.old.homes.items self.old.own }
-        requires buffer { BufferIsThere (opening_of m.old.opening) call }
-        requires room { 0 < call_room m.old }
-        requires call { MaySched (kernel E.rules E.moves (opening_of m.old.opening)) self.old.cpu (calls_in m.old) self.old.own None call }
-        requires carried { sched_carried E.carried call payload.old }
-        ensures fits { HasThreads E.rules E.moves m.new self.new.cpu self.new.homes.items self.new.own }
-        ensures cpu { self.new.cpu ≡ self.old.cpu }
-        ensures call { None ≡ (if is_some result then None else Some call) }
-        ensures prompt { IsWhole ⊥ → IsSome result }
-        ensures brought { IfSome result (λ answer. sched_brought E.brought answer payload.new) }
-        ensures seen { SchedPolled (kernel E.rules E.moves (opening_of m.old.opening)) (HasKernel E.rules E.moves m.old) self.old.cpu call result
-            (calls_in m.old) (calls_in m.new) self.old.own self.new.own }
-        ensures still { IsLocal call → m.new ≡ m.old }
-        ensures opening { opening_of m.new.opening ≡ opening_of m.old.opening }
-        ensures site { no_site ≡ no_site }
-        ensures room { call_room m.old ≤ call_room m.new + 1 }
-        ensures acts { (c : CpuId) → HasKernel E.rules E.moves m.old c → HasKernel E.rules E.moves m.new c }
-        ensures outside { OnSome result (IsShared call → Unit {0}) }
-        ensures others { (p : PlainSched E) → p.cpu ≢ self.old.cpu → HasThreads E.rules E.moves m.old p.cpu p.homes.items p.own
-            → HasThreads E.rules E.moves m.new p.cpu p.homes.items p.own }
-        ensures follows { ⊥ → Follows (HasKernel E.rules E.moves m.old) (table_of (queue_rules E.rules E.moves)) (opening_of m.old.opening) self.old.cpu
-            (sched_plan E.moves (homes_in (opening_of m.old.opening)) self.old.cpu call self.old.own) [] [] (left self.new.own result) }
-    {
+    ) -> Option<SchedAnswer<E::Out>> {
         let homes = self.homes.as_slice();
         match call_beneath(homes, self.cpu, call) {
             Err(pass) => {
@@ -154,12 +110,36 @@ impl<E: Moves> SchedLayer<E> for PlainSched<E> {
     ghost busy = { λ p m fits step. absurd step };
 
     ghost stands = { λ p m fits. fits.2.stands };
+
+    ghost inside = { λ p. refl };
+
+    ghost idle = { λ p m fits none. refl };
+}
+
+impl<E: Moves> SchedLayer<E> for PlainSched<E> {
+    fn current(&self) -> Option<Tid> {
+        self.own.current()
+    }
+
+    fn hand(&self) -> Option<Tid> {
+        self.own.hand()
+    }
+
+    fn has_ready(&self) -> bool {
+        self.own.has_ready()
+    }
+
+    fn is_ready(&self, t: Tid) -> bool {
+        self.own.is_ready(t)
+    }
+
+    fn has_ended(&self, t: Tid) -> bool {
+        self.own.has_ended(t)
+    }
 }
 
 impl<E: Moves> OwnedScheds<E> for PlainSched<E> {
-    ghost use Rattle.std.specs.Prelude.{true, slice_get};
-    ghost use Rattle.event_log.specs.Actions.{phase};
-    ghost use Rattle.layer_traits.specs.Plans.{is_in_section};
+    ghost use Rattle.std.specs.Prelude.{slice_get};
     ghost use Rattle.plain_layers.specs.Kernels.{calls_in};
     ghost use Rattle.plain_layers.specs.ShownLaws.{block_shown, queue_shown};
 
@@ -188,8 +168,8 @@ impl<E: Moves> OwnedScheds<E> for PlainSched<E> {
     }
 
     ghost shown = { λ m c b acts there. block_shown E.rules E.moves m.opening (calls_in m) m.lists acts.1 (λ (p : Self). Self.Fits p m)
-        (λ p. p.cpu) (λ d. ⊥ × (is_in_section (phase d (Self.acts m)) ≡ true)) b there };
+        (λ p. p.cpu) (Self.MayHold m) b there };
 
     ghost queues = { λ m c d acts there. queue_shown E.rules E.moves m.opening (calls_in m) m.lists acts.1 (λ (p : Self). Self.Fits p m)
-        (λ p. p.cpu) (λ d. ⊥ × (is_in_section (phase d (Self.acts m)) ≡ true)) d there };
+        (λ p. p.cpu) (Self.MayHold m) d there };
 }

@@ -11,7 +11,7 @@ ghost use Rattle.layer_traits.specs.Sleeping.{NobodySleeps};
 ghost use Rattle.sleep_wakeup.specs.Nested.{state_of};
 
 use crate::PlainSched;
-use crate::openings::Opens;
+use crate::openings::{Opens, SchedLaws};
 use event_log::{BufId, CPUS, CpuId, NoMemory, Tid};
 use layer_traits::{
     Outcome, OwnedLocks, OwnedSleeps, Pass, Payload, QueueEdit, SleepLayer, Sleeps, WaitList, Wake,
@@ -22,6 +22,7 @@ use shared_queue::SharedQueues;
 use sleep_wakeup::{SleepEdit, Sleeper, sleep_blocks};
 use spinlock::Ticket;
 use std::alloc::Global;
+use std::marker::PhantomData;
 use std::test::Fail;
 
 /// Its caller waits among the receivers, or wakes another thread from there.
@@ -368,11 +369,13 @@ fn sections_go<L: OwnedLocks<QueueEdit<SleepEdit<Nap>>> + Drop>(
 where
     L::Machine: Drop,
 {
+    let _laws: SchedLaws<SleepEdit<Nap>> = PhantomData;
     sleeps_and_wakes::<Sched<SharedQueues<L>>>(alloc, polls)
 }
 
 #[test]
 fn threads_sleep_and_wake_over_ticket_locks(rt: HostRuntime) -> Result<(), Fail> {
+    let _laws: SchedLaws<SleepEdit<Nap>> = PhantomData;
     assert!(rt; sections_go::<Ticket<Plain<QueueEdit<SleepEdit<Nap>>>>>(rt.alloc(), 3)?);
     Ok(())
 }

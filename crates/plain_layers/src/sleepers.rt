@@ -5,7 +5,7 @@
 //! machine: a body of its own would be the layer's again.
 
 ghost use Rattle.std.specs.Prelude.{◌≡◌};
-ghost use Rattle.layer_traits.specs.Plans.{IsWhole};
+ghost use Rattle.plain_layers.specs.Wholes.{IsCoarse};
 
 use crate::scheds::PlainSched;
 use condvar::Cond;
@@ -24,17 +24,17 @@ pub type PlainQLock<F, R> = QLock<PlainSleep<QLockEdit<F, R>>>;
 /// One CPU's part of conditions in one step.
 pub type PlainCond<G> = Cond<PlainQLock<CvEdit<G>, CvLeave>>;
 
-/// Law: one-step sleep and wakeup does not go action by action, so each poll of it is prompt.
+/// Law: each poll of one-step sleep and wakeup is one call, and not one action.
 pub fn sleep_is_whole<E: Sleeps>()
-    ensures { IsWhole ⟦<PlainSleep<E> as SleepLayer<E>>⟧.IsStepwise }
+    ensures { IsCoarse ⟦<PlainSleep<E> as SleepLayer<E>>⟧.IsWhole ⟦<PlainSleep<E> as SleepLayer<E>>⟧.IsStepwise }
 {}
 
 /// Law: the same of one-step queuing locks.
 pub fn lock_is_whole<F: Locked>()
-    ensures { IsWhole ⟦<PlainQLock<F, F::Release> as QLockLayer<F>>⟧.IsStepwise }
+    ensures { IsCoarse ⟦<PlainQLock<F, F::Release> as QLockLayer<F>>⟧.IsWhole ⟦<PlainQLock<F, F::Release> as QLockLayer<F>>⟧.IsStepwise }
 {}
 
 /// Law: the same of one-step conditions.
 pub fn cond_is_whole<G: Guarded>()
-    ensures { IsWhole ⟦<PlainCond<G> as CvLayer<G>>⟧.IsStepwise }
+    ensures { IsCoarse ⟦<PlainCond<G> as CvLayer<G>>⟧.IsWhole ⟦<PlainCond<G> as CvLayer<G>>⟧.IsStepwise }
 {}

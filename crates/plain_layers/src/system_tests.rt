@@ -339,7 +339,7 @@ where
 }
 
 /// Runs a row: the system's text and where it stands are the row's, and nobody owns the buffer's lock.
-fn goes<I: Owned + Drop>(
+pub fn goes<I: Owned + Drop>(
     rt: &impl Abort,
     alloc: Global,
     plan: &str,
@@ -362,7 +362,7 @@ where
 }
 
 /// The parts of a row: the plan, the steps, the text of the trace, and where all stands then.
-fn parts(row: &str) -> Option<(&str, &str, &str, &str)> {
+pub fn parts(row: &str) -> Option<(&str, &str, &str, &str)> {
     let (plan, rest) = row.split_once("-- ")?;
     let (steps, rest) = rest.split_once('\n')?;
     let (text, stands) = rest.split_once("--\n")?;

@@ -4,7 +4,6 @@ ghost use Rattle.std.specs.Prelude.{◌≡◌, ◌≢◌, ◌+◌, ◌<◌, ◌�
 ghost use Rattle.event_log.specs.declared.ids.CpuId.{CpuId};
 ghost use Rattle.event_log.specs.declared.ids.LockId.TheVariants.{Buffer};
 ghost use Rattle.event_log.specs.declared.ids.TheConstants.{CPUS};
-ghost use Rattle.layer_traits.specs.Plans.{IsWhole};
 ghost use Rattle.layer_traits.specs.SleepLaw.{MaySleep, sleep_kernel};
 ghost use Rattle.plain_layers.specs.Wholes.{IsDoneWhole, asked};
 
@@ -21,7 +20,7 @@ pub fn whole<E: Sleeps + Copy, S: SleepLayer<E>>(
     edit: E,
     payload: &mut Payload,
 ) -> Outcome<E::Out>
-    requires whole { IsWhole S.IsStepwise }
+    requires whole { S.IsWhole }
     requires all { (c : CpuId) → c.0 < CPUS → S.ActsFor m.old c }
     requires fits { S.Fits part.old m.old }
     requires none { S.under_way part.old ≡ None }
@@ -41,6 +40,7 @@ pub fn whole<E: Sleeps + Copy, S: SleepLayer<E>>(
     ensures room { S.room m.old ≤ S.room m.new + 2 }
     ensures acts { (c : CpuId) → S.ActsFor m.old c → S.ActsFor m.new c }
     ensures others { (p : S) → S.cpu_of p ≢ S.cpu_of part.old → S.Fits p m.old → S.Fits p m.new }
+    ensures holders { (c : CpuId) → c ≢ S.cpu_of part.old → S.ActsFor m.old c → S.MayHold m.new c → S.MayHold m.old c }
 {
     let message = payload.message;
     match part.poll(m, buffer, edit, payload) {

@@ -1,54 +1,52 @@
 -- What the layer beneath tells of its blocks, the layer tells of their locks.
-use Rattle.std.proofs.Common.{List, Option, Some, map, option_map, ap, sym}
+use Rattle.std.proofs.Common.{List, Option, Some, option_map, ap, sym}
 use Rattle.event_log.specs.declared.ids.BufId.{BufId}
 use Rattle.event_log.specs.declared.ids.CpuId.{CpuId}
 use Rattle.event_log.specs.declared.ids.LockId.{LockId}
 use Rattle.event_log.specs.declared.ids.LockId.TheVariants.{Buffer}
 use Rattle.event_log.specs.declared.ids.Tid.{Tid}
-use Rattle.event_log.specs.Actions.{renamed}
 use Rattle.event_log.specs.Sections.{block_after}
 use Rattle.layer_traits.specs.declared.queue_edits.QueueBlock.{QueueBlock}
-use Rattle.layer_traits.specs.declared.queue_edits.QueueEdit.{QueueEdit}
 use Rattle.layer_traits.specs.declared.queues.QueueEvent.{QueueEvent}
 use Rattle.layer_traits.specs.Locking.{LockRules, lock_after}
 use Rattle.layer_traits.specs.Owned.{IsObserved}
 use Rattle.layer_traits.specs.Places.{pending_by}
 use Rattle.layer_traits.specs.QueueBlocks.{inner}
 use Rattle.layer_traits.specs.Queues.{buffer_sections, moves_in}
-use Rattle.layer_traits.specs.Renaming.{renamed_edit, renamed_events, viewed}
+use Rattle.layer_traits.specs.Renaming.{renamed_events, viewed}
 use Rattle.layer_traits.specs.Sleeping.{SleepState, sleep_edited}
-use Rattle.layer_traits.proofs.OwnedLemmas.{InSection, PartsOn, same_shown, shown_on, viewed_shown}
+use Rattle.layer_traits.proofs.OwnedLemmas.{PartsOn, same_shown, shown_on, viewed_shown}
 use Rattle.queuing_lock.specs.declared.edits.QBlock.{QBlock}
 use Rattle.queuing_lock.specs.declared.edits.QLockEdit.{QLockEdit}
 use Rattle.queuing_lock.specs.Nested.{busy_rules, edit_in, nested_lock_of}
 use Rattle.queuing_lock.specs.NestedLaws.{beneath, here, lock_is, same_moves}
 
 module _ {P Q F R B O : Type 0} (rules : LockRules F R B O) (opening : LockId → Option (QueueBlock (SleepState (QBlock B))))
-    (past : List (QueueEvent (QLockEdit F R))) (parts : PartsOn P Q (QueueEdit (QLockEdit F R))) where
-  open parts use {below, FitsP, FitsQ, cpu_below, IsStepwise, acts}
+    (past : List (QueueEvent (QLockEdit F R))) (parts : PartsOn P Q) where
+  open parts use {below, FitsP, FitsQ, cpu_below, MayHold}
 
   -- what is told of a block with its waiting lists is told of its lock
   pub locks_shown : (b : BufId) (tells : P → Option (SleepState (QBlock B))) (home : Option (SleepState (QBlock B)))
-      → IsObserved FitsP cpu_below (InSection IsStepwise acts) tells home
+      → IsObserved FitsP cpu_below MayHold tells home
       (block_after (sleep_edited (busy_rules rules)) (inner opening) (Buffer b) (buffer_sections past))
-      → IsObserved FitsQ (λ q. cpu_below (below q)) (InSection IsStepwise (map (renamed (renamed_edit edit_in)) acts))
+      → IsObserved FitsQ (λ q. cpu_below (below q)) MayHold
       (λ q. option_map nested_lock_of (tells (below q))) (option_map nested_lock_of home)
       (lock_after rules (inner (viewed nested_lock_of opening)) (Buffer b) (buffer_sections (renamed_events edit_in past)))
   locks_shown b tells home shown =
       let truth = block_after (sleep_edited (busy_rules rules)) (inner opening) (Buffer b) (buffer_sections past) in
-      viewed_shown nested_lock_of FitsQ (λ q. cpu_below (below q)) (InSection IsStepwise (map (renamed (renamed_edit edit_in)) acts))
+      viewed_shown nested_lock_of FitsQ (λ q. cpu_below (below q)) MayHold
       (λ q. tells (below q)) home truth
       (lock_after rules (inner (viewed nested_lock_of opening)) (Buffer b) (buffer_sections (renamed_events edit_in past)))
       (lock_is rules opening (Buffer b) past)
-      (shown_on parts (renamed_edit edit_in) tells home truth shown)
+      (shown_on parts tells home truth shown)
 
   -- and what is told of a pending queue is told of it here
   pub locks_queues : (d : CpuId) (tells : P → Option (List Tid)) (home : Option (List Tid))
-      → IsObserved FitsP cpu_below (InSection IsStepwise acts) tells home (Some (pending_by (moves_in (beneath rules opening) past) d))
-      → IsObserved FitsQ (λ q. cpu_below (below q)) (InSection IsStepwise (map (renamed (renamed_edit edit_in)) acts)) (λ q. tells (below q)) home
+      → IsObserved FitsP cpu_below MayHold tells home (Some (pending_by (moves_in (beneath rules opening) past) d))
+      → IsObserved FitsQ (λ q. cpu_below (below q)) MayHold (λ q. tells (below q)) home
       (Some (pending_by (moves_in (here rules opening) (renamed_events edit_in past)) d))
   locks_queues d tells home shown =
-      same_shown FitsQ (λ q. cpu_below (below q)) (InSection IsStepwise (map (renamed (renamed_edit edit_in)) acts)) (λ q. tells (below q)) home
+      same_shown FitsQ (λ q. cpu_below (below q)) MayHold (λ q. tells (below q)) home
       (Some (pending_by (moves_in (beneath rules opening) past) d)) (Some (pending_by (moves_in (here rules opening) (renamed_events edit_in past)) d))
       (ap (λ moves. Some (pending_by moves d)) (sym (same_moves rules opening past)))
-      (shown_on parts (renamed_edit edit_in) tells home (Some (pending_by (moves_in (beneath rules opening) past) d)) shown)
+      (shown_on parts tells home (Some (pending_by (moves_in (beneath rules opening) past) d)) shown)

@@ -17,14 +17,15 @@ pub struct QLock<S> {
 }
 
 impl<F: Locked, S: SleepLayer<QLockEdit<F, F::Release>>> QLockLayer<F> for QLock<S> {
-    ghost use Rattle.std.proofs.Common.{◌≡◌, ◌≢◌, ◌+◌, ◌<◌, ◌≤◌, Some, None, IsSome, IfSome, map, option_map, ap, ◌∙◌};
+    ghost use Rattle.std.proofs.Common.{◌≡◌, ◌<◌, Some, None, IsSome, IfSome, map, option_map, ap, ◌∙◌};
     ghost use Rattle.event_log.specs.declared.ids.CpuId.{CpuId};
     ghost use Rattle.event_log.specs.declared.ids.LockId.TheVariants.{Buffer};
     ghost use Rattle.event_log.specs.Actions.{renamed};
     ghost use Rattle.event_log.proofs.Renaming.{legal_renamed};
+    ghost use Rattle.layer_traits.specs.Framed.{Framed};
     ghost use Rattle.layer_traits.specs.LockLaw.{LockPolled, MayGo, MayLock, MustWait, lock_kernel, lock_plan, locking, slept_for};
     ghost use Rattle.layer_traits.specs.Locking.{lock_caller, lock_moves, lock_rules};
-    ghost use Rattle.layer_traits.specs.Plans.{Follows, IsWhole, table_of};
+    ghost use Rattle.layer_traits.specs.Plans.{Follows, table_of};
     ghost use Rattle.layer_traits.specs.QueueBlocks.{homes_in};
     ghost use Rattle.layer_traits.specs.QueueRules.{queue_rules};
     ghost use Rattle.layer_traits.specs.Renaming.{renamed_edit, renamed_events, renamed_sched, viewed};
@@ -49,6 +50,8 @@ impl<F: Locked, S: SleepLayer<QLockEdit<F, F::Release>>> QLockLayer<F> for QLock
 
     ghost IsOutside = { λ m c. S.IsOutside m c };
 
+    ghost MayHold = { λ m c. S.MayHold m c };
+
     ghost cpu_of = { λ p. S.cpu_of p.lower };
 
     ghost own = { λ p. record { sleep = S.own p.lower; slept = p.slept.buffers } };
@@ -62,6 +65,8 @@ impl<F: Locked, S: SleepLayer<QLockEdit<F, F::Release>>> QLockLayer<F> for QLock
         × DeferredFits (option_map (renamed_sched edit_in) (S.under_way p.lower)) (S.own p.lower).deferred (S.own p.lower).threads.hand };
 
     ghost IsStepwise = { S.IsStepwise };
+
+    ghost IsWhole = { S.IsWhole };
 
     ghost acts = { λ m. map (renamed (renamed_edit edit_in)) (S.acts m) };
 
@@ -136,27 +141,18 @@ impl<F: Locked, S: SleepLayer<QLockEdit<F, F::Release>>> QLockLayer<F> for QLock
             (MayLock F.rules (lock_kernel F.rules (viewed nested_lock_of (S.opening m.old))) (S.cpu_of self.old.lower) (renamed_events edit_in (S.seen m.old))
             (S.own self.old.lower).threads.hand buffer edit) }
         requires carried { lock_carried F.carried edit payload.old.message }
-        ensures fits { S.Fits self.new.lower m.new
-            × SleptFits F.rules (viewed nested_lock_of (S.opening m.new)) (S.cpu_of self.new.lower) (renamed_events edit_in (S.seen m.new)) self.new.slept.buffers
-            × DeferredFits (option_map (renamed_sched edit_in) (S.under_way self.new.lower)) (S.own self.new.lower).deferred (S.own self.new.lower).threads.hand }
-        ensures cpu { S.cpu_of self.new.lower ≡ S.cpu_of self.old.lower }
+        ensures framed { Framed (λ (p : QLock S) k. S.Fits p.lower k
+            × SleptFits F.rules (viewed nested_lock_of (S.opening k)) (S.cpu_of p.lower) (renamed_events edit_in (S.seen k)) p.slept.buffers
+            × DeferredFits (option_map (renamed_sched edit_in) (S.under_way p.lower)) (S.own p.lower).deferred (S.own p.lower).threads.hand)
+            (λ p. S.cpu_of p.lower) (λ k. viewed nested_lock_of (S.opening k)) S.site S.room (λ k c. S.ActsFor k c) (λ k c. S.MayHold k c)
+            self.old self.new m.old m.new }
         ensures seen { LockPolled F.rules (lock_kernel F.rules (viewed nested_lock_of (S.opening m.old))) (λ c. S.ActsFor m.old c) (S.cpu_of self.old.lower) buffer edit
             (slept_for self.old.slept.buffers (lock_caller F.rules edit)) (renamed_events edit_in (S.seen m.old)) (renamed_events edit_in (S.seen m.new))
             (record { sleep = S.own self.old.lower; slept = self.old.slept.buffers }) (option_map (renamed_sched edit_in) (S.under_way self.new.lower))
             (locking (S.own self.new.lower) self.new.slept.buffers result) }
         ensures still { IsSome (slept_for self.old.slept.buffers (lock_caller F.rules edit)) → m.new ≡ m.old }
-        ensures opening { viewed nested_lock_of (S.opening m.new) ≡ viewed nested_lock_of (S.opening m.old) }
-        ensures site { S.site m.new ≡ S.site m.old }
-        ensures room { S.room m.old ≤ S.room m.new + 1 }
-        ensures acts { (c : CpuId) → S.ActsFor m.old c → S.ActsFor m.new c }
-        ensures others { (p : QLock S) → S.cpu_of p.lower ≢ S.cpu_of self.old.lower → S.Fits p.lower m.old
-            × SleptFits F.rules (viewed nested_lock_of (S.opening m.old)) (S.cpu_of p.lower) (renamed_events edit_in (S.seen m.old)) p.slept.buffers
-            × DeferredFits (option_map (renamed_sched edit_in) (S.under_way p.lower)) (S.own p.lower).deferred (S.own p.lower).threads.hand
-            → S.Fits p.lower m.new
-            × SleptFits F.rules (viewed nested_lock_of (S.opening m.new)) (S.cpu_of p.lower) (renamed_events edit_in (S.seen m.new)) p.slept.buffers
-            × DeferredFits (option_map (renamed_sched edit_in) (S.under_way p.lower)) (S.own p.lower).deferred (S.own p.lower).threads.hand }
         ensures brought { IfSome result (λ outcome. lock_brought F.brought outcome.out payload.new.message) }
-        ensures prompt { IsWhole S.IsStepwise → result ≡ None → MustWait (lock_caller F.rules edit) buffer
+        ensures prompt { S.IsWhole → result ≡ None → MustWait (lock_caller F.rules edit) buffer
             (record { sleep = S.own self.old.lower; slept = self.old.slept.buffers })
             (record { sleep = S.own self.new.lower; slept = self.new.slept.buffers }) }
         ensures follows { S.IsStepwise → Follows (λ c. S.ActsFor m.old c) (table_of (queue_rules (lock_rules F.rules) (lock_moves F.rules)))
@@ -279,12 +275,12 @@ impl<F: Locked, S: OwnedSleeps<QLockEdit<F, F::Release>>> OwnedQLocks<F> for QLo
     }
 
     ghost shown = { λ m c b acts there. locks_shown F.rules (S.opening m) (S.seen m)
-        (parts_on (λ (p : Self). p.lower) (λ p. S.Fits p m) (λ (p : Self). Self.Fits p m) (λ p. S.cpu_of p) S.IsStepwise (S.acts m) (λ p fits. fits.0))
+        (parts_on (λ (p : Self). p.lower) (λ p. S.Fits p m) (λ (p : Self). Self.Fits p m) (λ p. S.cpu_of p) (S.MayHold m) (λ p fits. fits.0))
         b (λ p. S.state_with p b) (S.state_at m b)
         (S.shown m c b acts (there_viewed nested_lock_of (S.opening m) (Buffer b) there)) };
 
     ghost queues = { λ m c d acts there. locks_queues F.rules (S.opening m) (S.seen m)
-        (parts_on (λ (p : Self). p.lower) (λ p. S.Fits p m) (λ (p : Self). Self.Fits p m) (λ p. S.cpu_of p) S.IsStepwise (S.acts m) (λ p fits. fits.0))
+        (parts_on (λ (p : Self). p.lower) (λ p. S.Fits p m) (λ (p : Self). Self.Fits p m) (λ p. S.cpu_of p) (S.MayHold m) (λ p fits. fits.0))
         d (λ p. S.queue_with p d) (S.queue_at m d)
         (S.queues m c d acts (there_viewed nested_lock_of (S.opening m) (Pending d) there)) };
 }

@@ -1,6 +1,6 @@
 -- A CPU's part of a scheduler: which scheduler's call is under way by the call at the shared queues, and how the part agrees with the
 -- machine.
-use Rattle.std.specs.Prelude.{◌≡◌, List, Option, Some, None, IsSome, is_some}
+use Rattle.std.specs.Prelude.{◌≡◌, Bool, List, Option, Some, None, IsSome, is_some}
 use Rattle.std.proofs.Common.{refl, ap, ◌∙◌}
 use Rattle.event_log.specs.declared.ids.CpuId.{CpuId}
 use Rattle.event_log.specs.declared.ids.LockId.{LockId}
@@ -61,7 +61,12 @@ pub under_is_some : {E : Type 0} (under : Option (QueueEvent E)) (current : Opti
 under_is_some None current = refl
 under_is_some (Some e) current = refl
 
--- so where a poll is one action, exactly while this CPU waits at a lock or holds one
-pub busy_under : {E N : Type 0} (acts : List (Action N)) (under : Option (QueueEvent E)) (current : Option Tid) (c below : CpuId) → below ≡ c
-    → is_some under ≡ is_in_section (phase below acts) → is_some (sched_under under current) ≡ is_in_section (phase c acts)
-busy_under acts under current c below is busy = under_is_some under current ∙ (busy ∙ ap (λ d. is_in_section (phase d acts)) is)
+-- so none is where none is there
+pub none_under : {E : Type 0} (under : Option (QueueEvent E)) (current : Option Tid) → sched_under under current ≡ None → under ≡ None
+none_under None current none = refl
+none_under (Some e) current none = absurd (cc none)
+
+-- if a poll is one action, a part is inside exactly while this CPU waits at a lock or holds one
+pub busy_under : {N : Type 0} (acts : List (Action N)) (inside : Bool) (c below : CpuId) → below ≡ c
+    → inside ≡ is_in_section (phase below acts) → inside ≡ is_in_section (phase c acts)
+busy_under acts inside c below is busy = busy ∙ ap (λ d. is_in_section (phase d acts)) is

@@ -2,15 +2,13 @@
 //!
 //! No call takes memory, and none waits.
 
-ghost use Rattle.std.specs.Prelude.{◌≡◌};
-
 use crate::calls::call_beneath;
 use crate::owns::OwnThreads;
 use arrayvec::ArrayVec;
 use event_log::{BufId, CpuId, THREADS, Tid};
 use layer_traits::{
-    Moves, OwnedQueues, OwnedScheds, Payload, QueueLayer, SchedAnswer, SchedCall, SchedLayer,
-    kept_homes,
+    Layer, Moves, OwnedQueues, OwnedScheds, Payload, QueueLayer, SchedAnswer, SchedCall, SchedLaw,
+    SchedLayer, kept_homes,
 };
 
 /// One CPU's part of a scheduler over shared queues: it does its CPU's calls one by one, and keeps
@@ -24,18 +22,9 @@ pub struct Sched<Q> {
     own: OwnThreads,
 }
 
-impl<E: Moves, Q: QueueLayer<E>> SchedLayer<E> for Sched<Q> {
-    ghost use Rattle.std.specs.Prelude.{◌≢◌, ◌+◌, ◌<◌, ◌≤◌, IfSome, IsSome, None, OnSome, Some, if◌then◌else◌, is_some};
-    ghost use Rattle.std.proofs.Common.{subst};
-    ghost use Rattle.event_log.specs.declared.ids.CpuId.{CpuId};
-    ghost use Rattle.layer_traits.specs.Plans.{Follows, IsWhole, table_of};
-    ghost use Rattle.layer_traits.specs.QueueBlocks.{homes_in};
-    ghost use Rattle.layer_traits.specs.QueueRules.{queue_rules};
-    ghost use Rattle.layer_traits.specs.Queues.{kernel};
-    ghost use Rattle.layer_traits.specs.Scheds.{BufferIsThere, IsLocal, IsShared, MaySched, SchedPolled, left, sched_plan};
-    ghost use Rattle.layer_traits.specs.Payloads.{sched_brought, sched_carried};
-    ghost use Rattle.scheduler.specs.Parts.{PartFits, sched_under, busy_under};
-    ghost use Rattle.scheduler.specs.declared.sched.Sched.{Sched};
+impl<E: Moves, Q: QueueLayer<E>> Layer<SchedLaw<E>> for Sched<Q> {
+    ghost use Rattle.std.proofs.Common.{◌∙◌, subst, sym};
+    ghost use Rattle.scheduler.specs.Parts.{PartFits, busy_under, none_under, sched_under, under_is_some};
 
     type Machine = Q::Machine;
 
@@ -51,16 +40,22 @@ impl<E: Moves, Q: QueueLayer<E>> SchedLayer<E> for Sched<Q> {
 
     ghost IsOutside = { λ m c. Q.IsOutside m c };
 
+    ghost MayHold = { λ m c. Q.MayHold m c };
+
     ghost cpu_of = { λ p. p.cpu };
 
-    ghost threads = { λ p. p.own };
+    ghost own = { λ p. p.own };
 
     ghost under_way = { λ p. sched_under (Q.under_way p.lower) p.own.current };
+
+    ghost is_inside = { λ p. Q.is_inside p.lower };
 
     ghost Fits = { λ p m. Q.Fits p.lower m × PartFits E.rules E.moves (Q.opening m) p.cpu (Q.cpu_of p.lower) p.homes.items (Q.under_way p.lower)
         (Q.seen m) p.own };
 
     ghost IsStepwise = { Q.IsStepwise };
+
+    ghost IsWhole = { Q.IsWhole };
 
     ghost acts = { λ m. Q.acts m };
 
@@ -79,74 +74,17 @@ impl<E: Moves, Q: QueueLayer<E>> SchedLayer<E> for Sched<Q> {
     }
 
     #[inline(always)]
-    fn current(&self) -> Option<Tid> {
-        self.own.current()
-    }
-
-    #[inline(always)]
-    fn hand(&self) -> Option<Tid> {
-        self.own.hand()
-    }
-
-    #[inline(always)]
-    fn has_ready(&self) -> bool {
-        self.own.has_ready()
-    }
-
-    #[inline(always)]
-    fn is_ready(&self, t: Tid) -> bool {
-        self.own.is_ready(t)
-    }
-
-    #[inline(always)]
-    fn has_ended(&self, t: Tid) -> bool {
-        self.own.has_ended(t)
-    }
-
-    #[inline(always)]
     fn look(&mut self, m: &mut Q::Machine) -> bool {
         self.lower.look(m)
     }
 
-    // The trait's clauses in this layer's terms: the check hands none down to a method that takes a
-    // type over the trait's own parameter by value.
     #[inline(always)]
     fn poll(
         &mut self,
         m: &mut Q::Machine,
         call: SchedCall<E>,
         payload: &mut Payload,
-    ) -> Option<SchedAnswer<E::Out>>
-        requires fits { Q.Fits self.old.lower m.old × PartFits E.rules E.moves (Q.opening m.old) self.old.cpu (Q.cpu_of self.old.lower) self.old.homes.items
-            (Q.under_way self.old.lower) (Q.seen m.old) self.old.own }
-        requires buffer { BufferIsThere (Q.opening m.old) call }
-        requires room { 0 < Q.room m.old }
-        requires call { MaySched (kernel E.rules E.moves (Q.opening m.old)) self.old.cpu (Q.seen m.old) self.old.own
-            (sched_under (Q.under_way self.old.lower) self.old.own.current) call }
-        requires carried { sched_carried E.carried call payload.old }
-        ensures fits { Q.Fits self.new.lower m.new × PartFits E.rules E.moves (Q.opening m.new) self.new.cpu (Q.cpu_of self.new.lower) self.new.homes.items
-            (Q.under_way self.new.lower) (Q.seen m.new) self.new.own }
-        ensures cpu { self.new.cpu ≡ self.old.cpu }
-        ensures call { sched_under (Q.under_way self.new.lower) self.new.own.current ≡ (if is_some result then None else Some call) }
-        ensures prompt { IsWhole Q.IsStepwise → IsSome result }
-        ensures brought { IfSome result (λ answer. sched_brought E.brought answer payload.new) }
-        ensures seen { SchedPolled (kernel E.rules E.moves (Q.opening m.old)) (λ c. Q.ActsFor m.old c) self.old.cpu call result
-            (Q.seen m.old) (Q.seen m.new) self.old.own self.new.own }
-        ensures still { IsLocal call → m.new ≡ m.old }
-        ensures opening { Q.opening m.new ≡ Q.opening m.old }
-        ensures site { Q.site m.new ≡ Q.site m.old }
-        ensures room { Q.room m.old ≤ Q.room m.new + 1 }
-        ensures acts { (c : CpuId) → Q.ActsFor m.old c → Q.ActsFor m.new c }
-        ensures outside { OnSome result (IsShared call → Q.IsOutside m.new self.old.cpu) }
-        ensures others { (p : Sched Q) → p.cpu ≢ self.old.cpu
-            → Q.Fits p.lower m.old × PartFits E.rules E.moves (Q.opening m.old) p.cpu (Q.cpu_of p.lower) p.homes.items
-            (Q.under_way p.lower) (Q.seen m.old) p.own
-            → Q.Fits p.lower m.new × PartFits E.rules E.moves (Q.opening m.new) p.cpu (Q.cpu_of p.lower) p.homes.items
-            (Q.under_way p.lower) (Q.seen m.new) p.own }
-        ensures follows { Q.IsStepwise → Follows (λ c. Q.ActsFor m.old c) (table_of (queue_rules E.rules E.moves)) (Q.opening m.old) self.old.cpu
-            (sched_plan E.moves (homes_in (Q.opening m.old)) self.old.cpu call self.old.own)
-            (Q.acts m.old) (Q.acts m.new) (left self.new.own result) }
-    {
+    ) -> Option<SchedAnswer<E::Out>> {
         let homes = self.homes.as_slice();
         match call_beneath(homes, self.cpu, call) {
             Err(pass) => {
@@ -174,17 +112,45 @@ impl<E: Moves, Q: QueueLayer<E>> SchedLayer<E> for Sched<Q> {
 
     ghost proper = { λ step m c acts. Q.proper step m c acts };
 
-    ghost busy = { λ p m fits step. busy_under (Q.acts m) (Q.under_way p.lower) p.own.current p.cpu (Q.cpu_of p.lower) fits.1.cpu
-        (Q.busy p.lower m fits.0 step) };
+    ghost busy = { λ p m fits step. busy_under (Q.acts m) (Q.is_inside p.lower) p.cpu (Q.cpu_of p.lower) fits.1.cpu (Q.busy p.lower m fits.0 step) };
 
     ghost stands = { λ p m fits. fits.1.stands };
+
+    ghost inside = { λ p. Q.inside p.lower ∙ sym (under_is_some (Q.under_way p.lower) p.own.current) };
+
+    ghost idle = { λ p m fits none. Q.idle p.lower m fits.0 (none_under (Q.under_way p.lower) p.own.current none) };
+}
+
+impl<E: Moves, Q: QueueLayer<E>> SchedLayer<E> for Sched<Q> {
+    #[inline(always)]
+    fn current(&self) -> Option<Tid> {
+        self.own.current()
+    }
+
+    #[inline(always)]
+    fn hand(&self) -> Option<Tid> {
+        self.own.hand()
+    }
+
+    #[inline(always)]
+    fn has_ready(&self) -> bool {
+        self.own.has_ready()
+    }
+
+    #[inline(always)]
+    fn is_ready(&self, t: Tid) -> bool {
+        self.own.is_ready(t)
+    }
+
+    #[inline(always)]
+    fn has_ended(&self, t: Tid) -> bool {
+        self.own.has_ended(t)
+    }
 }
 
 impl<E: Moves, Q: OwnedQueues<E>> OwnedScheds<E> for Sched<Q> {
-    ghost use Rattle.event_log.specs.Actions.{phase};
     ghost use Rattle.layer_traits.proofs.OwnedLemmas.{shown_under};
-    ghost use Rattle.layer_traits.specs.Plans.{is_in_section};
-    ghost use Rattle.std.specs.Prelude.{true, Some};
+    ghost use Rattle.std.specs.Prelude.{Some};
     ghost use Rattle.event_log.specs.Sections.{block_after};
     ghost use Rattle.event_log.specs.declared.ids.LockId.TheVariants.{Buffer};
     ghost use Rattle.layer_traits.specs.Places.{pending_by};
@@ -221,13 +187,13 @@ impl<E: Moves, Q: OwnedQueues<E>> OwnedScheds<E> for Sched<Q> {
 
     ghost shown = { λ m c b acts there. shown_under (λ (p : Self). p.lower) (λ p. Q.Fits p m) (λ (p : Self). Self.Fits p m) (λ p. Q.cpu_of p)
         (λ (p : Self). p.cpu)
-        (λ d. Q.IsStepwise × (is_in_section (phase d (Q.acts m)) ≡ true)) (λ d. Q.IsStepwise × (is_in_section (phase d (Q.acts m)) ≡ true))
+        (Q.MayHold m) (Q.MayHold m)
         (λ p. Q.block_with p b) (Q.block_at m b) (block_after E.rules.edited (inner (Q.opening m)) (Buffer b) (buffer_sections (Q.seen m)))
         (λ p fits. fits.0) (λ p fits. fits.1.cpu) (λ d inside. inside) (Q.shown m c b acts there) };
 
     ghost queues = { λ m c d acts there. shown_under (λ (p : Self). p.lower) (λ p. Q.Fits p m) (λ (p : Self). Self.Fits p m) (λ p. Q.cpu_of p)
         (λ (p : Self). p.cpu)
-        (λ d. Q.IsStepwise × (is_in_section (phase d (Q.acts m)) ≡ true)) (λ d. Q.IsStepwise × (is_in_section (phase d (Q.acts m)) ≡ true))
+        (Q.MayHold m) (Q.MayHold m)
         (λ p. Q.queue_with p d) (Q.queue_at m d) (Some (pending_by (moves_in (kernel E.rules E.moves (Q.opening m)) (Q.seen m)) d))
         (λ p fits. fits.0) (λ p fits. fits.1.cpu) (λ d inside. inside) (Q.queues m c d acts there) };
 }

@@ -1,10 +1,16 @@
 -- A call is under way exactly where its section is.
 use Rattle.std.specs.Prelude.{◌≡◌, Option, Some, None, option_map, is_some, refl}
+use Rattle.std.proofs.Common.{sym}
 use Rattle.std.proofs.lemmas.Option.{none-some}
 
 pub same_busy : {A B : Type 0} (f : A → B) (under : Option A) → is_some (option_map f under) ≡ is_some under
 same_busy f None = refl
 same_busy f (Some s) = refl
+
+-- no call is under way exactly if no section is
+pub none_beneath : {A B : Type 0} (f : A → B) (under : Option A) → option_map f under ≡ None → under ≡ None
+none_beneath f None none = refl
+none_beneath f (Some s) none = absurd (none-some (f s) (sym none))
 
 -- an edit that wakes nobody wakes no thread that is awake
 pub wakes_nobody : {P : Type 0} {A : Type 0} (u : A) → None ≡ Some u → P

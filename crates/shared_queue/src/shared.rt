@@ -2,25 +2,27 @@
 //!
 //! No call takes memory, and none waits.
 
-ghost use Rattle.std.specs.Prelude.{◌≡◌, true, refl};
+ghost use Rattle.std.specs.Prelude.{◌≡◌, refl};
 ghost use Rattle.layer_traits.specs.Queues.{lock_of, edit_of};
 
 use event_log::{BufId, CpuId, LockId, Tid};
 use layer_traits::{
-    LockLayer, Moves, OwnedLocks, OwnedQueues, Payload, QueueAnswer, QueueBlock, QueueCall,
-    QueueEdit, QueueLayer,
+    Layer, LockCall, LockLayer, Moves, OwnedLocks, OwnedQueues, Payload, QueueAnswer, QueueBlock,
+    QueueCall, QueueEdit, QueueLaw,
 };
 
-/// The lock of a call, and its edit of the block that the lock guards.
+/// The section of a call: its lock, and its edit of the block that the lock guards.
 #[inline(always)]
-fn section_of<E>(call: QueueCall<E>) -> (LockId, QueueEdit<E>)
-    ensures { result ≡ (lock_of call, edit_of call) }
+fn section_of<E>(call: QueueCall<E>) -> LockCall<QueueEdit<E>>
+    ensures lock { result.lock ≡ lock_of call }
+    ensures edit { result.edit ≡ edit_of call }
 {
-    match call {
+    let (lock, edit) = match call {
         QueueCall::Push(queue, t) => (LockId::Pending(queue), QueueEdit::Push(t)),
         QueueCall::TakeAll(queue) => (LockId::Pending(queue), QueueEdit::TakeAll),
         QueueCall::OnBuffer(buffer, edit) => (LockId::Buffer(buffer), QueueEdit::Above(edit)),
-    }
+    };
+    LockCall { lock, edit }
 }
 
 /// One CPU's part of shared queues (Gu et al., OSDI 2016): a call is one section at the lock that
@@ -30,18 +32,14 @@ pub struct SharedQueues<L> {
     lower: L,
 }
 
-impl<E: Moves, L: LockLayer<QueueEdit<E>>> QueueLayer<E> for SharedQueues<L> {
-    ghost use Rattle.std.specs.Prelude.{◌≢◌, ◌+◌, ◌<◌, ◌≤◌, IfSome, IsSome, None, OnSome, Some, if◌then◌else◌, is_some, map, option_map};
-    ghost use Rattle.event_log.specs.declared.ids.CpuId.{CpuId};
-    ghost use Rattle.std.proofs.Common.{ap, ◌∙◌, subst};
+impl<E: Moves, L: LockLayer<QueueEdit<E>>> Layer<QueueLaw<E>> for SharedQueues<L> {
+    ghost use Rattle.std.specs.Prelude.{map, option_map};
+    ghost use Rattle.std.proofs.Common.{ap, ◌∙◌, subst, sym};
     ghost use Rattle.layer_traits.specs.QueueBlocks.{StartsWell};
-    ghost use Rattle.layer_traits.specs.QueueRules.{AreProper, IsProperCall, queue_rules};
-    ghost use Rattle.layer_traits.specs.Plans.{Follows, IsWhole, answered, table_of};
-    ghost use Rattle.layer_traits.specs.Queues.{MayQueue, QueueAllowed, QueuePolled, event, event_of, kernel, queue_plan};
-    ghost use Rattle.layer_traits.specs.Payloads.{call_carried, queue_brought};
+    ghost use Rattle.layer_traits.specs.QueueRules.{AreProper, IsProperCall};
+    ghost use Rattle.layer_traits.specs.Queues.{event_of};
     ghost use Rattle.layer_traits.proofs.NestedLemmas.{known_events, lawful_events, lawful_proper};
-    ghost use Rattle.shared_queue.specs.SharedLaws.{same_busy};
-    ghost use Rattle.shared_queue.specs.declared.shared.SharedQueues.{SharedQueues};
+    ghost use Rattle.shared_queue.specs.SharedLaws.{none_beneath, same_busy};
 
     type Machine = L::Machine;
 
@@ -57,13 +55,21 @@ impl<E: Moves, L: LockLayer<QueueEdit<E>>> QueueLayer<E> for SharedQueues<L> {
 
     ghost IsOutside = { λ m c. L.IsOutside m c };
 
+    ghost MayHold = { λ m c. L.MayHold m c };
+
     ghost cpu_of = { λ p. L.cpu_of p.lower };
 
+    ghost own = { λ p. tt };
+
     ghost under_way = { λ p. option_map event_of (L.under_way p.lower) };
+
+    ghost is_inside = { λ p. L.is_inside p.lower };
 
     ghost Fits = { λ p m. L.Fits p.lower m × StartsWell (L.opening m) × IsProperCall (L.under_way p.lower) };
 
     ghost IsStepwise = { L.IsStepwise };
+
+    ghost IsWhole = { L.IsWhole };
 
     ghost acts = { λ m. L.acts m };
 
@@ -83,42 +89,14 @@ impl<E: Moves, L: LockLayer<QueueEdit<E>>> QueueLayer<E> for SharedQueues<L> {
         self.lower.look(m)
     }
 
-    // The trait's clauses in this layer's terms: the check hands none down to a method that takes a
-    // type over the trait's own parameter by value.
     #[inline(always)]
     fn poll(
         &mut self,
         m: &mut L::Machine,
         call: QueueCall<E>,
         payload: &mut Payload,
-    ) -> Option<QueueAnswer<E::Out>>
-        requires fits { L.Fits self.old.lower m.old × StartsWell (L.opening m.old) × IsProperCall (L.under_way self.old.lower) }
-        requires lock { IsSome (L.opening m.old (lock_of call)) }
-        requires room { 0 < L.room m.old }
-        requires call { MayQueue (QueueAllowed (kernel E.rules E.moves (L.opening m.old))) (map event_of (L.seen m.old))
-            (option_map event_of (L.under_way self.old.lower)) (event (L.cpu_of self.old.lower) call) }
-        requires carried { call_carried E.carried call payload.old }
-        ensures fits { L.Fits self.new.lower m.new × StartsWell (L.opening m.new) × IsProperCall (L.under_way self.new.lower) }
-        ensures cpu { L.cpu_of self.new.lower ≡ L.cpu_of self.old.lower }
-        ensures call { option_map event_of (L.under_way self.new.lower)
-            ≡ (if is_some result then None else Some (event (L.cpu_of self.old.lower) call)) }
-        ensures prompt { IsWhole L.IsStepwise → IsSome result }
-        ensures brought { IfSome result (λ answer. queue_brought E.brought answer payload.new) }
-        ensures seen { QueuePolled (kernel E.rules E.moves (L.opening m.old)) (λ c. L.ActsFor m.old c × StartsWell (L.opening m.old))
-            (event (L.cpu_of self.old.lower) call) result (map event_of (L.seen m.old)) (map event_of (L.seen m.new)) }
-        ensures opening { L.opening m.new ≡ L.opening m.old }
-        ensures site { L.site m.new ≡ L.site m.old }
-        ensures room { L.room m.old ≤ L.room m.new + 1 }
-        ensures acts { (c : CpuId) → L.ActsFor m.old c × StartsWell (L.opening m.old) → L.ActsFor m.new c × StartsWell (L.opening m.new) }
-        ensures outside { OnSome result (L.IsOutside m.new (L.cpu_of self.old.lower)) }
-        ensures others { (p : SharedQueues L) → L.cpu_of p.lower ≢ L.cpu_of self.old.lower
-            → L.Fits p.lower m.old × StartsWell (L.opening m.old) × IsProperCall (L.under_way p.lower)
-            → L.Fits p.lower m.new × StartsWell (L.opening m.new) × IsProperCall (L.under_way p.lower) }
-        ensures follows { L.IsStepwise → Follows (λ c. L.ActsFor m.old c × StartsWell (L.opening m.old)) (table_of (queue_rules E.rules E.moves))
-            (L.opening m.old) (L.cpu_of self.old.lower) (queue_plan call) (L.acts m.old) (L.acts m.new) (answered result) }
-    {
-        let (lock, edit) = section_of(call);
-        self.lower.poll(m, lock, edit, payload)
+    ) -> Option<QueueAnswer<E::Out>> {
+        self.lower.poll(m, section_of(call), payload)
     }
 
     ghost own_cpu = { λ p m fits. (L.own_cpu p.lower m fits.0, fits.1) };
@@ -129,22 +107,26 @@ impl<E: Moves, L: LockLayer<QueueEdit<E>>> QueueLayer<E> for SharedQueues<L> {
 
     ghost known = { λ m c acts. known_events (L.seen m) (L.known m c acts.0) };
 
+    ghost stands = { λ p m fits. tt };
+
+    ghost inside = { λ p. L.inside p.lower ∙ sym (same_busy event_of (L.under_way p.lower)) };
+
+    ghost idle = { λ p m fits none. L.idle p.lower m fits.0 (none_beneath event_of (L.under_way p.lower) none) };
+
     ghost legal = { λ m c acts. L.legal m c acts.0 };
 
     ghost seen_is = { λ step m. ap (map event_of) (L.seen_is step m) };
 
     ghost proper = { λ step m c acts. subst AreProper (L.seen_is step m) (lawful_proper E.rules E.moves (L.opening m) (L.seen m) (L.lawful m c acts.0)) };
 
-    ghost busy = { λ p m fits step. same_busy event_of (L.under_way p.lower) ∙ L.busy p.lower m fits.0 step };
+    ghost busy = { λ p m fits step. L.busy p.lower m fits.0 step };
 }
 
 impl<E: Moves, L: OwnedLocks<QueueEdit<E>>> OwnedQueues<E> for SharedQueues<L> {
     ghost use Rattle.std.specs.Option.{option_and_then};
     ghost use Rattle.event_log.specs.declared.ids.LockId.TheVariants.{Buffer, Pending};
-    ghost use Rattle.event_log.specs.Actions.{phase};
     ghost use Rattle.event_log.specs.Sections.{block_after};
     ghost use Rattle.layer_traits.proofs.OwnedLemmas.{shown_under};
-    ghost use Rattle.layer_traits.specs.Plans.{is_in_section};
     ghost use Rattle.layer_traits.specs.QueueBlocks.{StartsWell};
     ghost use Rattle.layer_traits.specs.QueueRules.{IsProperCall, queue_edited};
     ghost use Rattle.shared_queue.specs.OwnedLaws.{above_in, queue_in, buffer_shown, queue_shown, observers};
@@ -188,21 +170,21 @@ impl<E: Moves, L: OwnedLocks<QueueEdit<E>>> OwnedQueues<E> for SharedQueues<L> {
     ghost shown = { λ m c b acts there. buffer_shown E.rules E.moves (L.opening m)
         (observers E.rules E.moves (L.opening m) (L.seen m) acts.1 (L.lawful m c acts.0)
         (λ (p : Self). L.Fits p.lower m × StartsWell (L.opening m) × IsProperCall (L.under_way p.lower)) (λ p. L.cpu_of p.lower)
-        (λ d. L.IsStepwise × (is_in_section (phase d (L.acts m)) ≡ true))) b (λ p. L.block_with p.lower (Buffer b)) (L.block_at m (Buffer b))
+        (L.MayHold m)) b (λ p. L.block_with p.lower (Buffer b)) (L.block_at m (Buffer b))
         (shown_under (λ (p : Self). p.lower) (λ p. L.Fits p m) (λ p. L.Fits p.lower m × StartsWell (L.opening m) × IsProperCall (L.under_way p.lower))
-        (λ p. L.cpu_of p) (λ p. L.cpu_of p.lower) (λ d. L.IsStepwise × (is_in_section (phase d (L.acts m)) ≡ true))
-        (λ d. L.IsStepwise × (is_in_section (phase d (L.acts m)) ≡ true))
+        (λ p. L.cpu_of p) (λ p. L.cpu_of p.lower) (L.MayHold m)
+        (L.MayHold m)
         (λ p. L.block_with p (Buffer b)) (L.block_at m (Buffer b)) (block_after (queue_edited E.rules.edited) (L.opening m) (Buffer b) (L.seen m))
         (λ p fits. fits.0) (λ p fits. refl) (λ d inside. inside) (L.shown m c (Buffer b) acts.0 there)) };
 
     ghost queues = { λ m c d acts there. queue_shown E.rules E.moves (L.opening m)
         (observers E.rules E.moves (L.opening m) (L.seen m) acts.1 (L.lawful m c acts.0)
         (λ (p : Self). L.Fits p.lower m × StartsWell (L.opening m) × IsProperCall (L.under_way p.lower)) (λ p. L.cpu_of p.lower)
-        (λ d. L.IsStepwise × (is_in_section (phase d (L.acts m)) ≡ true))) E.wakes_sleepers d there (λ p. L.block_with p.lower (Pending d))
+        (L.MayHold m)) E.wakes_sleepers d there (λ p. L.block_with p.lower (Pending d))
         (L.block_at m (Pending d))
         (shown_under (λ (p : Self). p.lower) (λ p. L.Fits p m) (λ p. L.Fits p.lower m × StartsWell (L.opening m) × IsProperCall (L.under_way p.lower))
-        (λ p. L.cpu_of p) (λ p. L.cpu_of p.lower) (λ d. L.IsStepwise × (is_in_section (phase d (L.acts m)) ≡ true))
-        (λ d. L.IsStepwise × (is_in_section (phase d (L.acts m)) ≡ true))
+        (λ p. L.cpu_of p) (λ p. L.cpu_of p.lower) (L.MayHold m)
+        (L.MayHold m)
         (λ p. L.block_with p (Pending d)) (L.block_at m (Pending d)) (block_after (queue_edited E.rules.edited) (L.opening m) (Pending d) (L.seen m))
         (λ p fits. fits.0) (λ p fits. refl) (λ d inside. inside) (L.shown m c (Pending d) acts.0 there)) };
 }

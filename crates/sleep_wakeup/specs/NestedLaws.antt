@@ -1,5 +1,5 @@
 -- The laws of the layer, by those of the scheduler beneath.
-use Rattle.std.proofs.Common.{◌≡◌, Bool, true, false, List, [], ◌∷◌, ◌++◌, Option, Some, None, option_map, is_some, map, refl, ap, sym, ◌∙◌, subst, arith}
+use Rattle.std.proofs.Common.{◌≡◌, Bool, true, List, [], ◌∷◌, ◌++◌, Option, Some, None, option_map, map, refl, ap, sym, ◌∙◌, subst, arith}
 use Rattle.std.proofs.Math.Path.{transport}
 use Rattle.std.proofs.lemmas.Option.{slice_get_within}
 use Rattle.event_log.specs.declared.ids.BufId.{BufId}
@@ -204,7 +204,7 @@ nothing_seen (e ∷ past) none = absurd cc
 
 -- while no call is under way here none is beneath
 pub nested_idle : {E O : Type 0} (deferred : Option (DeferredOutcome E O)) (under : Option (SchedCall (SleepEdit E))) → under_of deferred under ≡ None
-    → is_some under ≡ false
+    → under ≡ None
 nested_idle None None none = refl
 nested_idle None (Some s) none = absurd cc
 nested_idle (Some k) under none = absurd cc

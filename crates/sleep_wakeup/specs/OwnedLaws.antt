@@ -1,31 +1,29 @@
 -- What the scheduler beneath tells of its blocks, the layer tells of their waiting lists.
-use Rattle.std.proofs.Common.{◌≡◌, List, Option, Some, map, option_map, ap, sym, ◌∙◌}
+use Rattle.std.proofs.Common.{◌≡◌, List, Option, Some, option_map, ap, sym, ◌∙◌}
 use Rattle.event_log.specs.declared.ids.BufId.{BufId}
 use Rattle.event_log.specs.declared.ids.CpuId.{CpuId}
 use Rattle.event_log.specs.declared.ids.LockId.{LockId}
 use Rattle.event_log.specs.declared.ids.LockId.TheVariants.{Buffer}
 use Rattle.event_log.specs.declared.ids.Tid.{Tid}
-use Rattle.event_log.specs.Actions.{renamed}
 use Rattle.event_log.specs.Sections.{block_after}
 use Rattle.layer_traits.specs.declared.queue_edits.QueueBlock.{QueueBlock}
-use Rattle.layer_traits.specs.declared.queue_edits.QueueEdit.{QueueEdit}
 use Rattle.layer_traits.specs.declared.queues.QueueEvent.{QueueEvent}
 use Rattle.layer_traits.specs.Owned.{IsObserved}
 use Rattle.layer_traits.specs.Places.{pending_by}
 use Rattle.layer_traits.specs.QueueBlocks.{inner}
 use Rattle.layer_traits.specs.Queues.{buffer_sections, moves_in}
-use Rattle.layer_traits.specs.Renaming.{renamed_edit, renamed_events, viewed}
+use Rattle.layer_traits.specs.Renaming.{renamed_events, viewed}
 use Rattle.layer_traits.specs.Sleeping.{SleepRules, sleep_edited}
 use Rattle.layer_traits.proofs.KernelRenaming.{block_renamed, sections_renamed}
-use Rattle.layer_traits.proofs.OwnedLemmas.{InSection, PartsOn, same_shown, shown_on, viewed_shown}
+use Rattle.layer_traits.proofs.OwnedLemmas.{PartsOn, same_shown, shown_on, viewed_shown}
 use Rattle.sleep_wakeup.specs.declared.edits.SleepBlock.{SleepBlock}
 use Rattle.sleep_wakeup.specs.declared.edits.SleepEdit.{SleepEdit}
 use Rattle.sleep_wakeup.specs.Nested.{edit_in, nested_edited, state_of}
 use Rattle.sleep_wakeup.specs.NestedLaws.{beneath, here, nested_wraps, same_moves}
 
 module _ {P Q E B O : Type 0} (rules : SleepRules E B O) (opening : LockId → Option (QueueBlock (SleepBlock B))) (past : List (QueueEvent (SleepEdit E)))
-    (parts : PartsOn P Q (QueueEdit (SleepEdit E))) where
-  open parts use {below, FitsP, FitsQ, cpu_below, IsStepwise, acts}
+    (parts : PartsOn P Q) where
+  open parts use {below, FitsP, FitsQ, cpu_below, MayHold}
 
   -- the block of a buffer with its waiting lists is the view of the block beneath
   state_is : (b : BufId) → block_after (sleep_edited rules) (inner (viewed state_of opening)) (Buffer b) (buffer_sections (renamed_events edit_in past))
@@ -36,24 +34,24 @@ module _ {P Q E B O : Type 0} (rules : SleepRules E B O) (opening : LockId → O
 
   -- so what is told of that block is told of its waiting lists
   pub nested_shown : (b : BufId) (tells : P → Option (SleepBlock B)) (home : Option (SleepBlock B))
-      → IsObserved FitsP cpu_below (InSection IsStepwise acts) tells home (block_after (nested_edited rules) (inner opening) (Buffer b) (buffer_sections past))
-      → IsObserved FitsQ (λ q. cpu_below (below q)) (InSection IsStepwise (map (renamed (renamed_edit edit_in)) acts))
+      → IsObserved FitsP cpu_below MayHold tells home (block_after (nested_edited rules) (inner opening) (Buffer b) (buffer_sections past))
+      → IsObserved FitsQ (λ q. cpu_below (below q)) MayHold
       (λ q. option_map state_of (tells (below q))) (option_map state_of home)
       (block_after (sleep_edited rules) (inner (viewed state_of opening)) (Buffer b) (buffer_sections (renamed_events edit_in past)))
   nested_shown b tells home shown =
       let truth = block_after (nested_edited rules) (inner opening) (Buffer b) (buffer_sections past) in
-      viewed_shown state_of FitsQ (λ q. cpu_below (below q)) (InSection IsStepwise (map (renamed (renamed_edit edit_in)) acts))
+      viewed_shown state_of FitsQ (λ q. cpu_below (below q)) MayHold
       (λ q. tells (below q)) home truth
       (block_after (sleep_edited rules) (inner (viewed state_of opening)) (Buffer b) (buffer_sections (renamed_events edit_in past))) (state_is b)
-      (shown_on parts (renamed_edit edit_in) tells home truth shown)
+      (shown_on parts tells home truth shown)
 
   -- and what is told of a pending queue is told of it here
   pub nested_queues : (d : CpuId) (tells : P → Option (List Tid)) (home : Option (List Tid))
-      → IsObserved FitsP cpu_below (InSection IsStepwise acts) tells home (Some (pending_by (moves_in (beneath rules opening) past) d))
-      → IsObserved FitsQ (λ q. cpu_below (below q)) (InSection IsStepwise (map (renamed (renamed_edit edit_in)) acts)) (λ q. tells (below q)) home
+      → IsObserved FitsP cpu_below MayHold tells home (Some (pending_by (moves_in (beneath rules opening) past) d))
+      → IsObserved FitsQ (λ q. cpu_below (below q)) MayHold (λ q. tells (below q)) home
       (Some (pending_by (moves_in (here rules opening) (renamed_events edit_in past)) d))
   nested_queues d tells home shown =
-      same_shown FitsQ (λ q. cpu_below (below q)) (InSection IsStepwise (map (renamed (renamed_edit edit_in)) acts)) (λ q. tells (below q)) home
+      same_shown FitsQ (λ q. cpu_below (below q)) MayHold (λ q. tells (below q)) home
       (Some (pending_by (moves_in (beneath rules opening) past) d)) (Some (pending_by (moves_in (here rules opening) (renamed_events edit_in past)) d))
       (ap (λ moves. Some (pending_by moves d)) (sym (same_moves rules opening past)))
-      (shown_on parts (renamed_edit edit_in) tells home (Some (pending_by (moves_in (beneath rules opening) past) d)) shown)
+      (shown_on parts tells home (Some (pending_by (moves_in (beneath rules opening) past) d)) shown)

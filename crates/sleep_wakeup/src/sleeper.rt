@@ -4,8 +4,8 @@ use crate::deferred::{DeferredOutcome, complete, done, section};
 use crate::edits::{SleepEdit, wait_list_in_block};
 use event_log::{BufId, CpuId, Tid};
 use layer_traits::{
-    Ghost, Outcome, OwnedScheds, OwnedSleeps, Pass, Payload, SchedCall, SchedLayer, SleepLayer,
-    Sleeps, WaitList,
+    Ghost, Layer, Outcome, OwnedScheds, OwnedSleeps, Pass, Payload, SchedCall, SchedLayer,
+    SleepLayer, Sleeps, WaitList,
 };
 
 /// One CPU's part of sleep and wakeup over a part of a scheduler (Gu et al., PLDI 2018): the
@@ -18,7 +18,7 @@ pub struct Sleeper<E: Sleeps, S> {
 }
 
 impl<E: Sleeps, S: SchedLayer<SleepEdit<E>>> SleepLayer<E> for Sleeper<E, S> {
-    ghost use Rattle.std.proofs.Common.{map, is_some, ap, ◌∙◌};
+    ghost use Rattle.std.proofs.Common.{map, ap, ◌∙◌};
     ghost use Rattle.event_log.specs.Actions.{renamed};
     ghost use Rattle.event_log.proofs.Renaming.{legal_renamed};
     ghost use Rattle.layer_traits.specs.QueueBlocks.{inner};
@@ -43,18 +43,22 @@ impl<E: Sleeps, S: SchedLayer<SleepEdit<E>>> SleepLayer<E> for Sleeper<E, S> {
 
     ghost IsOutside = { λ m c. S.IsOutside m c };
 
+    ghost MayHold = { λ m c. S.MayHold m c };
+
     ghost cpu_of = { λ p. S.cpu_of p.lower };
 
-    ghost own = { λ p. own_of p.deferred (S.threads p.lower) };
+    ghost own = { λ p. own_of p.deferred (S.own p.lower) };
 
     ghost under_way = { λ p. under_of p.deferred (S.under_way p.lower) };
 
-    ghost is_inside = { λ p. is_some (S.under_way p.lower) };
+    ghost is_inside = { λ p. S.is_inside p.lower };
 
     ghost Fits = { λ p m. S.Fits p.lower m × NobodySleeps (states (inner (S.opening m)))
-        × DeferredFits p.deferred (S.under_way p.lower) (S.threads p.lower).hand × DeferredBrings E.brought p.deferred };
+        × DeferredFits p.deferred (S.under_way p.lower) (S.own p.lower).hand × DeferredBrings E.brought p.deferred };
 
     ghost IsStepwise = { S.IsStepwise };
+
+    ghost IsWhole = { S.IsWhole };
 
     ghost acts = { λ m. map (renamed (renamed_edit edit_in)) (S.acts m) };
 
@@ -144,7 +148,7 @@ impl<E: Sleeps, S: SchedLayer<SleepEdit<E>>> SleepLayer<E> for Sleeper<E, S> {
 
     ghost own_cpu = { λ p m fits. S.own_cpu p.lower m fits.0 };
 
-    ghost stands = { λ p m fits. nested_stands E.rules (S.opening m) (S.cpu_of p.lower) (S.seen m) (S.threads p.lower) (S.stands p.lower m fits.0) };
+    ghost stands = { λ p m fits. nested_stands E.rules (S.opening m) (S.cpu_of p.lower) (S.seen m) (S.own p.lower) (S.stands p.lower m fits.0) };
 
     ghost lists = { λ p m fits. nested_lists E.rules (S.opening m) (S.seen m) (S.lawful m (S.cpu_of p.lower) (S.own_cpu p.lower m fits.0)) fits.1 };
 
@@ -162,9 +166,9 @@ impl<E: Sleeps, S: SchedLayer<SleepEdit<E>>> SleepLayer<E> for Sleeper<E, S> {
 
     ghost proper = { λ step m c acts. proper_renamed edit_in (S.acts m) (S.proper step m c acts) };
 
-    ghost busy = { λ p m fits step. nested_busy (S.cpu_of p.lower) (S.acts m) (is_some (S.under_way p.lower)) (S.busy p.lower m fits.0 step) };
+    ghost busy = { λ p m fits step. nested_busy (S.cpu_of p.lower) (S.acts m) (S.is_inside p.lower) (S.busy p.lower m fits.0 step) };
 
-    ghost idle = { λ p m fits none. nested_idle p.deferred (S.under_way p.lower) none };
+    ghost idle = { λ p m fits none. S.idle p.lower m fits.0 (nested_idle p.deferred (S.under_way p.lower) none) };
 }
 
 impl<E: Sleeps, S: OwnedScheds<SleepEdit<E>>> OwnedSleeps<E> for Sleeper<E, S> {
@@ -222,12 +226,12 @@ impl<E: Sleeps, S: OwnedScheds<SleepEdit<E>>> OwnedSleeps<E> for Sleeper<E, S> {
     }
 
     ghost shown = { λ m c b acts there. nested_shown E.rules (S.opening m) (S.seen m)
-        (parts_on (λ (p : Self). p.lower) (λ p. S.Fits p m) (λ (p : Self). Self.Fits p m) (λ p. S.cpu_of p) S.IsStepwise (S.acts m) (λ p fits. fits.0))
+        (parts_on (λ (p : Self). p.lower) (λ p. S.Fits p m) (λ (p : Self). Self.Fits p m) (λ p. S.cpu_of p) (S.MayHold m) (λ p fits. fits.0))
         b (λ p. S.block_with p b) (S.block_at m b)
         (S.shown m c b acts (there_viewed state_of (S.opening m) (Buffer b) there)) };
 
     ghost queues = { λ m c d acts there. nested_queues E.rules (S.opening m) (S.seen m)
-        (parts_on (λ (p : Self). p.lower) (λ p. S.Fits p m) (λ (p : Self). Self.Fits p m) (λ p. S.cpu_of p) S.IsStepwise (S.acts m) (λ p fits. fits.0))
+        (parts_on (λ (p : Self). p.lower) (λ p. S.Fits p m) (λ (p : Self). Self.Fits p m) (λ p. S.cpu_of p) (S.MayHold m) (λ p fits. fits.0))
         d (λ p. S.queue_with p d) (S.queue_at m d)
         (S.queues m c d acts (there_viewed state_of (S.opening m) (Pending d) there)) };
 }

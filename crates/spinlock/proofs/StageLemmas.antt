@@ -11,7 +11,7 @@ use Rattle.event_log.proofs.Foreign.{phase_others, spot_others, sections_in-appe
 use Rattle.event_log.proofs.Same.{same_cpu_self, same_cpu_true, same_lock_true}
 use Rattle.layer_traits.proofs.Seen.{stays_on}
 use Rattle.layer_traits.specs.Looks.{Tries}
-use Rattle.layer_traits.specs.Plans.{Follows, table_of, at_give, section_plan, answered}
+use Rattle.layer_traits.specs.Plans.{Follows, table_of, at_give, section_plan, answered, is_in_section}
 use Rattle.layer_traits.specs.Protocol.{Rules, StaysAllowed, section}
 use Rattle.layer_traits.specs.Polls.{Polled}
 use Rattle.spinlock.specs.declared.stages.TicketPhase.{TicketPhase}
@@ -118,6 +118,13 @@ module _ {E B O : Type 0} (rules : Rules E B O) (step : Stepped E B) where
       subst (λ o. StageFits rules o new q stage) (sym same)
       (subst (λ l. StageFits rules opening l q stage) (sym adds.is) (stage_stays rules opening q stage (a ∷ adds.others) old others (grown a adds) fits))
 
+  -- no other CPU comes to wait or to hold
+  pub others_rest : (a : Action E) → cpu_of_action a ≡ cpu → Adds ActsFor cpu_of_action a old new → (q : CpuId) → q ≢ cpu → ActsFor q
+      → is_in_section (phase q new) ≡ true → is_in_section (phase q old) ≡ true
+  others_rest a acts adds q other acts_q inside =
+      let others : AreOthers cpu_of_action q (a ∷ adds.others) = (subst (λ c. same_cpu c q ≡ false) (sym acts) (cpu_differs cpu q other), adds.foreign q acts_q) in
+      ap is_in_section (sym (ap (phase q) adds.is ∙ phase_others q (a ∷ adds.others) old others)) ∙ inside
+
   -- a CPU that joined the line waits with the ticket of its spot
   pub joined_fits : (lock : LockId) (edit : E) (ticket : ℕ) → Adds ActsFor cpu_of_action (Take cpu lock) old new → ticket ≡ spot_of cpu new % 2 ^ 64
       → ActsFor cpu
@@ -155,6 +162,10 @@ module _ {E B O : Type 0} (rules : Rules E B O) (step : Stepped E B) where
           → StaysAllowed (rules.allowed opening') (sections_in new) (section cpu lock edit) → IsSome (opening' lock) → StageFits rules opening' new cpu stage
       by_find None waits at has' still there' = subst (λ s. StageFits rules opening' new cpu s) (sym at) ((waits, has'), still, there')
       by_find (Some block) hit at has' still there' = subst (λ s. StageFits rules opening' new cpu s) (sym at) (hit.0, still, hit.1)
+
+  -- a CPU that gave its lock on rests
+  pub left_fits : (lock : LockId) (edit : E) → Adds ActsFor cpu_of_action (Give cpu lock edit) old new → StageFits rules opening' new cpu Out
+  left_fits lock edit adds = ap (phase cpu) adds.is ∙ phase_own (Give cpu lock edit) (adds.others ++ old)
 
   -- an action that ends no section brings foreign ones alone
   unended : (a : Action E) → ((past : List (Action E)) → sections_in (a ∷ past) ≡ sections_in past)

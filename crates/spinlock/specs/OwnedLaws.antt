@@ -55,7 +55,7 @@ module _ {E B O : Type 0} (rules : Rules E B O) (opening : LockId → Option B) 
       → AreLegal acts
       → MatchOption home (SomeoneHolds lock acts) (λ block. block_after rules.edited opening lock (sections_in acts) ≡ Some block)
       → IsObserved (λ (p : P). ActsFor (cpu_of p) × StageFits rules opening acts (cpu_of p) (stage_of p)) cpu_of
-      (λ d. Unit {0} × (is_in_section (phase d acts) ≡ true)) (λ p. held_block lock (stage_of p)) home
+      (λ d. is_in_section (phase d acts) ≡ true) (λ p. held_block lock (stage_of p)) home
       (block_after rules.edited opening lock (sections_in acts))
   spin_lock_shows {P} ActsFor cpu_of stage_of home legal tells = record {
     by_machine = by_machine home tells;
@@ -68,17 +68,17 @@ module _ {E B O : Type 0} (rules : Rules E B O) (opening : LockId → Option B) 
       by_machine (Some block) is x same = is ∙ same
 
       held : SomeoneHolds lock acts → IsHeld (λ (p : P). ActsFor (cpu_of p) × StageFits rules opening acts (cpu_of p) (stage_of p)) cpu_of
-          (λ d. Unit {0} × (is_in_section (phase d acts) ≡ true)) (λ p. held_block lock (stage_of p))
+          (λ d. is_in_section (phase d acts) ≡ true) (λ p. held_block lock (stage_of p))
       held holds = record {
         cpu = holds.0;
         known = knows acts legal holds.0 lock (ap (is_at lock) holds.1 ∙ same_lock_self lock);
-        inside = (tt, ap is_in_section holds.1);
+        inside = ap is_in_section holds.1;
         has = λ p same fits none. holder_has holds.0 holds.1 (stage_of p)
             (subst (λ c. StageFits rules opening acts c (stage_of p)) same fits.1) none;
       }
 
       somewhere : (h : Option B) → MatchOption h (SomeoneHolds lock acts) (λ block. truth ≡ Some block) → h ≡ None
           → IsHeld (λ (p : P). ActsFor (cpu_of p) × StageFits rules opening acts (cpu_of p) (stage_of p)) cpu_of
-          (λ d. Unit {0} × (is_in_section (phase d acts) ≡ true)) (λ p. held_block lock (stage_of p))
+          (λ d. is_in_section (phase d acts) ≡ true) (λ p. held_block lock (stage_of p))
       somewhere None holds none = held holds
       somewhere (Some block) is none = absurd cc

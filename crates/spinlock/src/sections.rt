@@ -9,7 +9,7 @@ ghost use Rattle.layer_traits.specs.Polls.{MayPoll, Answers};
 ghost use Rattle.layer_traits.specs.declared.payloads.Payload.{Payload};
 
 use event_log::{CPUS, LockId};
-use layer_traits::{Edit, LockLayer, Payload};
+use layer_traits::{Edit, LockCall, LockLayer, Payload};
 
 /// One poll on a machine whose holder acts for every CPU: exactly the action that is due.
 fn alone<E: Edit, L: LockLayer<E>>(
@@ -37,7 +37,7 @@ fn alone<E: Edit, L: LockLayer<E>>(
     ensures outside { OnSome result (L.IsOutside m.new (L.cpu_of part.old)) }
     ensures others { (p : L) → L.cpu_of p ≢ L.cpu_of part.old → L.Fits p m.old → L.Fits p m.new }
 {
-    part.poll(m, lock, edit, payload)
+    part.poll(m, LockCall { lock, edit }, payload)
 }
 
 /// Does the whole section of `edit` at `lock`, where no CPU has a ticket and the holder of the

@@ -6,7 +6,7 @@ use crate::fair_lock::{FairLock, UsesGrants, UsesTickets};
 use crate::owned_fair_lock::OwnedFairLock;
 use crate::stages::TicketPhase;
 use event_log::{CpuId, LockId, NoMemory};
-use layer_traits::{Edit, LockLayer, OwnedLocks, Payload};
+use layer_traits::{Edit, Layer, LockCall, LockLaw, OwnedLocks, Payload};
 use std::alloc::Global;
 use std::marker::PhantomData;
 use std::mem;
@@ -31,10 +31,14 @@ pub type Ticket<W> = SpinLock<W, UsesTickets>;
 /// that ticket's word until it is granted, and gives on to the next ticket's with its edit done.
 pub type Grant<W> = SpinLock<W, UsesGrants>;
 
-impl<M: FairLock<LockProtocol>, LockProtocol> LockLayer<M::Edit> for SpinLock<M, LockProtocol> {
+impl<M: FairLock<LockProtocol>, LockProtocol> Layer<LockLaw<M::Edit>>
+    for SpinLock<M, LockProtocol> {
+    ghost use Rattle.event_log.specs.Actions.{phase};
     ghost use Rattle.event_log.specs.Sections.{sections_in};
+    ghost use Rattle.layer_traits.specs.Plans.{is_in_section};
     ghost use Rattle.spinlock.specs.Stages.{stage_section, StageFits};
-    ghost use Rattle.std.specs.Prelude.{refl};
+    ghost use Rattle.std.specs.Prelude.{is_some, refl, true};
+    ghost use Rattle.std.proofs.Common.{ap};
     ghost use Rattle.spinlock.specs.StageLaws.{sections_known, stage_busy};
 
     type Machine = M;
@@ -51,13 +55,21 @@ impl<M: FairLock<LockProtocol>, LockProtocol> LockLayer<M::Edit> for SpinLock<M,
 
     ghost IsOutside = { λ m c. M.IsOutside m c };
 
+    ghost MayHold = { λ m c. is_in_section (phase c (M.acts m)) ≡ true };
+
     ghost cpu_of = { λ p. p.cpu };
 
+    ghost own = { λ p. tt };
+
     ghost under_way = { λ p. stage_section p.cpu p.stage };
+
+    ghost is_inside = { λ p. is_some (stage_section p.cpu p.stage) };
 
     ghost Fits = { λ p m. M.ActsFor m p.cpu × StageFits M.Edit.rules (M.opening m) (M.acts m) p.cpu p.stage };
 
     ghost IsStepwise = { Unit {0} };
+
+    ghost IsWhole = { ⊥ };
 
     ghost acts = { λ m. M.acts m };
 
@@ -92,12 +104,12 @@ impl<M: FairLock<LockProtocol>, LockProtocol> LockLayer<M::Edit> for SpinLock<M,
     fn poll(
         &mut self,
         m: &mut M,
-        lock: LockId,
-        edit: M::Edit,
+        call: LockCall<M::Edit>,
         payload: &mut Payload,
     ) -> Option<<M::Edit as Edit>::Out> {
         match self.stage {
             TicketPhase::Out => {
+                let LockCall { lock, edit } = call;
                 let ticket = m.join(self.cpu, lock);
                 self.stage = TicketPhase::Waiting { lock, edit, ticket };
                 None
@@ -129,9 +141,19 @@ impl<M: FairLock<LockProtocol>, LockProtocol> LockLayer<M::Edit> for SpinLock<M,
 
     ghost known = { λ m c acts. sections_known (M.acts m) (M.legal m c acts) };
 
+    ghost opens = { λ m c acts. tt };
+
+    ghost stands = { λ p m fits. tt };
+
+    ghost inside = { λ p. refl };
+
+    ghost idle = { λ p m fits none. ap is_some none };
+
     ghost legal = { λ m c acts. M.legal m c acts };
 
     ghost seen_is = { λ step m. refl };
+
+    ghost proper = { λ step m c acts. tt };
 
     ghost busy = { λ p m fits step. stage_busy M.Edit.rules (M.opening m) (M.acts m) p.cpu p.stage fits.1 };
 }
@@ -154,12 +176,13 @@ impl<M: OwnedFairLock<LockProtocol>, LockProtocol> OwnedLocks<M::Edit>
         room: usize,
     ) -> Result<M, NoMemory>
         requires distinct { AreDistinct blocks.items }
-        ensures seen { IfOk result (λ m. ⟦<SpinLock<M, LockProtocol> as LockLayer<M::Edit>>⟧.seen m ≡ []) }
-        ensures opening { IfOk result (λ m. ⟦<SpinLock<M, LockProtocol> as LockLayer<M::Edit>>⟧.opening m ≡ opened blocks.items) }
-        ensures room { IfOk result (λ m. ⟦<SpinLock<M, LockProtocol> as LockLayer<M::Edit>>⟧.room m ≡ room) }
-        ensures acts { IfOk result (λ m. (c : _) → c.0 < CPUS → ⟦<SpinLock<M, LockProtocol> as LockLayer<M::Edit>>⟧.ActsFor m c) }
-        ensures outside { IfOk result (λ m. (c : _) → ⟦<SpinLock<M, LockProtocol> as LockLayer<M::Edit>>⟧.IsOutside m c) }
-        ensures none { IfOk result (λ m. ⟦<SpinLock<M, LockProtocol> as LockLayer<M::Edit>>⟧.acts m ≡ []) }
+        ensures seen { IfOk result (λ m. ⟦<SpinLock<M, LockProtocol> as Layer<LockLaw<M::Edit>>>⟧.seen m ≡ []) }
+        ensures opening { IfOk result (λ m. ⟦<SpinLock<M, LockProtocol> as Layer<LockLaw<M::Edit>>>⟧.opening m ≡ opened blocks.items) }
+        ensures room { IfOk result (λ m. ⟦<SpinLock<M, LockProtocol> as Layer<LockLaw<M::Edit>>>⟧.room m ≡ room) }
+        ensures acts { IfOk result (λ m. (c : _) → c.0 < CPUS → ⟦<SpinLock<M, LockProtocol> as Layer<LockLaw<M::Edit>>>⟧.ActsFor m c) }
+        ensures outside { IfOk result (λ m. (c : _) → ⟦<SpinLock<M, LockProtocol> as Layer<LockLaw<M::Edit>>>⟧.IsOutside m c) }
+        ensures none { IfOk result (λ m. ⟦<SpinLock<M, LockProtocol> as Layer<LockLaw<M::Edit>>>⟧.acts m ≡ []) }
+        ensures holders { IfOk result (λ m. (c : _) → ⟦<SpinLock<M, LockProtocol> as Layer<LockLaw<M::Edit>>>⟧.MayHold m c → ⊥) }
     {
         M::open(alloc, blocks, room)
     }
@@ -174,4 +197,6 @@ impl<M: OwnedFairLock<LockProtocol>, LockProtocol> OwnedLocks<M::Edit>
 
     ghost shown = { λ m c lock acts there. spin_lock_shows M.Edit.rules (M.opening m) (M.acts m) lock (λ d. M.ActsFor m d) (λ (p : Self). p.cpu) (λ p. p.stage)
         (M.block_at m lock) (M.legal m c acts) (M.blocks m c lock acts there) };
+
+    ghost holding = { λ step m c held. held };
 }

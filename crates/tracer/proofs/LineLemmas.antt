@@ -37,6 +37,11 @@ line_text w ps ms =
     ap (λ (t : List ℕ). t ++ 10 ∷ []) (front ∙ ap (λ (t : List ℕ). w ++ t) both) ∙ append_assoc w _ (10 ∷ [])
     ∙ ap (λ (t : List ℕ). w ++ t) (append_assoc (flat_map (λ p. spaced (text_of p)) ps) (flat_map (λ m. spaced (message_text m)) ms) (10 ∷ []))
 
+-- an entry's line with the line feed behind its last piece
+pub line_end : (a b c d e f g : List ℕ) → 101 ∷ 32 ∷ (a ++ 32 ∷ (b ++ 32 ∷ (c ++ 32 ∷ (d ++ 32 ∷ (e ++ 32 ∷ (f ++ 32 ∷ (g ++ 10 ∷ [])))))))
+    ≡ 101 ∷ 32 ∷ (a ++ 32 ∷ (b ++ 32 ∷ (c ++ 32 ∷ (d ++ 32 ∷ (e ++ 32 ∷ (f ++ 32 ∷ g)))))) ++ 10 ∷ []
+line_end a b c d e f g = simp append_assoc
+
 -- a message as its first word, and each other behind a comma
 join_words : (w : ℕ) (ws : List ℕ) → join_with_byte 44 (map decimal (w ∷ ws)) ≡ decimal w ++ flat_map behind_comma ws
 join_words w [] = sym (append-nil (decimal w))

@@ -1,14 +1,12 @@
 -- The pieces of a line as the writer has them.
 use Rattle.std.specs.Prelude.{ℕ, List, ◌∷◌, decimal}
-use Rattle.tracer.specs.TraceText.{message_text}
 use Rattle.tracer.specs.declared.writing.Piece.{Piece}
-use Rattle.tracer.specs.declared.writing.Piece.TheVariants.{Word, Number, Message}
+use Rattle.tracer.specs.declared.writing.Piece.TheVariants.{Word, Number}
 
 -- how a piece is spelled
 abbrev pub text_of : Piece → List ℕ
 text_of (Word word) = word.now
 text_of (Number number) = decimal number
-text_of (Message message) = message_text message.now
 
 -- a piece behind a space
 abbrev pub spaced : List ℕ → List ℕ

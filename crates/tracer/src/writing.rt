@@ -1,7 +1,9 @@
 //! The text of a trace, written to a sink. No call takes memory or waits, unless the sink's writer
 //! does.
 
-ghost use Rattle.std.specs.Prelude.{◌≡◌, ◌++◌, ◌∷◌, [], length, map, is_err, false, decimal, flat_map, codes};
+ghost use Rattle.std.specs.Prelude.{◌≡◌, ◌+◌, ◌*◌, ◌<◌, ◌≤◌, ◌++◌, ◌∷◌, [], length, map, drop, is_err, false, decimal, flat_map, codes};
+ghost use Rattle.event_log.specs.declared.messages.TheConstants.{WORDS};
+ghost use Rattle.tracer.specs.declared.writing.TheConstants.{LINE};
 ghost use Rattle.tracer.specs.Sinks.{WentOut, has_failed};
 ghost use Rattle.tracer.specs.TraceText.{IsSpellable, spelling, text_line, head_pieces, entry_pieces, cap_pieces, left_pieces};
 ghost use Rattle.tracer.specs.TraceText.{numbered, kind_word, value_piece, message_text};
@@ -11,15 +13,14 @@ use crate::sinks::{Sink, WriteFault};
 use crate::versions::{Version, version_of};
 use arrayvec::ArrayVec;
 use event_log::{CAPACITY, Entry, Kind, Msg};
-use itoa::Buffer;
+use itoa::{Buffer, write_digits};
 use std::io::Write;
 
 /// A piece of a line behind its first word.
 #[derive(Clone, Copy)]
-enum Piece<'a> {
+enum Piece {
     Word(&'static [u8]),
     Number(u64),
-    Message(&'a Msg),
 }
 
 /// A number, with what stands before it.
@@ -56,14 +57,13 @@ fn put_message<W: Write>(sink: &mut Sink<W>, message: &Msg) -> Result<(), WriteF
 }
 
 /// A space and a piece.
-fn put_piece<W: Write>(sink: &mut Sink<W>, piece: Piece<'_>) -> Result<(), WriteFault>
+fn put_piece<W: Write>(sink: &mut Sink<W>, piece: Piece) -> Result<(), WriteFault>
     requires { has_failed sink.old ≡ false }
     ensures failed { is_err result ≡ has_failed sink.new }
-    ensures out { WentOut W.contents sink.old sink.new (spaced (text_of piece.entry)) }
+    ensures out { WentOut W.contents sink.old sink.new (spaced (text_of piece)) }
 {
     match piece {
         Piece::Number(number) => put_number(sink, b" ", number),
-        Piece::Message(message) => put_message(sink, message),
         Piece::Word(word) => {
             sink.put(b" ")?;
             sink.put(word)
@@ -72,7 +72,7 @@ fn put_piece<W: Write>(sink: &mut Sink<W>, piece: Piece<'_>) -> Result<(), Write
 }
 
 /// A space and a piece, for each piece.
-fn put_pieces<W: Write>(sink: &mut Sink<W>, pieces: &[Piece<'_>]) -> Result<(), WriteFault>
+fn put_pieces<W: Write>(sink: &mut Sink<W>, pieces: &[Piece]) -> Result<(), WriteFault>
     requires { has_failed sink.old ≡ false }
     ensures failed { is_err result ≡ has_failed sink.new }
     ensures out { WentOut W.contents sink.old sink.new (flat_map (λ p. spaced (text_of p)) pieces.now) }
@@ -99,7 +99,7 @@ fn put_messages<W: Write>(sink: &mut Sink<W>, messages: &[Msg]) -> Result<(), Wr
 fn put_line<W: Write>(
     sink: &mut Sink<W>,
     word: &[u8],
-    pieces: &[Piece<'_>],
+    pieces: &[Piece],
     messages: &[Msg],
 ) -> Result<(), WriteFault>
     requires { has_failed sink.old ≡ false }
@@ -147,14 +147,96 @@ fn word_of(kind: Kind) -> &'static [u8]
     }
 }
 
-/// The message of an effect of this kind: a dash where it has none.
-fn value_of(kind: Kind, value: &Msg) -> Piece<'_>
-    ensures { text_of result ≡ value_piece kind value.now }
+/// How many bytes the line of an entry is made in; the longest has 230.
+const LINE: usize = 288;
+
+/// Puts a byte and a number before what stands from `end` on, and tells where they start.
+fn add_number(line: &mut [u8; LINE], end: usize, before: u8, number: u64) -> usize
+    requires room { 21 ≤ end }
+    requires within { end ≤ LINE }
+    ensures room { end ≤ result + 21 }
+    ensures within { result ≤ LINE }
+    ensures line { drop result line.new ≡ before ∷ (decimal number ++ drop end line.old) }
+{
+    let at = write_digits(number, line, end) - 1;
+    line[at] = before;
+    at
+}
+
+/// Puts a space and a word before what stands from `end` on, and tells where they start.
+fn add_word(line: &mut [u8; LINE], end: usize, word: &[u8]) -> usize
+    requires room { length word.now + 1 ≤ end }
+    requires within { end ≤ LINE }
+    ensures room { end ≡ result + (length word.now + 1) }
+    ensures line { drop result line.new ≡ spaced word.now ++ drop end line.old }
+{
+    let at = end - word.len();
+    line[at..end].copy_from_slice(word);
+    line[at - 1] = b' ';
+    at - 1
+}
+
+/// Puts words, each behind a comma, before what stands from `end` on, and tells where they start.
+fn add_words(line: &mut [u8; LINE], end: usize, words: &[u64]) -> usize
+    requires few { length words.now < WORDS }
+    requires room { 21 * length words.now ≤ end }
+    requires within { end ≤ LINE }
+    ensures room { end ≤ result + 21 * length words.now }
+    ensures within { result ≤ LINE }
+    ensures line { drop result line.new ≡ flat_map behind_comma words.now ++ drop end line.old }
+{
+    let mut at = end;
+    let mut left = words.len();
+    while left > 0 {
+        left -= 1;
+        at = add_number(line, at, b',', words[left]);
+    }
+    at
+}
+
+/// Puts a space and a message before what stands from `end` on, and tells where they start.
+fn add_message(line: &mut [u8; LINE], end: usize, message: &Msg) -> usize
+    requires room { 168 ≤ end }
+    requires within { end ≤ LINE }
+    ensures room { end ≤ result + 168 }
+    ensures within { result ≤ LINE }
+    ensures line { drop result line.new ≡ spaced (message_text message.now) ++ drop end line.old }
+{
+    let count = message.len();
+    let at = add_words(line, end, &message.words()[1..count]);
+    add_number(line, at, b' ', message.first())
+}
+
+/// Puts a space and the message of an effect of this kind, a dash where it has none, before what
+/// stands from `end` on, and tells where they start.
+fn add_value(line: &mut [u8; LINE], end: usize, kind: Kind, value: &Msg) -> usize
+    requires room { 168 ≤ end }
+    requires within { end ≤ LINE }
+    ensures room { end ≤ result + 168 }
+    ensures within { result ≤ LINE }
+    ensures line { drop result line.new ≡ spaced (value_piece kind value.now) ++ drop end line.old }
 {
     match kind {
-        Kind::Send | Kind::Recv | Kind::SendClosed => Piece::Message(value),
-        Kind::Close | Kind::RecvClosed => Piece::Word(b"-"),
+        Kind::Send | Kind::Recv | Kind::SendClosed => add_message(line, end, value),
+        Kind::Close | Kind::RecvClosed => add_word(line, end, b"-"),
     }
+}
+
+/// Makes the line of an entry at the end of `line`, and tells where it starts.
+fn add_entry(line: &mut [u8; LINE], entry: &Entry) -> usize
+    ensures within { result ≤ LINE }
+    ensures line { drop result line.new ≡ text_line (entry_pieces entry.now) }
+{
+    line[LINE - 1] = b'\n';
+    let pos = add_number(line, LINE - 1, b' ', entry.pos);
+    let op = add_number(line, pos, b' ', entry.op);
+    let value = add_value(line, op, entry.kind, &entry.value);
+    let buffer = add_number(line, value, b' ', u64::from(entry.buffer.0));
+    let kind = add_word(line, buffer, word_of(entry.kind));
+    let thread = add_number(line, kind, b' ', u64::from(entry.thread.0));
+    let cpu = add_number(line, thread, b' ', u64::from(entry.cpu.0));
+    line[cpu - 1] = b'e';
+    cpu - 1
 }
 
 /// The line of an entry.
@@ -163,16 +245,9 @@ fn put_entry<W: Write>(sink: &mut Sink<W>, entry: &Entry) -> Result<(), WriteFau
     ensures failed { is_err result ≡ has_failed sink.new }
     ensures out { WentOut W.contents sink.old sink.new (text_line (entry_pieces entry.now)) }
 {
-    let pieces = [
-        Piece::Number(u64::from(entry.cpu.0)),
-        Piece::Number(u64::from(entry.thread.0)),
-        Piece::Word(word_of(entry.kind)),
-        Piece::Number(u64::from(entry.buffer.0)),
-        value_of(entry.kind, &entry.value),
-        Piece::Number(entry.op),
-        Piece::Number(entry.pos),
-    ];
-    put_line(sink, b"e", &pieces, &[])
+    let mut line = [0; LINE];
+    let start = add_entry(&mut line, entry);
+    sink.put(&line[start..])
 }
 
 /// The lines of the entries.

@@ -154,8 +154,8 @@ where
             × IsCpu (I.homes_of machine) (length (I.caps machine)) (I.seen machine) (I.threads c.part) (I.call_states c.part)
             (I.under_way c.part) c.number c.guests.items c.trace.items c.limit (vec_capacity c.trace)
             × (I.IsStepwise → IsTabled (I.homes_of machine) (I.caps machine) c.number (I.own c.part) (I.under_way c.part) c.guests.items (I.opening machine)))
-            (λ c. c.number) (λ c. I.ActsFor machine c) I.IsStepwise (I.acts machine) cpus.items (I.homes_of machine) (I.seen machine) room 0 (I.room machine)
-            ((threads ≡ length (I.homes_of machine)) × (I.IsStepwise → BootsByTable
+            (λ c. c.number) (λ c. I.ActsFor machine c) (λ c. I.MayHold machine c) I.IsStepwise (I.acts machine) cpus.items (I.homes_of machine)
+            (I.seen machine) room 0 (I.room machine) ((threads ≡ length (I.homes_of machine)) × (I.IsStepwise → BootsByTable
             (shown_of (I.caps machine) (I.homes_of machine) (I.seen machine) (I.wait_lists machine) (I.owner machine) (I.moves machine) (I.acts machine)
             (map (λ c. cpu_shown (I.threads c.part) c.guests.items c.trace.items c.limit (I.is_inside c.part) (I.own c.part)) cpus.items) room 0))) }
         ensures caps { result.caps ≡ I.caps machine }

@@ -8,11 +8,12 @@ ghost use Rattle.table_machine.specs.SeatViews.{IsOf, new_seat_view};
 ghost use Rattle.cpu_workers.specs.Counts.{made, HasMade, MayHaveMade};
 
 use crate::counting::keys::{CountTable, KeySlot};
-use crate::counting::{AddOne, NUMBER};
+use crate::counting::{AddOne, CountLaws, NUMBER};
 use crossbeam_utils::sync::WaitGroup;
 use event_log::{CpuId, LockId};
-use layer_traits::{LockLayer, Payload};
+use layer_traits::{LockCall, LockLayer, Payload};
 use spinlock::{Grant, Ticket};
+use std::marker::PhantomData;
 use std::sync::Wait;
 use std::thread;
 use table_machine::{GrantSeat, Key, Seat, Shared, TableWords, TicketWords, WaiterWords};
@@ -56,7 +57,11 @@ fn add_one<L: LockLayer<AddOne>, R: Wait>(
 {
     let mut spins = SPINS;
     for _ in rt.forever() {
-        if part.poll(machine, lock, AddOne, payload).is_some() {
+        let edit = AddOne;
+        if part
+            .poll(machine, LockCall { lock, edit }, payload)
+            .is_some()
+        {
             return;
         }
         spins = pause(spins);
@@ -113,6 +118,7 @@ impl CountWords for TicketWords {
         times: u64,
     ) -> Key<AddOne> {
         let cpu = key.cpu();
+        let _laws: CountLaws = PhantomData;
         let mut seat = shared.seat(key);
         work_at::<Ticket<Seat<'_, AddOne>>, R>(rt, cpu, &mut seat, times);
         seat.back()
@@ -127,6 +133,7 @@ impl CountWords for WaiterWords {
         times: u64,
     ) -> Key<AddOne> {
         let cpu = key.cpu();
+        let _laws: CountLaws = PhantomData;
         let mut seat = shared.seat(key);
         work_at::<Grant<GrantSeat<'_, AddOne>>, R>(rt, cpu, &mut seat, times);
         seat.back()

@@ -5,4 +5,4 @@ polls-requires-clause-same g c = rw c.switch.ensures.call_states (c.requires.fre
 
 pub pends_in-requires-clause-queue : goal.pends_in-requires-clause-queue
 pends_in-requires-clause-queue g c =
-    rw (c.polls-2.ensures.opening, c.look.ensures.opening, c.polls.ensures.opening, c.switch.ensures.opening) c.requires.queue
+    rw (c.polls-2.ensures.opening, c.look.ensures.framed.stays.opening, c.polls.ensures.opening, c.switch.ensures.opening) c.requires.queue

@@ -11,7 +11,7 @@ use Rattle.ipc_calls.proofs.tower.part_over.Goals as goal
 pub returns-clause-fits : goal.returns-clause-fits
 returns-clause-fits g c =
     let m = c.args.m.now in
-    let opening = g.L.LockLayer.opening m in
+    let opening = g.L.Layer.opening m in
     let most = c.requires.buffers in
     let few : length c.args.caps.now ≤ 256 = omega (arith, most) in
     let boots = boots_well (viewed nested_lock_of (viewed state_of opening)) c.args.caps.now c.requires.locks few in

@@ -14,10 +14,10 @@ loop-number-preserved g c =
     record {
       long = ap length items ∙ length-append parts (c.part.result ∷ []) ∙ ap (λ n. n + 1) inv.long;
       ready = λ m acts outside.
-          subst (λ xs. AreReady g.L.LockLayer.cpu_of g.L.LockLayer.under_way g.L.LockLayer.Fits xs m) (sym items)
+          subst (λ xs. AreReady g.L.Layer.cpu_of g.L.Layer.under_way g.L.Layer.Fits xs m) (sym items)
           (one_part_more _ _ _ parts c.part.result m (inv.ready m acts outside) (record {
             cpu = ap (λ (own : CpuId). own.0) c.part.ensures.cpu ∙ sym inv.long;
             rests = c.part.ensures.call;
-            fits = c.part.ensures.fits m (acts cpu c.loop-number-test.true) (outside cpu c.loop-number-test.true);
+            fits = c.part.ensures.fits m (acts cpu c.loop-number-test.true) (outside cpu c.loop-number-test.true) tt;
           }));
     }

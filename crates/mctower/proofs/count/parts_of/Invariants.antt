@@ -7,6 +7,6 @@ use Rattle.mctower.proofs.count.parts_of.Given as goal
 abbrev pub invariant-loop-number : goal.invariant-loop-number
 invariant-loop-number g l = record {
   long : length l.parts.items ≡ l.number;
-  ready : (m : _) → ((c : CpuId) → c.0 < l.cpus → g.L.LockLayer.ActsFor m c) → ((c : CpuId) → c.0 < l.cpus → g.L.LockLayer.IsOutside m c)
-      → AreReady g.L.LockLayer.cpu_of g.L.LockLayer.under_way g.L.LockLayer.Fits l.parts.items m;
+  ready : (m : _) → ((c : CpuId) → c.0 < l.cpus → g.L.Layer.ActsFor m c) → ((c : CpuId) → c.0 < l.cpus → g.L.Layer.IsOutside m c)
+      → AreReady g.L.Layer.cpu_of g.L.Layer.under_way g.L.Layer.Fits l.parts.items m;
 }

@@ -9,11 +9,11 @@ use Rattle.mctower.proofs.count.rounds.Given as goal
 abbrev pub invariant-loop : goal.invariant-loop
 invariant-loop g l = record {
   long : length l.parts ≡ length l.fn.parts;
-  ready : AreReady g.L.LockLayer.cpu_of g.L.LockLayer.under_way g.L.LockLayer.Fits l.parts l.machine;
-  opening : g.L.LockLayer.opening l.machine ≡ g.L.LockLayer.opening l.fn.machine;
-  room : g.L.LockLayer.room l.fn.machine ≤ g.L.LockLayer.room l.machine + 3 * (l.counter * length l.fn.parts);
-  owned : (c : CpuId) → c.0 < CPUS → g.L.LockLayer.ActsFor l.machine c;
-  rests : (c : CpuId) → phase c (g.L.LockLayer.acts l.machine) ≡ Rests;
-  counted : sections_at l.lock (g.L.LockLayer.seen l.machine) ≡ sections_at l.lock (g.L.LockLayer.seen l.fn.machine) + l.counter * length l.fn.parts;
-  order : g.L.LockLayer.acts l.machine ≡ after_rounds l.lock (length l.fn.parts) l.counter (g.L.LockLayer.acts l.fn.machine);
+  ready : AreReady g.L.Layer.cpu_of g.L.Layer.under_way g.L.Layer.Fits l.parts l.machine;
+  opening : g.L.Layer.opening l.machine ≡ g.L.Layer.opening l.fn.machine;
+  room : g.L.Layer.room l.fn.machine ≤ g.L.Layer.room l.machine + 3 * (l.counter * length l.fn.parts);
+  owned : (c : CpuId) → c.0 < CPUS → g.L.Layer.ActsFor l.machine c;
+  rests : (c : CpuId) → phase c (g.L.Layer.acts l.machine) ≡ Rests;
+  counted : sections_at l.lock (g.L.Layer.seen l.machine) ≡ sections_at l.lock (g.L.Layer.seen l.fn.machine) + l.counter * length l.fn.parts;
+  order : g.L.Layer.acts l.machine ≡ after_rounds l.lock (length l.fn.parts) l.counter (g.L.Layer.acts l.fn.machine);
 }

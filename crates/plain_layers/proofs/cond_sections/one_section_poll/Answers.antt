@@ -24,8 +24,8 @@ returns-then-is_some-clause-goes g c =
     (C.seen c.args.m.now) seen (C.own c.args.part.now) (C.under_way c.args.part.now) under (record { own = own; answer = c.poll.result })
     refl c.requires.poll_section c.poll.ensures.seen (λ some. ap C.seen (c.poll.ensures.handed some)) in
     λ same. subst (λ o. MayPollCondSection monitor_rules (lock_kernel (cv_rules monitor_rules) o) (C.cpu_of c.poll.new.self) seen own under b e)
-    (sym c.poll.ensures.opening)
-    (subst (λ d. MayPollCondSection monitor_rules (lock_kernel (cv_rules monitor_rules) opening) d seen own under b e) (sym c.poll.ensures.cpu)
+    (sym c.poll.ensures.framed.stays.opening)
+    (subst (λ d. MayPollCondSection monitor_rules (lock_kernel (cv_rules monitor_rules) opening) d seen own under b e) (sym c.poll.ensures.framed.cpu)
     (goes_after monitor_rules opening (C.ActsFor c.args.m.now) (C.cpu_of c.args.part.now) b e seen own under c.poll.result c.current.result after c.in-None.is
     c.current.ensures (sym c.is_some.ensures ∙ c.if-is_some.true)))
 
@@ -58,7 +58,7 @@ returns-in-Some-clause-owns g c =
     refl c.requires.poll_section c.poll.ensures.seen (λ some. ap C.seen (c.poll.ensures.handed some)) in
     λ outcome same asks.
     subst (λ o. owner_of (cv_rules monitor_rules) (inner o) (buffer_sections seen) (Buffer c.args.buffer) ≡ Some (lock_caller (cv_rules monitor_rules) e))
-    (sym c.poll.ensures.opening)
+    (sym c.poll.ensures.framed.stays.opening)
     ((ended_after monitor_rules (C.opening c.args.m.now) (C.ActsFor c.args.m.now) (C.cpu_of c.args.part.now) c.args.buffer e seen own under
     c.poll.result c.in-Some.outcome after c.in-Some.is).1 asks)
 

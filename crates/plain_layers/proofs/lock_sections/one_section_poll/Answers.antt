@@ -22,8 +22,8 @@ returns-then-is_some-clause-goes g c =
     (slept_for (Q.own c.args.part.now).slept (lock_caller rules e))
     (Q.seen c.args.m.now) seen (Q.own c.args.part.now) under (record { own = own; answer = c.poll.result })
     refl c.requires.poll_section.runs c.requires.poll_section.steady c.poll.ensures.seen (λ some. ap Q.seen (c.poll.ensures.still some)) in
-    λ same. subst (λ o. MayPollLockSection rules (lock_kernel rules o) (Q.cpu_of c.poll.new.self) seen own under b e) (sym c.poll.ensures.opening)
-    (subst (λ d. MayPollLockSection rules (lock_kernel rules opening) d seen own under b e) (sym c.poll.ensures.cpu)
+    λ same. subst (λ o. MayPollLockSection rules (lock_kernel rules o) (Q.cpu_of c.poll.new.self) seen own under b e) (sym c.poll.ensures.framed.stays.opening)
+    (subst (λ d. MayPollLockSection rules (lock_kernel rules opening) d seen own under b e) (sym c.poll.ensures.framed.cpu)
     (goes_after rules opening (Q.ActsFor c.args.m.now) (Q.cpu_of c.args.part.now) b e seen own under c.poll.result c.current.result after c.in-None.is
     c.current.ensures (sym c.is_some.ensures ∙ c.if-is_some.true)))
 
@@ -55,7 +55,7 @@ returns-in-Some-clause-owns g c =
     (record { own = own; answer = c.poll.result })
     refl c.requires.poll_section.runs c.requires.poll_section.steady c.poll.ensures.seen (λ some. ap Q.seen (c.poll.ensures.still some)) in
     λ outcome same asks. subst (λ o. owner_of rules (inner o) (buffer_sections seen) (Buffer c.args.buffer) ≡ Some (lock_caller rules e))
-    (sym c.poll.ensures.opening)
+    (sym c.poll.ensures.framed.stays.opening)
     ((ended_after rules (Q.opening c.args.m.now) (Q.ActsFor c.args.m.now) (Q.cpu_of c.args.part.now) c.args.buffer e seen own under
     c.poll.result c.in-Some.outcome after c.in-Some.is).1 asks)
 

@@ -5,7 +5,7 @@ use Rattle.plain_layers.proofs.queue_tests.at_once.Goals as goal
 -- no call is under way
 pub poll-requires-clause-call : goal.poll-requires-clause-call
 poll-requires-clause-call g c =
-    let Q = g.Q.QueueLayer in
+    let Q = g.Q.Layer in
     let m = c.args.m.now in
     let part = c.args.part.now in
     first_poll (QueueAllowed (kernel g.E.Edit.rules g.E.Moves.moves (Q.opening m))) (Q.seen m) (Q.under_way part) (event (Q.cpu_of part) c.args.call)
@@ -14,10 +14,10 @@ poll-requires-clause-call g c =
 -- the call alone is new
 pub returns-clause-seen : goal.returns-clause-seen
 returns-clause-seen g c =
-    let Q = g.Q.QueueLayer in
-    let law = g.met.Q.QueueLayer in
+    let Q = g.Q.Layer in
+    let law = g.met.Q.Layer in
     let m = c.args.m.now in
     let part = c.args.part.now in
     seen_alone (kernel g.E.Edit.rules g.E.Moves.moves (Q.opening m)) (Q.ActsFor m) c.requires.all (event (Q.cpu_of part) c.args.call)
     c.poll.result c.unwrap.result (Q.seen m) (Q.seen c.poll.new.m) c.unwrap.ensures c.poll.ensures.seen
-    (law.known c.poll.new.m (Q.cpu_of c.poll.new.self) (law.own_cpu c.poll.new.self c.poll.new.m c.poll.ensures.fits))
+    (law.known c.poll.new.m (Q.cpu_of c.poll.new.self) (law.own_cpu c.poll.new.self c.poll.new.m c.poll.ensures.framed.fits))

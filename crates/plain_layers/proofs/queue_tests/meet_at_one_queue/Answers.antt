@@ -39,7 +39,7 @@ meets opening homes free = record {
 -- thread 1 is at home on the first CPU
 pub at_once-slept-requires-clause-call : goal.at_once-slept-requires-clause-call
 at_once-slept-requires-clause-call g c =
-    let Q = g.Q.QueueLayer in
+    let Q = g.Q.Layer in
     let m = c.args.m.now in
     callable_at (nap_rules wakes by) (nap_moves by) (Q.opening m) (Q.opening m) [] (Q.seen m) cpu_zero (Q.cpu_of c.args.first.now) (OnBuffer buffer_zero sleep)
     refl c.requires.seen c.requires.first_is
@@ -48,7 +48,7 @@ at_once-slept-requires-clause-call g c =
 -- and thread 0 on the second, in whose hand nobody is
 pub at_once-woke-requires-clause-call : goal.at_once-woke-requires-clause-call
 at_once-woke-requires-clause-call g c =
-    let Q = g.Q.QueueLayer in
+    let Q = g.Q.Layer in
     let m = c.args.m.now in
     let slept = c.at_once-slept in
     callable_at (nap_rules wakes by) (nap_moves by) (Q.opening m) (Q.opening slept.new.m)
@@ -60,7 +60,7 @@ at_once-woke-requires-clause-call g c =
 -- thread 1 is in its hand then
 pub at_once-pushed-requires-clause-call : goal.at_once-pushed-requires-clause-call
 at_once-pushed-requires-clause-call g c =
-    let Q = g.Q.QueueLayer in
+    let Q = g.Q.Layer in
     let m = c.args.m.now in
     let slept = c.at_once-slept in
     let woke = c.at_once-woke in

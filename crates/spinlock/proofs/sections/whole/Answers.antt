@@ -6,7 +6,7 @@ use Rattle.spinlock.proofs.sections.whole.Goals as goal
 
 pub unwrap-requires : goal.unwrap-requires
 unwrap-requires g c =
-    let L = g.L.LockLayer in
+    let L = g.L.Layer in
     let rules = g.E.Edit.rules in
     let m = c.args.m.now in
     let part = c.args.part.now in
@@ -17,7 +17,7 @@ unwrap-requires g c =
     let did = three_polls (table_of rules) c.args.lock c.args.edit (L.opening m) (L.opening one.new.m) (L.opening two.new.m) cpu (L.cpu_of one.new.part)
     (L.cpu_of two.new.part)
     (L.acts m) (L.acts one.new.m) (L.acts two.new.m) (L.acts three.new.m) three.result c.requires.rests
-    (g.met.L.LockLayer.legal m cpu (g.met.L.LockLayer.own_cpu part m c.requires.fits))
+    (g.met.L.Layer.legal m cpu (g.met.L.Layer.own_cpu part m c.requires.fits))
     one.ensures.cpu two.ensures.cpu one.ensures.opening two.ensures.opening one.ensures.acts two.ensures.acts three.ensures.acts three.ensures.answer in
     subst (λ o. IsSome o) (sym did.answers)
     (answer_there (rules.answer c.args.edit) (block_after rules.edited (L.opening m) c.args.lock (sections_in (L.acts m)))

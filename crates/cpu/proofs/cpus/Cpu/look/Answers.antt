@@ -27,25 +27,27 @@ returns-clause-leaves g c =
     record {
       number = refl;
       limit = refl;
-      cpu = e.cpu ∙ c.requires.number;
+      cpu = e.framed.cpu ∙ c.requires.number;
       programs = refl;
       seen = others_grow _ _ _ _ e.seen;
       moves = rw c.requires.number at e.moves;
       grows = λ step. look_grows (λ d. I.ActsFor m d) c.args.self.now.number (I.acts m) (I.acts c.look.new.m) c.look.result
           (λ looked. subst (λ (d : CpuId). Tries (λ e. I.ActsFor m e) d (I.acts m) (I.acts c.look.new.m)) c.requires.number (e.tries step looked))
           (λ no. ap I.acts (e.still no).1);
-      opening = e.opening;
+      opening = e.framed.stays.opening;
       caps = e.caps;
       homes = e.homes;
-      site = e.site;
-      room = e.room;
-      acts = e.acts;
-      others = λ q apart fits. e.others q (rw c.requires.number apart) fits;
+      site = e.framed.stays.site;
+      room = e.framed.stays.room;
+      acts = e.framed.stays.acts;
+      others = λ q apart fits. e.framed.others q (rw c.requires.number apart) fits;
+      holders = λ d apart acts holds. e.framed.holders d (rw c.requires.number apart) acts holds;
     }
 
 pub returns-clause-table : goal.returns-clause-table
 returns-clause-table g c = λ step.
-    rw (c.look.ensures.homes, c.look.ensures.caps, c.look.ensures.own step, c.look.ensures.under_way, c.look.ensures.opening) (c.requires.table step)
+    rw (c.look.ensures.homes, c.look.ensures.caps, c.look.ensures.own step, c.look.ensures.under_way, c.look.ensures.framed.stays.opening)
+    (c.requires.table step)
 
 pub returns-clause-steps : goal.returns-clause-steps
 returns-clause-steps g c = λ step looked.

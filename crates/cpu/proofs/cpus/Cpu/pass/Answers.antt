@@ -52,20 +52,21 @@ returns-then-is_some-clause-leaves g c =
     record {
       number = refl;
       limit = refl;
-      cpu = e.cpu ∙ c.requires.number;
+      cpu = e.framed.cpu ∙ c.requires.number;
       programs = ap programs_of c.note_pass.ensures ∙ programs_passed c.current-runs.result c.args.self.now.guests.items c.args.pass;
       seen = others_grow _ _ _ _ e.seen;
       moves = subst (λ (d : CpuId). MovesGrow (λ e. I.ActsFor m e) d (I.moves m) (I.moves c.pass-done.new.m)) c.requires.number
           (passed_grows _ _ _ _ _ _ _ _ _ e.passed);
       grows = λ step. subst (λ (d : CpuId). ActsGrow (λ e. I.ActsFor m e) d (I.acts m) (I.acts c.pass-done.new.m)) c.requires.number
           (follows_grow _ _ _ _ _ _ _ _ (e.follows step));
-      opening = e.opening;
+      opening = e.framed.stays.opening;
       caps = e.caps;
       homes = e.homes;
-      site = e.site;
-      room = e.room;
-      acts = e.acts;
-      others = λ q apart fits. e.others q (rw c.requires.number apart) fits;
+      site = e.framed.stays.site;
+      room = e.framed.stays.room;
+      acts = e.framed.stays.acts;
+      others = λ q apart fits. e.framed.others q (rw c.requires.number apart) fits;
+      holders = λ d apart acts holds. e.framed.holders d (rw c.requires.number apart) acts holds;
     }
 
 pub returns-else-is_some-clause-is : goal.returns-else-is_some-clause-is
@@ -91,20 +92,21 @@ returns-else-is_some-clause-leaves g c =
     record {
       number = refl;
       limit = refl;
-      cpu = e.cpu ∙ c.requires.number;
+      cpu = e.framed.cpu ∙ c.requires.number;
       programs = refl;
       seen = others_grow _ _ _ _ e.seen;
       moves = subst (λ (d : CpuId). MovesGrow (λ e. I.ActsFor m e) d (I.moves m) (I.moves c.pass-done.new.m)) c.requires.number
           (passed_grows _ _ _ _ _ _ _ _ _ e.passed);
       grows = λ step. subst (λ (d : CpuId). ActsGrow (λ e. I.ActsFor m e) d (I.acts m) (I.acts c.pass-done.new.m)) c.requires.number
           (follows_grow _ _ _ _ _ _ _ _ (e.follows step));
-      opening = e.opening;
+      opening = e.framed.stays.opening;
       caps = e.caps;
       homes = e.homes;
-      site = e.site;
-      room = e.room;
-      acts = e.acts;
-      others = λ q apart fits. e.others q (rw c.requires.number apart) fits;
+      site = e.framed.stays.site;
+      room = e.framed.stays.room;
+      acts = e.framed.stays.acts;
+      others = λ q apart fits. e.framed.others q (rw c.requires.number apart) fits;
+      holders = λ d apart acts holds. e.framed.holders d (rw c.requires.number apart) acts holds;
     }
 
 -- what a poll that ended the pass leaves of the CPU over the tower
@@ -132,7 +134,7 @@ done_observed g c step =
       before = I.moves m;
       after = I.moves n;
       known = hand_preserved (I.homes_of m) (I.homes_of n) (I.cpu_of q) (I.moves n) (I.threads q) c.pass-done.ensures.homes
-          (law.stands q n c.pass-done.ensures.fits) (law.moves_legal n (I.cpu_of q) (law.own_cpu q n c.pass-done.ensures.fits));
+          (law.stands q n c.pass-done.ensures.framed.fits) (law.moves_legal n (I.cpu_of q) (law.own_cpu q n c.pass-done.ensures.framed.fits));
       follows = c.pass-done.ensures.follows step;
       passed = c.pass-done.ensures.passed;
       under_way_is = c.pass-done.ensures.under_way;
@@ -145,7 +147,7 @@ returns-then-is_some-clause-table g c = λ step.
     let m = c.args.m.now in
     let p = c.args.self.now in
     let cpu = layered (laws_of g.met.I.IpcLayer) m p c.requires.fits c.requires.number c.requires.is c.requires.table in
-    rw (c.pass-done.ensures.homes, c.pass-done.ensures.caps, c.pass-done.ensures.opening)
+    rw (c.pass-done.ensures.homes, c.pass-done.ensures.caps, c.pass-done.ensures.framed.stays.opening)
     (passed_tabled (observed_cpu cpu step) _ _ (observed_outset cpu step) c.args.pass c.requires.chosen c.requires.live (done_observed g c step))
 
 pub returns-then-is_some-clause-steps : goal.returns-then-is_some-clause-steps
@@ -180,7 +182,7 @@ wait_observed g c step =
       before = I.moves m;
       after = I.moves n;
       known = hand_preserved (I.homes_of m) (I.homes_of n) (I.cpu_of q) (I.moves n) (I.threads q) c.pass-done.ensures.homes
-          (law.stands q n c.pass-done.ensures.fits) (law.moves_legal n (I.cpu_of q) (law.own_cpu q n c.pass-done.ensures.fits));
+          (law.stands q n c.pass-done.ensures.framed.fits) (law.moves_legal n (I.cpu_of q) (law.own_cpu q n c.pass-done.ensures.framed.fits));
       follows = c.pass-done.ensures.follows step;
       passed = c.pass-done.ensures.passed;
       under_way_is = c.pass-done.ensures.under_way;
@@ -192,7 +194,7 @@ returns-else-is_some-clause-table g c = λ step.
     let m = c.args.m.now in
     let p = c.args.self.now in
     let cpu = layered (laws_of g.met.I.IpcLayer) m p c.requires.fits c.requires.number c.requires.is c.requires.table in
-    rw (c.pass-done.ensures.homes, c.pass-done.ensures.caps, c.pass-done.ensures.opening)
+    rw (c.pass-done.ensures.homes, c.pass-done.ensures.caps, c.pass-done.ensures.framed.stays.opening)
     (passed_tabled (observed_cpu cpu step) _ _ (observed_outset cpu step) c.args.pass c.requires.chosen c.requires.live (wait_observed g c step))
 
 pub returns-else-is_some-clause-steps : goal.returns-else-is_some-clause-steps

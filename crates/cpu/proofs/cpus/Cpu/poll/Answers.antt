@@ -102,19 +102,20 @@ returns-clause-leaves g c =
     record {
       number = refl;
       limit = refl;
-      cpu = e.cpu ∙ c.requires.number;
+      cpu = e.framed.cpu ∙ c.requires.number;
       programs = ap programs_of c.note_poll-fresh.ensures.guests ∙ programs_with c.args.self.now.guests.items c.args.thread.0 _ (λ x. refl);
       seen = called_grows _ _ _ _ _ _ _ _ _ (rw c.requires.number at (e.called less));
       moves = rw c.requires.number at e.moves;
       grows = λ step. subst (λ (d : CpuId). ActsGrow (λ e. I.ActsFor m e) d (I.acts m) (I.acts c.poll-answer.new.m)) c.requires.number
           (follows_grow _ _ _ _ _ _ _ _ (e.follows step));
-      opening = e.opening;
+      opening = e.framed.stays.opening;
       caps = e.caps;
       homes = e.homes;
-      site = e.site;
-      room = e.room;
-      acts = e.acts;
-      others = λ q apart fits. e.others q (rw c.requires.number apart) fits;
+      site = e.framed.stays.site;
+      room = e.framed.stays.room;
+      acts = e.framed.stays.acts;
+      others = λ q apart fits. e.framed.others q (rw c.requires.number apart) fits;
+      holders = λ d apart acts holds. e.framed.holders d (rw c.requires.number apart) acts holds;
     }
 
 -- what the poll leaves of the CPU over the tower
@@ -143,7 +144,7 @@ observed_poll g c step =
       new = I.acts n;
       result = c.poll-answer.result;
       known = hand_preserved (I.homes_of m) (I.homes_of n) (I.cpu_of q) (I.moves n) (I.threads q) c.poll-answer.ensures.homes
-          (law.stands q n c.poll-answer.ensures.fits) (law.moves_legal n (I.cpu_of q) (law.own_cpu q n c.poll-answer.ensures.fits));
+          (law.stands q n c.poll-answer.ensures.framed.fits) (law.moves_legal n (I.cpu_of q) (law.own_cpu q n c.poll-answer.ensures.framed.fits));
       follows = c.poll-answer.ensures.follows step;
       ended_is = (c.poll-answer.ensures.runs less).ended;
       under_way_is = c.poll-answer.ensures.under_way less;
@@ -157,7 +158,7 @@ observed_poll g c step =
 pub returns-clause-table : goal.returns-clause-table
 returns-clause-table g c = λ step.
     let cpu = layered (laws_of g.met.I.IpcLayer) c.args.m.now c.args.self.now c.requires.fits c.requires.number c.requires.is c.requires.table in
-    rw (c.poll-answer.ensures.homes, c.poll-answer.ensures.caps, c.poll-answer.ensures.opening)
+    rw (c.poll-answer.ensures.homes, c.poll-answer.ensures.caps, c.poll-answer.ensures.framed.stays.opening)
     (call_tabled (observed_cpu cpu step) _ _ (observed_outset cpu step) c.args.thread c.args.call.now c.requires.chosen c.requires.live
     (observed_poll g c step))
 

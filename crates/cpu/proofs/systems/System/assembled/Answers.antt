@@ -8,7 +8,7 @@ use Rattle.cpu.proofs.systems.System.assembled.Goals as goal
 pub invariant_of-system : goal.invariant_of-system
 invariant_of-system g c =
     let I = g.I.IpcLayer in
-    sounds _ _ _ I.IsStepwise _ _ _ _ _ _ _ _ _ (λ sound. (sound.0, λ step. starts_reached _ (sound.1 step))) c.requires
+    sounds _ _ _ _ I.IsStepwise _ _ _ _ _ _ _ _ _ (λ sound. (sound.0, λ step. starts_reached _ (sound.1 step))) c.requires
 
 pub returns-clause-guests : goal.returns-clause-guests
 returns-clause-guests g c =

@@ -52,7 +52,7 @@ returns g c =
     let some : 0 < CPUS = let least = is.some in let most = is.most in omega (arith, least, most) in
     let told = g.met.I.Owned.owners m (record { 0 = 0 }) c.args.buffer (is.acts_for (record { 0 = 0 }) some) (rw (← c.self.view_is) at c.requires) in
     absurd (held_here I m items
-    (λ k x at. let e = is.each k x at in (e.number_is, e.holds.0, e.holds.1)) is.rest (λ p. g.I.Owned.owner_here p c.args.buffer)
+    (λ k x at. let e = is.each k x at in (e.number_is, e.holds.0, e.holds.1)) is.holders (λ p. g.I.Owned.owner_here p c.args.buffer)
     (told.somewhere (sym c.busy_in.ensures ∙ c.in_default.is))
     (up_to_end (λ x. g.I.Owned.owner_here x.part c.args.buffer ≡ None) items c.deref-at-items.result.now c.loop-at.at-index c.deref-at-items.ensures.value
     c.loop-at-test.false c.loop-at.invariant))

@@ -44,8 +44,8 @@ assembled-requires g c =
       guests = subst (λ (l : List (Option Guest)). AreGuests homes (length c.args.caps.now) (cpu_at k) l) (sym b.booted.guests_are) are;
       private_is = (λ i. private (b.own_is step i) x.guests.items (b.booted.nothing i));
     }))) in
-    opens _ (λ x. x.number) (λ d. I.ActsFor m d) I.IsStepwise (I.acts m) cpus homes (I.homes_of m) (I.seen m) c.args.caps.now c.args.room (I.room m)
-    (length c.args.tables.items) _ (threads, boots)
+    opens _ (λ x. x.number) (λ d. I.ActsFor m d) (λ d. I.MayHold m d) I.IsStepwise (I.acts m) cpus homes (I.homes_of m) (I.seen m) c.args.caps.now c.args.room
+    (I.room m) (length c.args.tables.items) _ (threads, boots)
     openable c.in_ok-cpus.ensures.count (λ k x at.
     let b = c.in_ok-cpus.ensures.booted k x at in
     let within : k < length c.args.tables.items =
@@ -71,7 +71,7 @@ assembled-requires g c =
                 (slice_index_or tables k []) (length c.args.caps.now) (I.opening m) are opened),
           );
     })
-    e.acts e.none e.opened.homes_are e.opened.none_seen small e.opened.room_is
+    e.acts e.holders e.none e.opened.homes_are e.opened.none_seen small e.opened.room_is
 
 pub returns-clause-guests : goal.returns-clause-guests
 returns-clause-guests g c =

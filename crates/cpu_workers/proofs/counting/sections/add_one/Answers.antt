@@ -6,10 +6,10 @@ use Rattle.cpu_workers.proofs.counting.sections.add_one.Goals as goal
 
 pub returns-then-is_some-clause-made : goal.returns-then-is_some-clause-made
 returns-then-is_some-clause-made g c =
-    let L = g.L.LockLayer in
+    let L = g.L.Layer in
     let polled = c.poll.ensures.seen in
     let answers : is_some c.poll.result ≡ true = cc in
-    let theirs = polled.foreign (L.cpu_of c.loop.part) (g.met.L.LockLayer.own_cpu c.loop.part c.loop.machine c.loop.invariant.fits) in
+    let theirs = polled.foreign (L.cpu_of c.loop.part) (g.met.L.Layer.own_cpu c.loop.part c.loop.machine c.loop.invariant.fits) in
     let more = poll_answers (section (L.cpu_of c.loop.part) c.args.lock (record {})) polled.others (L.seen c.loop.machine) (L.seen c.poll.new.m)
     (is_some c.poll.result) polled.is theirs answers in
     subst (λ cpu. made cpu c.args.lock (L.seen c.poll.new.m) ≡ made cpu c.args.lock (L.seen c.loop.machine) + 1) c.loop.invariant.cpu more
@@ -17,18 +17,18 @@ returns-then-is_some-clause-made g c =
 
 pub loop-preserved : goal.loop-preserved
 loop-preserved g c =
-    let L = g.L.LockLayer in
+    let L = g.L.Layer in
     let polled = c.poll.ensures.seen in
     let waits : is_some c.poll.result ≡ false = cc in
-    let theirs = polled.foreign (L.cpu_of c.loop.part) (g.met.L.LockLayer.own_cpu c.loop.part c.loop.machine c.loop.invariant.fits) in
+    let theirs = polled.foreign (L.cpu_of c.loop.part) (g.met.L.Layer.own_cpu c.loop.part c.loop.machine c.loop.invariant.fits) in
     let same = poll_waits (section (L.cpu_of c.loop.part) c.args.lock (record {})) polled.others (L.seen c.loop.machine) (L.seen c.poll.new.m)
     (is_some c.poll.result) polled.is theirs waits in
     record {
-      fits = c.poll.ensures.fits;
-      cpu = c.poll.ensures.cpu ∙ c.loop.invariant.cpu;
-      opening = c.poll.ensures.opening ∙ c.loop.invariant.opening;
-      site = c.poll.ensures.site ∙ c.loop.invariant.site;
-      acts = λ cpu had. c.poll.ensures.acts cpu (c.loop.invariant.acts cpu had);
+      fits = c.poll.ensures.framed.fits;
+      cpu = c.poll.ensures.framed.cpu ∙ c.loop.invariant.cpu;
+      opening = c.poll.ensures.framed.stays.opening ∙ c.loop.invariant.opening;
+      site = c.poll.ensures.framed.stays.site ∙ c.loop.invariant.site;
+      acts = λ cpu had. c.poll.ensures.framed.stays.acts cpu (c.loop.invariant.acts cpu had);
       call = goes_on (L.under_way c.poll.new.self) (is_some c.poll.result) _ _ c.poll.ensures.call waits
           (ap (λ cpu. section cpu c.args.lock (record {})) c.loop.invariant.cpu);
       made = subst (λ cpu. made cpu c.args.lock (L.seen c.poll.new.m) ≡ made cpu c.args.lock (L.seen c.loop.machine)) c.loop.invariant.cpu same

@@ -8,7 +8,7 @@ add_one-requires-clause-lock g c = subst (λ (o : _ → _). IsSome (o NUMBER)) (
 
 pub loop-preserved : goal.loop-preserved
 loop-preserved g c =
-    let L = g.L.LockLayer in
+    let L = g.L.Layer in
     let known = c.loop.invariant in
     record {
       fits = c.add_one.ensures.fits;

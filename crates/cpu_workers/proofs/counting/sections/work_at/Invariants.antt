@@ -5,12 +5,12 @@ use Rattle.cpu_workers.proofs.counting.sections.work_at.Given as goal
 
 abbrev pub invariant-loop : goal.invariant-loop
 invariant-loop g l = record {
-  fits : g.L.LockLayer.Fits l.part l.seat;
-  cpu : g.L.LockLayer.cpu_of l.part ≡ l.fn.cpu;
-  rests : g.L.LockLayer.under_way l.part ≡ None;
-  acts : g.L.LockLayer.ActsFor l.seat l.fn.cpu;
-  outside : g.L.LockLayer.IsOutside l.seat l.fn.cpu;
-  opening : g.L.LockLayer.opening l.seat ≡ g.L.LockLayer.opening l.fn.seat;
-  site : g.L.LockLayer.site l.seat ≡ g.L.LockLayer.site l.fn.seat;
-  made : made l.fn.cpu NUMBER (g.L.LockLayer.seen l.seat) ≡ made l.fn.cpu NUMBER (g.L.LockLayer.seen l.fn.seat) + l.counter;
+  fits : g.L.Layer.Fits l.part l.seat;
+  cpu : g.L.Layer.cpu_of l.part ≡ l.fn.cpu;
+  rests : g.L.Layer.under_way l.part ≡ None;
+  acts : g.L.Layer.ActsFor l.seat l.fn.cpu;
+  outside : g.L.Layer.IsOutside l.seat l.fn.cpu;
+  opening : g.L.Layer.opening l.seat ≡ g.L.Layer.opening l.fn.seat;
+  site : g.L.Layer.site l.seat ≡ g.L.Layer.site l.fn.seat;
+  made : made l.fn.cpu NUMBER (g.L.Layer.seen l.seat) ≡ made l.fn.cpu NUMBER (g.L.Layer.seen l.fn.seat) + l.counter;
 }

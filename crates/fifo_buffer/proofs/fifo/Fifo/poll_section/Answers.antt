@@ -53,7 +53,7 @@ returns-clause-section_polled g c =
     let home = runs_home (C.opening m) cpu (C.seen m) (C.own p).lock.sleep.threads t legal stands c.requires.may.current in
     let awake = runs_awake (C.opening m) cpu (C.seen m) (C.own p).lock.sleep.threads t legal stands c.requires.may.current
     (law.lists p m c.requires.fits) (Buffer (buffer_of call)) wait_list.Sleepers in
-    let lawful = rw c.poll-answer.ensures.opening at (law.lawful c.poll-answer.new.m cpu (c.poll-answer.ensures.acts cpu acts)) in
+    let lawful = rw c.poll-answer.ensures.framed.stays.opening at (law.lawful c.poll-answer.new.m cpu (c.poll-answer.ensures.framed.stays.acts cpu acts)) in
     let small = c.requires.known in
     let size = c.requires.sizes.call_states_are in
     let later : call_state_of c.record_answer.new.self.call_states t ≡ recorded_if call_state call_state.stage c.poll-answer.result

@@ -1,9 +1,7 @@
 use Rattle.std.proofs.Common.{◌≡◌, true, false, length, Some, inr, refl, ap, sym, ◌∙◌, subst}
 use Rattle.std.proofs.lemmas.Option.{same_Some}
-use Rattle.event_log.specs.Actions.{phase}
 use Rattle.layer_traits.specs.Places.{Asleep, At, Pend, home_of, where_is}
 use Rattle.event_log.specs.declared.ids.LockId.TheVariants.{Buffer}
-use Rattle.layer_traits.specs.Plans.{is_in_section}
 use Rattle.layer_traits.specs.QueueBlocks.{homes_in}
 use Rattle.layer_traits.specs.Observed.{queue_place}
 use Rattle.ipc_calls.specs.Parts.{pends_read}
@@ -25,7 +23,7 @@ returns-then-pends-clause-observed g c x is =
     let home = c.home-home.result in
     let home_is : home_of (homes_in (B.opening m)) t ≡ Some home = subst (λ homes. home_of homes t ≡ Some home) fits.1.homes_are c.home-home.ensures in
     let pends : where_is (homes_in (B.opening m)) (B.moves m) t ≡ Pend home
-    = read_pends (λ q. B.Fits q m) (λ q. B.cpu_of q) (λ d. B.IsStepwise × (is_in_section (phase d (B.acts m)) ≡ true)) (homes_in (B.opening m)) (B.moves m)
+    = read_pends (λ q. B.Fits q m) (λ q. B.cpu_of q) (B.MayHold m) (homes_in (B.opening m)) (B.moves m)
     t home p (λ q. O.queue_with q home) (O.queue_at m home) (law.moves_legal m cpu acts) fits.0
     (g.met.B.OwnedBuffers.queues m cpu home acts ((law.opens m cpu acts).queues t home home_is)) (sym c.pends.ensures ∙ c.if-pends.true) in
     inr (ap queue_place pends ∙ is)
@@ -65,7 +63,7 @@ returns-clause-observed g c x is =
     let within = c.in_ok-buffer.ensures.within (buffer, wait_list) refl in
     let found = c.in_ok-buffer.ensures.found (buffer, wait_list) refl in
     let sleeps : where_is (homes_in (B.opening m)) (B.moves m) t ≡ Asleep (At (Buffer buffer) wait_list)
-    = read_sleeps (λ q. B.Fits q m) (λ q. B.cpu_of q) (λ d. B.IsStepwise × (is_in_section (phase d (B.acts m)) ≡ true)) (homes_in (B.opening m)) (B.moves m)
+    = read_sleeps (λ q. B.Fits q m) (λ q. B.cpu_of q) (B.MayHold m) (homes_in (B.opening m)) (B.moves m)
     (length (B.caps m)) (B.wait_lists m) (law.lists p m fits.0) buffer within t wait_list p (λ q. O.wait_lists_with q buffer) (O.wait_lists_at m buffer) fits.0
     (g.met.B.OwnedBuffers.waiters_law m cpu buffer acts within) found in
     inr (ap queue_place sleeps ∙ (sleeps_there buffer wait_list ∙ (ap Some (sym c.waiters_of.ensures) ∙ is)))

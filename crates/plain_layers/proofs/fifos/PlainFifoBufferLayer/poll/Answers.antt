@@ -1,4 +1,4 @@
-use Rattle.std.proofs.Common.{◌≡◌, ◌≢◌, ◌<◌, List, Option, None, length, slice_set, subst, sym, ◌∙◌}
+use Rattle.std.proofs.Common.{◌≡◌, ◌≢◌, ◌<◌, ◌≤◌, ◌+◌, ◌/◌, ℕ, ap, arith, List, Option, None, length, slice_set, subst, sym, ◌∙◌}
 use Rattle.std.proofs.Math.ListN.{length-set}
 use Rattle.event_log.specs.declared.ids.CpuId.{CpuId}
 use Rattle.event_log.specs.declared.ids.Tid.{Tid}
@@ -7,15 +7,18 @@ use Rattle.layer_traits.specs.BufferLaw.{Called, IsRefused, MovesGrow, call_stat
 use Rattle.layer_traits.specs.declared.calls.Effect.{Effect}
 use Rattle.layer_traits.specs.declared.call_states.Stage.TheVariants.{Idle}
 use Rattle.layer_traits.specs.declared.call_states.CallState.{CallState}
-use Rattle.layer_traits.specs.Plans.{IsWhole}
 use Rattle.layer_traits.specs.QueueBlocks.{homes_in, inner}
 use Rattle.layer_traits.specs.Queues.{buffer_sections, moves_in}
+use Rattle.layer_traits.specs.Renaming.{viewed}
 use Rattle.layer_traits.specs.SleepLaw.{sleep_kernel}
 use Rattle.plain_layers.specs.Attempts.{attempts, effect_in}
-use Rattle.plain_layers.specs.Fifos.{IsOwned, caps_in, entries_in, reply_to, call_state_after}
+use Rattle.plain_layers.specs.Fifos.{IsOwned, caps_in, entries_in, reply_to, call_state_after, shown}
 use Rattle.plain_layers.proofs.FifoLemmas.{buffer_there, done_called, done_deferred, done_moves, done_refused}
 use Rattle.plain_layers.proofs.FifoLemmas.{done_sleeps, owned_after, reply_none, runs_small, set_waits}
 use Rattle.plain_layers.proofs.fifos.PlainFifoBufferLayer.poll.Goals as goal
+
+half_of_two : (n k : ℕ) → n ≤ k + 2 → n / 2 ≤ k / 2 + 1
+half_of_two n k less = omega (arith, less)
 
 pub whole-outcome-requires-clause-buffer : goal.whole-outcome-requires-clause-buffer
 whole-outcome-requires-clause-buffer g c =
@@ -49,7 +52,7 @@ returns-clause-called g c =
     let lower = c.args.self.now.lower in
     let fits = c.requires.fits in
     let said = c.whole-outcome.ensures in
-    let Acts = λ (d : CpuId). S.ActsFor m d × IsWhole S.IsStepwise × IsOwned (λ e. S.ActsFor m e) (inner (S.opening m)) in
+    let Acts = λ (d : CpuId). S.ActsFor m d × S.IsWhole × IsOwned (λ e. S.ActsFor m e) (inner (S.opening m)) in
     let small = runs_small (homes_in (S.opening m)) (S.cpu_of lower) (moves_in (sleep_kernel attempts (S.opening m)) (S.seen m)) (S.own lower).threads
     (g.met.S.SleepLayer.moves_legal m (S.cpu_of lower) (g.met.S.SleepLayer.own_cpu lower m fits.0)) (g.met.S.SleepLayer.stands lower m fits.0)
     (g.met.S.SleepLayer.opens m (S.cpu_of lower) (g.met.S.SleepLayer.own_cpu lower m fits.0)).room c.args.t c.requires.runs in
@@ -75,13 +78,13 @@ returns-clause-moves g c =
     let lower = c.args.self.now.lower in
     let fits = c.requires.fits in
     let said = c.whole-outcome.ensures in
-    let Acts = λ (d : CpuId). S.ActsFor m d × IsWhole S.IsStepwise × IsOwned (λ e. S.ActsFor m e) (inner (S.opening m)) in
+    let Acts = λ (d : CpuId). S.ActsFor m d × S.IsWhole × IsOwned (λ e. S.ActsFor m e) (inner (S.opening m)) in
     subst (λ o. MovesGrow Acts (S.cpu_of lower) (moves_in (sleep_kernel attempts (S.opening m)) (S.seen m)) (moves_in (sleep_kernel attempts o) (S.seen n)))
     (sym said.opening) (done_moves (S.opening m) (S.cpu_of lower) c.buffer_in.result c.attempt_in.result (S.seen m) (S.seen n) (S.own lower).threads
     (S.own c.whole-outcome.new.part) c.whole-outcome.result said.done Acts)
 
-pub returns-clause-fits : goal.returns-clause-fits
-returns-clause-fits g c =
+pub returns-clause-framed : goal.returns-clause-framed
+returns-clause-framed g c =
     let S = g.S.SleepLayer in
     let m = c.args.m.now in
     let n = c.whole-outcome.new.m in
@@ -96,43 +99,36 @@ returns-clause-fits g c =
     let set : slice_set c.args.self.now.call_states c.from.result c.next.result
     ≡ slice_set c.args.self.now.call_states c.args.t.0 (call_state_after c.args.call.now (effect_in c.whole-outcome.result.out))
     = λ i. slice_set c.args.self.now.call_states (c.from.ensures i) (after i) in
-    let within : c.args.t.0 < length c.args.self.now.call_states = subst (λ k. c.args.t.0 < k) (sym fits.3.slots) small in (
-      said.fits,
-      fits.1,
-      owned_after (λ e. S.ActsFor m e) (λ e. S.ActsFor n e) (S.opening m) (S.opening n) said.opening said.acts fits.2,
-      record {
-        none = said.none;
-        deferred = done_deferred (S.opening m) (S.cpu_of lower) c.buffer_in.result c.attempt_in.result (S.seen m) (S.seen n) (S.own lower).threads
-            (S.own c.whole-outcome.new.part) c.whole-outcome.result said.done;
-        waits = subst (λ (l : List CallState). (u : Tid) → (call_state_of l u).stage ≢ Idle → (call_state_of l u).effect ≡ None) (sym set)
-            (set_waits c.args.self.now.call_states c.args.t c.args.call.now (effect_in c.whole-outcome.result.out) within fits.3.waits);
-        slots = length-set c.args.self.now.call_states c.from.result c.next.result ∙ fits.3.slots;
-      },
-    )
-
-pub returns-clause-acts : goal.returns-clause-acts
-returns-clause-acts g c = λ d acts.
-    let S = g.S.SleepLayer in
-    let m = c.args.m.now in
-    let n = c.whole-outcome.new.m in
-    let lower = c.args.self.now.lower in
-    let fits = c.requires.fits in
-    let said = c.whole-outcome.ensures in
-    (said.acts d acts.0, acts.1, owned_after (λ e. S.ActsFor m e) (λ e. S.ActsFor n e) (S.opening m) (S.opening n) said.opening said.acts acts.2)
-
-pub returns-clause-others : goal.returns-clause-others
-returns-clause-others g c = λ p other theirs.
-    let S = g.S.SleepLayer in
-    let m = c.args.m.now in
-    let n = c.whole-outcome.new.m in
-    let lower = c.args.self.now.lower in
-    let fits = c.requires.fits in
-    let said = c.whole-outcome.ensures in (
-      said.others p.lower other theirs.0,
-      theirs.1,
-      owned_after (λ e. S.ActsFor m e) (λ e. S.ActsFor n e) (S.opening m) (S.opening n) said.opening said.acts theirs.2,
-      theirs.3,
-    )
+    let within : c.args.t.0 < length c.args.self.now.call_states = subst (λ k. c.args.t.0 < k) (sym fits.3.slots) small in
+    record {
+      fits = (
+        said.fits,
+        fits.1,
+        owned_after (λ e. S.ActsFor m e) (λ e. S.ActsFor n e) (S.opening m) (S.opening n) said.opening said.acts fits.2,
+        record {
+          none = said.none;
+          deferred = done_deferred (S.opening m) (S.cpu_of lower) c.buffer_in.result c.attempt_in.result (S.seen m) (S.seen n) (S.own lower).threads
+              (S.own c.whole-outcome.new.part) c.whole-outcome.result said.done;
+          waits = subst (λ (l : List CallState). (u : Tid) → (call_state_of l u).stage ≢ Idle → (call_state_of l u).effect ≡ None) (sym set)
+              (set_waits c.args.self.now.call_states c.args.t c.args.call.now (effect_in c.whole-outcome.result.out) within fits.3.waits);
+          slots = length-set c.args.self.now.call_states c.from.result c.next.result ∙ fits.3.slots;
+        },
+      );
+      cpu = said.cpu;
+      stays = record {
+        opening = ap (viewed shown) said.opening;
+        site = said.site;
+        room = half_of_two _ _ said.room;
+        acts = λ d acts. (said.acts d acts.0, acts.1, owned_after (λ e. S.ActsFor m e) (λ e. S.ActsFor n e) (S.opening m) (S.opening n) said.opening said.acts acts.2);
+      };
+      others = λ p other theirs. (
+        said.others p.lower other theirs.0,
+        theirs.1,
+        owned_after (λ e. S.ActsFor m e) (λ e. S.ActsFor n e) (S.opening m) (S.opening n) said.opening said.acts theirs.2,
+        theirs.3,
+      );
+      holders = λ d other acts held. said.holders d other acts.0 held;
+    }
 
 pub returns-clause-prompt : goal.returns-clause-prompt
 returns-clause-prompt g c = λ whole none.

@@ -50,4 +50,4 @@ returns-clause-acts g c =
     let most = c.requires.buffers in
     let few : length caps ≤ 256 = omega (arith, most) in
     both_ok r (λ m. (d : CpuId) → d.0 < CPUS → S.ActsFor m d) (λ m. inner (S.opening m) ≡ fresh_buffers caps) _ c.open.ensures.acts c.open.ensures.buffers
-    (λ m acts fresh d within. (acts d within, g.met.S.OpensAttempts.whole, record { all = acts; fresh = fresh_read (S.opening m) caps fresh few }))
+    (λ m acts fresh d within. (acts d within, g.met.S.OpensAttempts.whole.0, record { all = acts; fresh = fresh_read (S.opening m) caps fresh few }))

@@ -1,4 +1,4 @@
-use Rattle.std.proofs.Common.{◌≡◌, true, false, Option, Some, None, ◌<◌, is_some, map, option_map, slice_set, ap, sym, ◌∙◌, subst}
+use Rattle.std.proofs.Common.{◌≡◌, refl, true, false, Option, Some, None, ◌<◌, is_some, map, option_map, slice_set, ap, sym, ◌∙◌, subst}
 use Rattle.std.proofs.Math.Path.{transport}
 use Rattle.event_log.specs.declared.ids.LockId.{LockId}
 use Rattle.event_log.specs.declared.ids.TheConstants.{THREADS}
@@ -17,6 +17,7 @@ use Rattle.layer_traits.specs.Queues.{QueueAllowed}
 use Rattle.layer_traits.specs.Renaming.{renamed_edit, renamed_events, renamed_sched, viewed}
 use Rattle.layer_traits.specs.SleepLaw.{Sleeping}
 use Rattle.layer_traits.specs.Sleeping.{SleepState}
+use Rattle.layer_traits.proofs.FrameLemmas.{untouched, viewed_stays}
 use Rattle.queuing_lock.specs.declared.edits.QBlock.{QBlock}
 use Rattle.queuing_lock.specs.Nested.{edit_in, nested_lock_of}
 use Rattle.queuing_lock.specs.NestedLaws.{beneath, here}
@@ -30,18 +31,25 @@ use Rattle.queuing_lock.proofs.qlock.QLockQLockLayer.poll.Goals as goal
 
 -- the caller slept for the lock
 
-pub returns-then-has-clause-fits : goal.returns-then-has-clause-fits
-returns-then-has-clause-fits g c =
+pub returns-then-has-clause-framed : goal.returns-then-has-clause-framed
+returns-then-has-clause-framed g c =
     let S = g.S.SleepLayer in
     let rules = g.F.Locked.rules in
     let self = c.args.self.now in
-    let m = c.args.m.now in (
-      c.requires.fits.0,
-      subst (λ l. SleptFits rules (viewed nested_lock_of (S.opening m)) (S.cpu_of self.lower) (renamed_events edit_in (S.seen m)) l) (sym c.over.ensures)
-          (slept_less rules (viewed nested_lock_of (S.opening m)) (S.cpu_of self.lower) c.caller-t.result
-          (renamed_events edit_in (S.seen m)) self.slept.buffers c.requires.fits.1),
-      c.requires.fits.2,
-    )
+    let m = c.args.m.now in
+    record {
+      fits = (
+        c.requires.fits.0,
+        subst (λ l. SleptFits rules (viewed nested_lock_of (S.opening m)) (S.cpu_of self.lower) (renamed_events edit_in (S.seen m)) l) (sym c.over.ensures)
+            (slept_less rules (viewed nested_lock_of (S.opening m)) (S.cpu_of self.lower) c.caller-t.result
+            (renamed_events edit_in (S.seen m)) self.slept.buffers c.requires.fits.1),
+        c.requires.fits.2,
+      );
+      cpu = refl;
+      stays = untouched (λ k. viewed nested_lock_of (S.opening k)) S.site S.room S.ActsFor m;
+      others = λ p other fits. fits;
+      holders = λ d other acts held. held;
+    }
 
 pub returns-then-has-clause-seen : goal.returns-then-has-clause-seen
 returns-then-has-clause-seen g c =
@@ -156,8 +164,8 @@ complete-requires g c =
 
 -- the call goes on
 
-pub returns-in-None-clause-fits : goal.returns-in-None-clause-fits
-returns-in-None-clause-fits g c =
+pub returns-in-None-clause-framed : goal.returns-in-None-clause-framed
+returns-in-None-clause-framed g c =
     let S = g.S.SleepLayer in
     let met = g.met.S.SleepLayer in
     let rules = g.F.Locked.rules in
@@ -194,14 +202,28 @@ returns-in-None-clause-fits g c =
     let part = c.poll.new.self in
     let got : Left (Sleeping (QOut g.row.F-Out.Denot)) (Outcome (QOut g.row.F-Out.Denot)) = record { own = S.own part; answer = c.poll.result } in
     let lawful : IsLawful (QueueAllowed (beneath rules (S.opening m))) (S.seen n)
-    = subst (λ (o : LockId → Option (QueueBlock (SleepState (QBlock g.row.F-Block.Denot)))). IsLawful (QueueAllowed (beneath rules o)) (S.seen n)) said.opening
-    (met.lawful n cpu (said.acts cpu acts)) in (
-      said.fits,
-      transport (λ i. SleptFits rules (viewed nested_lock_of (sym said.opening i)) (sym said.cpu i) (renamed_events edit_in (S.seen n)) slept)
-          (slept_after rules (S.opening m) before awake (λ d. S.ActsFor m d) (S.seen n) got said.seen acts lawful),
-      subst (λ u. DeferredFits u (S.own part).deferred (S.own part).threads.hand) (sym (under_is (S.under_way part) c.poll.result b e said.call))
-          (deferred_after rules (S.opening m) before awake (λ d. S.ActsFor m d) (S.seen n) got said.seen),
-    )
+    = subst (λ (o : LockId → Option (QueueBlock (SleepState (QBlock g.row.F-Block.Denot)))). IsLawful (QueueAllowed (beneath rules o)) (S.seen n)) said.framed.stays.opening
+    (met.lawful n cpu (said.framed.stays.acts cpu acts)) in
+    record {
+      fits = (
+        said.framed.fits,
+        transport (λ i. SleptFits rules (viewed nested_lock_of (sym said.framed.stays.opening i)) (sym said.framed.cpu i) (renamed_events edit_in (S.seen n)) slept)
+            (slept_after rules (S.opening m) before awake (λ d. S.ActsFor m d) (S.seen n) got said.seen acts lawful),
+        subst (λ u. DeferredFits u (S.own part).deferred (S.own part).threads.hand) (sym (under_is (S.under_way part) c.poll.result b e said.call))
+            (deferred_after rules (S.opening m) before awake (λ d. S.ActsFor m d) (S.seen n) got said.seen),
+      );
+      cpu = said.framed.cpu;
+      stays = viewed_stays (viewed nested_lock_of) said.framed.stays;
+      others = λ p apart fits. (
+        said.framed.others p.lower apart fits.0,
+        transport (λ i. SleptFits rules (viewed nested_lock_of (sym said.framed.stays.opening i)) (S.cpu_of p.lower) (renamed_events edit_in (S.seen n)) p.slept.buffers)
+            (others_after rules (S.opening m) (S.cpu_of p.lower) cpu apart (λ d. S.ActsFor m d) (met.own_cpu p.lower m fits.0) b e (S.seen m) (S.seen n)
+            (S.own self.lower) got said.seen lawful
+            p.slept.buffers fits.1),
+        fits.2,
+      );
+      holders = said.framed.holders;
+    }
 
 pub returns-in-None-clause-seen : goal.returns-in-None-clause-seen
 returns-in-None-clause-seen g c =
@@ -241,39 +263,13 @@ returns-in-None-clause-seen g c =
     let part = c.poll.new.self in
     let got : Left (Sleeping (QOut g.row.F-Out.Denot)) (Outcome (QOut g.row.F-Out.Denot)) = record { own = S.own part; answer = c.poll.result } in
     let lawful : IsLawful (QueueAllowed (beneath rules (S.opening m))) (S.seen n)
-    = subst (λ (o : LockId → Option (QueueBlock (SleepState (QBlock g.row.F-Block.Denot)))). IsLawful (QueueAllowed (beneath rules o)) (S.seen n)) said.opening
-    (met.lawful n cpu (said.acts cpu acts)) in
+    = subst (λ (o : LockId → Option (QueueBlock (SleepState (QBlock g.row.F-Block.Denot)))). IsLawful (QueueAllowed (beneath rules o)) (S.seen n)) said.framed.stays.opening
+    (met.lawful n cpu (said.framed.stays.acts cpu acts)) in
     let leaves : locking (S.own part) slept None ≡ left_after (lock_caller rules e) b slept (S.own part) c.poll.result
     = ap (left_after (lock_caller rules e) b slept (S.own part)) (sym c.in-None.is) in
     locks rules (S.opening m) before awake (λ d. S.ActsFor m d) (S.seen n) got said.seen
     (option_map (renamed_sched edit_in) (S.under_way part))
     (locking (S.own part) slept None) (under_is (S.under_way part) c.poll.result b e said.call) leaves
-
-pub returns-in-None-clause-others : goal.returns-in-None-clause-others
-returns-in-None-clause-others g c = λ p apart fits.
-    let S = g.S.SleepLayer in
-    let met = g.met.S.SleepLayer in
-    let rules = g.F.Locked.rules in
-    let self = c.args.self.now in
-    let m = c.args.m.now in
-    let cpu = S.cpu_of self.lower in
-    let b = c.args.buffer in
-    let e = c.args.edit in
-    let acts = met.own_cpu self.lower m c.requires.fits.0 in
-    let said = c.poll.ensures in
-    let n = c.poll.new.m in
-    let part = c.poll.new.self in
-    let got : Left (Sleeping (QOut g.row.F-Out.Denot)) (Outcome (QOut g.row.F-Out.Denot)) = record { own = S.own part; answer = c.poll.result } in
-    let lawful : IsLawful (QueueAllowed (beneath rules (S.opening m))) (S.seen n)
-    = subst (λ (o : LockId → Option (QueueBlock (SleepState (QBlock g.row.F-Block.Denot)))). IsLawful (QueueAllowed (beneath rules o)) (S.seen n)) said.opening
-    (met.lawful n cpu (said.acts cpu acts)) in (
-      said.others p.lower apart fits.0,
-      transport (λ i. SleptFits rules (viewed nested_lock_of (sym said.opening i)) (S.cpu_of p.lower) (renamed_events edit_in (S.seen n)) p.slept.buffers)
-          (others_after rules (S.opening m) (S.cpu_of p.lower) cpu apart (λ d. S.ActsFor m d) (met.own_cpu p.lower m fits.0) b e (S.seen m) (S.seen n)
-          (S.own self.lower) got said.seen lawful
-          p.slept.buffers fits.1),
-      fits.2,
-    )
 
 pub returns-in-None-clause-follows : goal.returns-in-None-clause-follows
 returns-in-None-clause-follows g c = λ step.
@@ -313,8 +309,8 @@ returns-in-None-clause-follows g c = λ step.
     let part = c.poll.new.self in
     let got : Left (Sleeping (QOut g.row.F-Out.Denot)) (Outcome (QOut g.row.F-Out.Denot)) = record { own = S.own part; answer = c.poll.result } in
     let lawful : IsLawful (QueueAllowed (beneath rules (S.opening m))) (S.seen n)
-    = subst (λ (o : LockId → Option (QueueBlock (SleepState (QBlock g.row.F-Block.Denot)))). IsLawful (QueueAllowed (beneath rules o)) (S.seen n)) said.opening
-    (met.lawful n cpu (said.acts cpu acts)) in
+    = subst (λ (o : LockId → Option (QueueBlock (SleepState (QBlock g.row.F-Block.Denot)))). IsLawful (QueueAllowed (beneath rules o)) (S.seen n)) said.framed.stays.opening
+    (met.lawful n cpu (said.framed.stays.acts cpu acts)) in
     let leaves : locking (S.own part) slept None ≡ left_after (lock_caller rules e) b slept (S.own part) c.poll.result
     = ap (left_after (lock_caller rules e) b slept (S.own part)) (sym c.in-None.is) in
     subst (λ l. Follows (λ d. S.ActsFor m d) (table_of (queue_rules (lock_rules rules) (lock_moves rules))) (viewed nested_lock_of (S.opening m)) cpu
@@ -325,8 +321,8 @@ returns-in-None-clause-follows g c = λ step.
 
 -- the section answers
 
-pub returns-in-Some-clause-fits : goal.returns-in-Some-clause-fits
-returns-in-Some-clause-fits g c =
+pub returns-in-Some-clause-framed : goal.returns-in-Some-clause-framed
+returns-in-Some-clause-framed g c =
     let S = g.S.SleepLayer in
     let met = g.met.S.SleepLayer in
     let rules = g.F.Locked.rules in
@@ -363,19 +359,33 @@ returns-in-Some-clause-fits g c =
     let part = c.poll.new.self in
     let got : Left (Sleeping (QOut g.row.F-Out.Denot)) (Outcome (QOut g.row.F-Out.Denot)) = record { own = S.own part; answer = c.poll.result } in
     let lawful : IsLawful (QueueAllowed (beneath rules (S.opening m))) (S.seen n)
-    = subst (λ (o : LockId → Option (QueueBlock (SleepState (QBlock g.row.F-Block.Denot)))). IsLawful (QueueAllowed (beneath rules o)) (S.seen n)) said.opening
-    (met.lawful n cpu (said.acts cpu acts)) in
+    = subst (λ (o : LockId → Option (QueueBlock (SleepState (QBlock g.row.F-Block.Denot)))). IsLawful (QueueAllowed (beneath rules o)) (S.seen n)) said.framed.stays.opening
+    (met.lawful n cpu (said.framed.stays.acts cpu acts)) in
     let outcome = c.in-Some.outcome in
     let keeps : c.complete.new.self.buffers ≡ slept_left_by (lock_caller rules e) b slept outcome
-    = c.complete.ensures.slept ∙ ap (λ t. slept_left_by t b slept outcome) c.caller-t.ensures in (
-      said.fits,
-      transport (λ i. SleptFits rules (viewed nested_lock_of (sym said.opening i)) (sym said.cpu i) (renamed_events edit_in (S.seen n)) c.complete.new.self.buffers)
-          (subst (λ l. SleptFits rules (viewed nested_lock_of (S.opening m)) cpu (renamed_events edit_in (S.seen n)) l) (sym keeps)
-          (slept_reported rules (S.opening m) before awake (λ d. S.ActsFor m d)
-          (S.seen n) got said.seen acts lawful outcome c.in-Some.is)),
-      subst (λ u. DeferredFits u (S.own part).deferred (S.own part).threads.hand) (sym (under_is (S.under_way part) c.poll.result b e said.call))
-          (deferred_after rules (S.opening m) before awake (λ d. S.ActsFor m d) (S.seen n) got said.seen),
-    )
+    = c.complete.ensures.slept ∙ ap (λ t. slept_left_by t b slept outcome) c.caller-t.ensures in
+    record {
+      fits = (
+        said.framed.fits,
+        transport (λ i. SleptFits rules (viewed nested_lock_of (sym said.framed.stays.opening i)) (sym said.framed.cpu i) (renamed_events edit_in (S.seen n)) c.complete.new.self.buffers)
+            (subst (λ l. SleptFits rules (viewed nested_lock_of (S.opening m)) cpu (renamed_events edit_in (S.seen n)) l) (sym keeps)
+            (slept_reported rules (S.opening m) before awake (λ d. S.ActsFor m d)
+            (S.seen n) got said.seen acts lawful outcome c.in-Some.is)),
+        subst (λ u. DeferredFits u (S.own part).deferred (S.own part).threads.hand) (sym (under_is (S.under_way part) c.poll.result b e said.call))
+            (deferred_after rules (S.opening m) before awake (λ d. S.ActsFor m d) (S.seen n) got said.seen),
+      );
+      cpu = said.framed.cpu;
+      stays = viewed_stays (viewed nested_lock_of) said.framed.stays;
+      others = λ p apart fits. (
+        said.framed.others p.lower apart fits.0,
+        transport (λ i. SleptFits rules (viewed nested_lock_of (sym said.framed.stays.opening i)) (S.cpu_of p.lower) (renamed_events edit_in (S.seen n)) p.slept.buffers)
+            (others_after rules (S.opening m) (S.cpu_of p.lower) cpu apart (λ d. S.ActsFor m d) (met.own_cpu p.lower m fits.0) b e (S.seen m) (S.seen n)
+            (S.own self.lower) got said.seen lawful
+            p.slept.buffers fits.1),
+        fits.2,
+      );
+      holders = said.framed.holders;
+    }
 
 pub returns-in-Some-clause-seen : goal.returns-in-Some-clause-seen
 returns-in-Some-clause-seen g c =
@@ -415,8 +425,8 @@ returns-in-Some-clause-seen g c =
     let part = c.poll.new.self in
     let got : Left (Sleeping (QOut g.row.F-Out.Denot)) (Outcome (QOut g.row.F-Out.Denot)) = record { own = S.own part; answer = c.poll.result } in
     let lawful : IsLawful (QueueAllowed (beneath rules (S.opening m))) (S.seen n)
-    = subst (λ (o : LockId → Option (QueueBlock (SleepState (QBlock g.row.F-Block.Denot)))). IsLawful (QueueAllowed (beneath rules o)) (S.seen n)) said.opening
-    (met.lawful n cpu (said.acts cpu acts)) in
+    = subst (λ (o : LockId → Option (QueueBlock (SleepState (QBlock g.row.F-Block.Denot)))). IsLawful (QueueAllowed (beneath rules o)) (S.seen n)) said.framed.stays.opening
+    (met.lawful n cpu (said.framed.stays.acts cpu acts)) in
     let outcome = c.in-Some.outcome in
     let keeps : c.complete.new.self.buffers ≡ slept_left_by (lock_caller rules e) b slept outcome
     = c.complete.ensures.slept ∙ ap (λ t. slept_left_by t b slept outcome) c.caller-t.ensures in
@@ -427,32 +437,6 @@ returns-in-Some-clause-seen g c =
     locks rules (S.opening m) before awake (λ d. S.ActsFor m d) (S.seen n) got said.seen
     (option_map (renamed_sched edit_in) (S.under_way part))
     (locking (S.own part) c.complete.new.self.buffers c.complete.result) (under_is (S.under_way part) c.poll.result b e said.call) leaves
-
-pub returns-in-Some-clause-others : goal.returns-in-Some-clause-others
-returns-in-Some-clause-others g c = λ p apart fits.
-    let S = g.S.SleepLayer in
-    let met = g.met.S.SleepLayer in
-    let rules = g.F.Locked.rules in
-    let self = c.args.self.now in
-    let m = c.args.m.now in
-    let cpu = S.cpu_of self.lower in
-    let b = c.args.buffer in
-    let e = c.args.edit in
-    let acts = met.own_cpu self.lower m c.requires.fits.0 in
-    let said = c.poll.ensures in
-    let n = c.poll.new.m in
-    let part = c.poll.new.self in
-    let got : Left (Sleeping (QOut g.row.F-Out.Denot)) (Outcome (QOut g.row.F-Out.Denot)) = record { own = S.own part; answer = c.poll.result } in
-    let lawful : IsLawful (QueueAllowed (beneath rules (S.opening m))) (S.seen n)
-    = subst (λ (o : LockId → Option (QueueBlock (SleepState (QBlock g.row.F-Block.Denot)))). IsLawful (QueueAllowed (beneath rules o)) (S.seen n)) said.opening
-    (met.lawful n cpu (said.acts cpu acts)) in (
-      said.others p.lower apart fits.0,
-      transport (λ i. SleptFits rules (viewed nested_lock_of (sym said.opening i)) (S.cpu_of p.lower) (renamed_events edit_in (S.seen n)) p.slept.buffers)
-          (others_after rules (S.opening m) (S.cpu_of p.lower) cpu apart (λ d. S.ActsFor m d) (met.own_cpu p.lower m fits.0) b e (S.seen m) (S.seen n)
-          (S.own self.lower) got said.seen lawful
-          p.slept.buffers fits.1),
-      fits.2,
-    )
 
 pub returns-in-Some-clause-follows : goal.returns-in-Some-clause-follows
 returns-in-Some-clause-follows g c = λ step.
@@ -492,8 +476,8 @@ returns-in-Some-clause-follows g c = λ step.
     let part = c.poll.new.self in
     let got : Left (Sleeping (QOut g.row.F-Out.Denot)) (Outcome (QOut g.row.F-Out.Denot)) = record { own = S.own part; answer = c.poll.result } in
     let lawful : IsLawful (QueueAllowed (beneath rules (S.opening m))) (S.seen n)
-    = subst (λ (o : LockId → Option (QueueBlock (SleepState (QBlock g.row.F-Block.Denot)))). IsLawful (QueueAllowed (beneath rules o)) (S.seen n)) said.opening
-    (met.lawful n cpu (said.acts cpu acts)) in
+    = subst (λ (o : LockId → Option (QueueBlock (SleepState (QBlock g.row.F-Block.Denot)))). IsLawful (QueueAllowed (beneath rules o)) (S.seen n)) said.framed.stays.opening
+    (met.lawful n cpu (said.framed.stays.acts cpu acts)) in
     let outcome = c.in-Some.outcome in
     let keeps : c.complete.new.self.buffers ≡ slept_left_by (lock_caller rules e) b slept outcome
     = c.complete.ensures.slept ∙ ap (λ t. slept_left_by t b slept outcome) c.caller-t.ensures in

@@ -6,13 +6,13 @@ use Rattle.sleep_wakeup.proofs.sleeper.SleeperSleepLayer.look.Goals as goal
 
 pub returns-clause-seen : goal.returns-clause-seen
 returns-clause-seen g c =
-    let S = g.S.SchedLayer in
+    let S = g.S.Layer in
     let m = c.args.m.now in
     grows_renamed edit_in (λ d. S.ActsFor m d) (S.seen m) (S.seen c.look.new.m) c.look.ensures.seen
 
 pub returns-clause-tries : goal.returns-clause-tries
 returns-clause-tries g c = λ step looked.
-    let S = g.S.SchedLayer in
+    let S = g.S.Layer in
     let m = c.args.m.now in
     tries_renamed (renamed_edit edit_in) (λ d. S.ActsFor m d) (S.cpu_of c.args.self.now.lower) (S.acts m) (S.acts c.look.new.m)
     (c.look.ensures.tries step looked)

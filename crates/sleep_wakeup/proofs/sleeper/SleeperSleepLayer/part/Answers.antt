@@ -8,11 +8,14 @@ use Rattle.sleep_wakeup.proofs.sleeper.SleeperSleepLayer.part.Goals as goal
 
 pub returns-clause-fits : goal.returns-clause-fits
 returns-clause-fits g c = λ m acts outside none homes queue nobody.
-    let S = g.S.SchedLayer in
+    let S = g.S.Layer in
     let part = c.part.result in (
-      c.part.ensures.fits m acts outside (nothing_seen (S.seen m) none) (sym (homes_viewed state_of (S.opening m)) ∙ homes)
-          (there_viewed state_of (S.opening m) (Pending c.args.cpu) queue),
+      c.part.ensures.fits m acts outside (
+        nothing_seen (S.seen m) none,
+        sym (homes_viewed state_of (S.opening m)) ∙ homes,
+        there_viewed state_of (S.opening m) (Pending c.args.cpu) queue,
+      ),
       nobody_beneath (S.opening m) nobody,
-      fresh_deferred g.row.E-Out.Denot (S.under_way part) (S.threads part).hand c.part.ensures.call,
+      fresh_deferred g.row.E-Out.Denot (S.under_way part) (S.own part).hand c.part.ensures.call,
       tt,
     )

@@ -19,18 +19,18 @@ use Rattle.sleep_wakeup.proofs.sleeper.SleeperSleepLayer.poll.Goals as goal
 pub poll-requires-clause-call : goal.poll-requires-clause-call
 poll-requires-clause-call g c =
     let rules = g.E.Sleeps.rules in
-    let S = g.S.SchedLayer in
+    let S = g.S.Layer in
     let self = c.args.self.now in
     let m = c.args.m.now in
     let cpu = S.cpu_of self.lower in
-    let threads = S.threads self.lower in
+    let threads = S.own self.lower in
     let hand = None in
     let is : hand ≡ threads.hand = sym c.in-None.is ∙ c.hand.ensures in
     let buffer = c.args.buffer in
     let edit = c.args.edit in
     let fits : DeferredFits self.deferred (S.under_way self.lower) hand = subst (λ h. DeferredFits self.deferred (S.under_way self.lower) h)
     (sym is) c.requires.fits.2 in
-    let met = g.met.S.SchedLayer in
+    let met = g.met.S.Layer in
     let acts = met.own_cpu self.lower m c.requires.fits.0 in
     subst (λ s. MaySched (beneath rules (S.opening m)) cpu (S.seen m) threads (S.under_way self.lower) s) (sym c.section.ensures)
     (nested_may rules (S.opening m) cpu (S.seen m) threads buffer edit (met.opens m cpu acts) (met.lawful m cpu acts) c.requires.fits.1
@@ -40,11 +40,11 @@ poll-requires-clause-call g c =
 pub returns-in-None-poll-clause-seen : goal.returns-in-None-poll-clause-seen
 returns-in-None-poll-clause-seen g c =
     let rules = g.E.Sleeps.rules in
-    let S = g.S.SchedLayer in
+    let S = g.S.Layer in
     let self = c.args.self.now in
     let m = c.args.m.now in
     let cpu = S.cpu_of self.lower in
-    let threads = S.threads self.lower in
+    let threads = S.own self.lower in
     let hand = None in
     let is : hand ≡ threads.hand = sym c.in-None.is ∙ c.hand.ensures in
     let buffer = c.args.buffer in
@@ -56,7 +56,7 @@ returns-in-None-poll-clause-seen g c =
     (MaySleep (here rules (S.opening m)) cpu (renamed_events edit_in (S.seen m)) threads buffer edit) fits c.requires.call
     (λ may. is ∙ may.hand) in
     let n = c.poll.new.m in
-    let after = S.threads c.poll.new.self in
+    let after = S.own c.poll.new.self in
     let polled : SchedPolled (beneath rules (S.opening m)) (λ d. S.ActsFor m d) cpu (due hand buffer (as_edit edit)) None (S.seen m) (S.seen n) threads after
     = transport (λ i. SchedPolled (beneath rules (S.opening m)) (λ d. S.ActsFor m d) cpu (c.section.ensures i) (c.in-None-poll.is i) (S.seen m)
     (S.seen n) threads after) c.poll.ensures.seen in
@@ -65,17 +65,17 @@ returns-in-None-poll-clause-seen g c =
 pub returns-in-None-poll-clause-follows : goal.returns-in-None-poll-clause-follows
 returns-in-None-poll-clause-follows g c = λ step.
     let rules = g.E.Sleeps.rules in
-    let S = g.S.SchedLayer in
+    let S = g.S.Layer in
     let self = c.args.self.now in
     let m = c.args.m.now in
     let cpu = S.cpu_of self.lower in
-    let threads = S.threads self.lower in
+    let threads = S.own self.lower in
     let hand = None in
     let is : hand ≡ threads.hand = sym c.in-None.is ∙ c.hand.ensures in
     let buffer = c.args.buffer in
     let edit = c.args.edit in
     let n = c.poll.new.m in
-    let after = S.threads c.poll.new.self in
+    let after = S.own c.poll.new.self in
     let followed : Follows (λ d. S.ActsFor m d) (table_of (queue_rules (nested_rules rules) (nested_moves rules))) (S.opening m) cpu
     (sched_plan (nested_moves rules) (homes_in (S.opening m)) cpu (due hand buffer (as_edit edit)) threads) (S.acts m) (S.acts n) (sched_left after None)
     = transport (λ i. Follows (λ d. S.ActsFor m d) (table_of (queue_rules (nested_rules rules) (nested_moves rules))) (S.opening m) cpu
@@ -87,11 +87,11 @@ returns-in-None-poll-clause-follows g c = λ step.
 pub returns-in-None-clause-seen : goal.returns-in-None-clause-seen
 returns-in-None-clause-seen g c =
     let rules = g.E.Sleeps.rules in
-    let S = g.S.SchedLayer in
+    let S = g.S.Layer in
     let self = c.args.self.now in
     let m = c.args.m.now in
     let cpu = S.cpu_of self.lower in
-    let threads = S.threads self.lower in
+    let threads = S.own self.lower in
     let hand = None in
     let is : hand ≡ threads.hand = sym c.in-None.is ∙ c.hand.ensures in
     let buffer = c.args.buffer in
@@ -103,7 +103,7 @@ returns-in-None-clause-seen g c =
     (MaySleep (here rules (S.opening m)) cpu (renamed_events edit_in (S.seen m)) threads buffer edit) fits c.requires.call
     (λ may. is ∙ may.hand) in
     let n = c.poll.new.m in
-    let after = S.threads c.poll.new.self in
+    let after = S.own c.poll.new.self in
     let polled : SchedPolled (beneath rules (S.opening m)) (λ d. S.ActsFor m d) cpu (due hand buffer (as_edit edit)) (Some c.in-Some-poll.answer) (S.seen m)
     (S.seen n) threads after
     = transport (λ i. SchedPolled (beneath rules (S.opening m)) (λ d. S.ActsFor m d) cpu (c.section.ensures i) (c.in-Some-poll.is i) (S.seen m)
@@ -118,17 +118,17 @@ returns-in-None-clause-seen g c =
 pub returns-in-None-clause-follows : goal.returns-in-None-clause-follows
 returns-in-None-clause-follows g c = λ step.
     let rules = g.E.Sleeps.rules in
-    let S = g.S.SchedLayer in
+    let S = g.S.Layer in
     let self = c.args.self.now in
     let m = c.args.m.now in
     let cpu = S.cpu_of self.lower in
-    let threads = S.threads self.lower in
+    let threads = S.own self.lower in
     let hand = None in
     let is : hand ≡ threads.hand = sym c.in-None.is ∙ c.hand.ensures in
     let buffer = c.args.buffer in
     let edit = c.args.edit in
     let n = c.poll.new.m in
-    let after = S.threads c.poll.new.self in
+    let after = S.own c.poll.new.self in
     let followed : Follows (λ d. S.ActsFor m d) (table_of (queue_rules (nested_rules rules) (nested_moves rules))) (S.opening m) cpu
     (sched_plan (nested_moves rules) (homes_in (S.opening m)) cpu (due hand buffer (as_edit edit)) threads) (S.acts m) (S.acts n)
     (sched_left after (Some c.in-Some-poll.answer))
@@ -147,18 +147,18 @@ returns-in-None-clause-follows g c = λ step.
 pub poll-requires-in-Some-clause-call : goal.poll-requires-in-Some-clause-call
 poll-requires-in-Some-clause-call g c =
     let rules = g.E.Sleeps.rules in
-    let S = g.S.SchedLayer in
+    let S = g.S.Layer in
     let self = c.args.self.now in
     let m = c.args.m.now in
     let cpu = S.cpu_of self.lower in
-    let threads = S.threads self.lower in
+    let threads = S.own self.lower in
     let hand = (Some c.in-Some.t) in
     let is : hand ≡ threads.hand = sym c.in-Some.is ∙ c.hand.ensures in
     let buffer = c.args.buffer in
     let edit = c.args.edit in
     let fits : DeferredFits self.deferred (S.under_way self.lower) hand = subst (λ h. DeferredFits self.deferred (S.under_way self.lower) h)
     (sym is) c.requires.fits.2 in
-    let met = g.met.S.SchedLayer in
+    let met = g.met.S.Layer in
     let acts = met.own_cpu self.lower m c.requires.fits.0 in
     nested_may rules (S.opening m) cpu (S.seen m) threads buffer edit (met.opens m cpu acts) (met.lawful m cpu acts) c.requires.fits.1
     (met.stands self.lower m c.requires.fits.0)
@@ -167,11 +167,11 @@ poll-requires-in-Some-clause-call g c =
 pub returns-in-None-poll-2-clause-seen : goal.returns-in-None-poll-2-clause-seen
 returns-in-None-poll-2-clause-seen g c =
     let rules = g.E.Sleeps.rules in
-    let S = g.S.SchedLayer in
+    let S = g.S.Layer in
     let self = c.args.self.now in
     let m = c.args.m.now in
     let cpu = S.cpu_of self.lower in
-    let threads = S.threads self.lower in
+    let threads = S.own self.lower in
     let hand = (Some c.in-Some.t) in
     let is : hand ≡ threads.hand = sym c.in-Some.is ∙ c.hand.ensures in
     let buffer = c.args.buffer in
@@ -183,7 +183,7 @@ returns-in-None-poll-2-clause-seen g c =
     (MaySleep (here rules (S.opening m)) cpu (renamed_events edit_in (S.seen m)) threads buffer edit) fits c.requires.call
     (λ may. is ∙ may.hand) in
     let n = c.poll-in-Some.new.m in
-    let after = S.threads c.poll-in-Some.new.self in
+    let after = S.own c.poll-in-Some.new.self in
     let polled : SchedPolled (beneath rules (S.opening m)) (λ d. S.ActsFor m d) cpu (due hand buffer (as_edit edit)) None (S.seen m) (S.seen n) threads after
     = transport (λ i. SchedPolled (beneath rules (S.opening m)) (λ d. S.ActsFor m d) cpu (due hand buffer (as_edit edit)) (c.in-None-poll-2.is i) (S.seen m)
     (S.seen n) threads after) c.poll-in-Some.ensures.seen in
@@ -192,17 +192,17 @@ returns-in-None-poll-2-clause-seen g c =
 pub returns-in-None-poll-2-clause-follows : goal.returns-in-None-poll-2-clause-follows
 returns-in-None-poll-2-clause-follows g c = λ step.
     let rules = g.E.Sleeps.rules in
-    let S = g.S.SchedLayer in
+    let S = g.S.Layer in
     let self = c.args.self.now in
     let m = c.args.m.now in
     let cpu = S.cpu_of self.lower in
-    let threads = S.threads self.lower in
+    let threads = S.own self.lower in
     let hand = (Some c.in-Some.t) in
     let is : hand ≡ threads.hand = sym c.in-Some.is ∙ c.hand.ensures in
     let buffer = c.args.buffer in
     let edit = c.args.edit in
     let n = c.poll-in-Some.new.m in
-    let after = S.threads c.poll-in-Some.new.self in
+    let after = S.own c.poll-in-Some.new.self in
     let followed : Follows (λ d. S.ActsFor m d) (table_of (queue_rules (nested_rules rules) (nested_moves rules))) (S.opening m) cpu
     (sched_plan (nested_moves rules) (homes_in (S.opening m)) cpu (due hand buffer (as_edit edit)) threads) (S.acts m) (S.acts n) (sched_left after None)
     = transport (λ i. Follows (λ d. S.ActsFor m d) (table_of (queue_rules (nested_rules rules) (nested_moves rules))) (S.opening m) cpu
@@ -215,11 +215,11 @@ returns-in-None-poll-2-clause-follows g c = λ step.
 pub returns-clause-seen : goal.returns-clause-seen
 returns-clause-seen g c =
     let rules = g.E.Sleeps.rules in
-    let S = g.S.SchedLayer in
+    let S = g.S.Layer in
     let self = c.args.self.now in
     let m = c.args.m.now in
     let cpu = S.cpu_of self.lower in
-    let threads = S.threads self.lower in
+    let threads = S.own self.lower in
     let hand = (Some c.in-Some.t) in
     let is : hand ≡ threads.hand = sym c.in-Some.is ∙ c.hand.ensures in
     let buffer = c.args.buffer in
@@ -231,7 +231,7 @@ returns-clause-seen g c =
     (MaySleep (here rules (S.opening m)) cpu (renamed_events edit_in (S.seen m)) threads buffer edit) fits c.requires.call
     (λ may. is ∙ may.hand) in
     let n = c.poll-in-Some.new.m in
-    let after = S.threads c.poll-in-Some.new.self in
+    let after = S.own c.poll-in-Some.new.self in
     let polled : SchedPolled (beneath rules (S.opening m)) (λ d. S.ActsFor m d) cpu (due hand buffer (as_edit edit)) (Some c.in-Some-poll-2.answer) (S.seen m)
     (S.seen n) threads after
     = transport (λ i. SchedPolled (beneath rules (S.opening m)) (λ d. S.ActsFor m d) cpu (due hand buffer (as_edit edit)) (c.in-Some-poll-2.is i) (S.seen m)
@@ -247,17 +247,17 @@ returns-clause-seen g c =
 pub returns-clause-follows : goal.returns-clause-follows
 returns-clause-follows g c = λ step.
     let rules = g.E.Sleeps.rules in
-    let S = g.S.SchedLayer in
+    let S = g.S.Layer in
     let self = c.args.self.now in
     let m = c.args.m.now in
     let cpu = S.cpu_of self.lower in
-    let threads = S.threads self.lower in
+    let threads = S.own self.lower in
     let hand = (Some c.in-Some.t) in
     let is : hand ≡ threads.hand = sym c.in-Some.is ∙ c.hand.ensures in
     let buffer = c.args.buffer in
     let edit = c.args.edit in
     let n = c.poll-in-Some.new.m in
-    let after = S.threads c.poll-in-Some.new.self in
+    let after = S.own c.poll-in-Some.new.self in
     let followed : Follows (λ d. S.ActsFor m d) (table_of (queue_rules (nested_rules rules) (nested_moves rules))) (S.opening m) cpu
     (sched_plan (nested_moves rules) (homes_in (S.opening m)) cpu (due hand buffer (as_edit edit)) threads) (S.acts m) (S.acts n)
     (sched_left after (Some c.in-Some-poll-2.answer))

@@ -1,0 +1,15 @@
+use Rattle.std.proofs.Common.{◌≡◌, ap, ◌∙◌}
+use Rattle.std.proofs.lemmas.Result.{IfOk-weaker}
+use Rattle.layer_traits.specs.OneLock.{opened}
+use Rattle.layer_traits.specs.QueueBlocks.{inner}
+use Rattle.layer_traits.specs.Renaming.{viewed}
+use Rattle.queuing_lock.specs.Nested.{nested_lock_of}
+use Rattle.sleep_wakeup.specs.Nested.{state_of}
+use Rattle.ipc_calls.proofs.tower.SharedQueuesOpensQueues.open.Goals as goal
+
+-- the machine's locks are those that were made
+pub returns-clause-locks : goal.returns-clause-locks
+returns-clause-locks g c =
+    let opening = g.L.Layer.opening in
+    IfOk-weaker c.open.result (λ m. opening m ≡ opened c.in_ok-tower_blocks.field-0.items) _
+    (λ m is. ap (λ at. inner (viewed nested_lock_of (viewed state_of at))) is ∙ c.in_ok-tower_blocks.ensures.locks) c.open.ensures.opening

@@ -1,0 +1,22 @@
+-- What a call of a layer leaves as it was: the same in each trait of a layer, so it is said once.
+use Rattle.std.specs.Prelude.{◌≡◌, ◌≢◌, ℕ, ◌+◌, ◌≤◌, List, Option}
+use Rattle.event_log.specs.declared.ids.CpuId.{CpuId}
+use Rattle.event_log.specs.declared.ids.LockId.{LockId}
+
+-- the machine m went on to n: the same opening blocks, the same machine, at most one event less of room, and its holder acts for whom it acted
+pub record Stays {M B : Type 0} (opening_of : M → LockId → Option B) (site_of : M → List ℕ) (room_of : M → ℕ) (ActsFor : M → CpuId → Type 0)
+    (m n : M) : Type 0 where
+  pub opening : opening_of n ≡ opening_of m
+  pub site : site_of n ≡ site_of m
+  pub room : room_of m ≤ room_of n + 1
+  pub acts : (c : CpuId) → ActsFor m c → ActsFor n c
+
+-- a call of a part: part and machine agree again, the part is that of the same CPU, the machine stays, the parts of all other CPUs still agree with it,
+-- and of those for whom its holder acts no other comes to hold a lock
+pub record Framed {P M B : Type 0} (Fits : P → M → Type 0) (cpu_of : P → CpuId) (opening_of : M → LockId → Option B) (site_of : M → List ℕ)
+    (room_of : M → ℕ) (ActsFor MayHold : M → CpuId → Type 0) (old new : P) (m n : M) : Type 0 where
+  pub fits : Fits new n
+  pub cpu : cpu_of new ≡ cpu_of old
+  pub stays : Stays opening_of site_of room_of ActsFor m n
+  pub others : (p : P) → cpu_of p ≢ cpu_of old → Fits p m → Fits p n
+  pub holders : (c : CpuId) → c ≢ cpu_of old → ActsFor m c → MayHold n c → MayHold m c

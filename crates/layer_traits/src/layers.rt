@@ -1,0 +1,260 @@
+//! One trait for the layers of the tower, over the law that each of them meets.
+//!
+//! No call takes memory, and none waits.
+
+ghost use Rattle.std.specs.Prelude.{◌≡◌, ℕ, ◌<◌, true, false, Bool, List, [], Option, None, Some, IsSome, IfSome, OnSome, is_some, if◌then◌else◌};
+
+use crate::payloads::Payload;
+use event_log::{CpuId, LockId};
+
+/// What a layer promises of its calls. The rest, which every layer promises, is in `Layer`.
+pub trait Law {
+    ghost use Rattle.event_log.specs.declared.ids.CpuId.{CpuId};
+    ghost use Rattle.event_log.specs.declared.ids.LockId.{LockId};
+    ghost use Rattle.event_log.specs.Actions.{Action};
+    ghost use Rattle.layer_traits.specs.declared.payloads.Payload.{Payload};
+    ghost use Rattle.layer_traits.specs.Plans.{Plan, Table};
+
+    /// A call.
+    type Call: Drop;
+
+    /// What a call answers.
+    type Answer: Drop;
+
+    /// What a lock guards.
+    type Block: Drop;
+
+    /// The name of a section: its edit.
+    type Name;
+
+    /// What a section answers.
+    type Reply;
+
+    /// A call that took effect.
+    type Event;
+
+    /// A call that has begun.
+    type Begun;
+
+    /// What a part has of its own.
+    type State;
+
+    /// The CPU of an event.
+    ghost cpu_of_event: { Self.Event → CpuId };
+
+    /// The call of a CPU, once it has begun.
+    ghost begun: { CpuId → Self.Call → Self.Begun };
+
+    /// From the opening blocks on, after which events which may come.
+    ghost allowed: { (LockId → Option Self.Block) → List Self.Event → Self.Event → Type 0 };
+
+    /// The lock of a call is there.
+    ghost IsThere: { (LockId → Option Self.Block) → Self.Call → Type 0 };
+
+    /// A call that touches nothing shared.
+    ghost IsLocal: { Self.Call → Type 0 } = { λ _. ⊥ };
+
+    /// The homes are those of a boot.
+    ghost AreHomes: { List CpuId → Type 0 } = { λ _. Unit {0} };
+
+    /// What a part has of its own at boot.
+    ghost at_boot: { List CpuId → CpuId → Self.State };
+
+    /// The machine is one in which the parts of these homes may begin.
+    ghost Boots: { (LockId → Option Self.Block) → List Self.Event → List CpuId → CpuId → Type 0 } = { λ _ _ _ _. Unit {0} };
+
+    /// A call may be polled: at its first poll it may come, and after that it is the one under way.
+    ghost MayPoll: { (LockId → Option Self.Block) → CpuId → List Self.Event → Self.State → Option Self.Begun → Self.Call → Type 0 };
+
+    /// The payload holds what the call puts.
+    ghost carried: { Self.Call → Payload → Type 0 };
+
+    /// The payload holds what the answer brings.
+    ghost brought: { Self.Answer → Payload → Type 0 };
+
+    /// What a poll adds to the events, makes of what the part has of its own, and answers.
+    ghost Polled: { (LockId → Option Self.Block) → (CpuId → Type 0) → CpuId → Self.Call → Option Self.Answer → List Self.Event → List Self.Event
+        → Self.State → Self.State → Type 0 };
+
+    /// What the names of sections mean.
+    ghost table: { Table Self.Name Self.Block Self.Reply };
+
+    /// What a poll is to do.
+    ghost plan: { (LockId → Option Self.Block) → CpuId → Self.Call → Self.State → Plan Self.Name Self.Reply Self.State Self.Answer };
+
+    /// The events that these actions are.
+    ghost events_in: { List (Action Self.Name) → List Self.Event };
+
+    /// What a call under way tells of whether a section is.
+    ghost Inside: { Option Self.Begun → Bool → Type 0 } = { λ begun inside. inside ≡ is_some begun };
+
+    /// The opening blocks are those of a machine that may start.
+    ghost Starts: { (LockId → Option Self.Block) → Type 0 } = { λ _. Unit {0} };
+
+    /// Each section of the actions edits a block of its kind.
+    ghost AreProper: { List (Action Self.Name) → Type 0 } = { λ _. Unit {0} };
+
+    /// What a part has of its own agrees with the events.
+    ghost Agrees: { (LockId → Option Self.Block) → CpuId → List Self.Event → Self.State → Type 0 } = { λ _ _ _ _. Unit {0} };
+}
+
+/// One CPU's part of a layer that meets the law `L`. A poll does at most one atomic action of the
+/// call; it answers in the poll that ends the call, and until then the same call is polled again. To
+/// the layers above a call is one event.
+///
+/// No call takes memory.
+pub trait Layer<L: Law> {
+    ghost use Rattle.event_log.specs.declared.ids.CpuId.{CpuId};
+    ghost use Rattle.event_log.specs.declared.ids.LockId.{LockId};
+    ghost use Rattle.event_log.specs.declared.ids.TheConstants.{CPUS};
+    ghost use Rattle.event_log.specs.Actions.{Action, AreLegal, phase};
+    ghost use Rattle.event_log.specs.History.{IsLawful, Grows};
+    ghost use Rattle.layer_traits.specs.Framed.{Framed};
+    ghost use Rattle.layer_traits.specs.Looks.{Tries};
+    ghost use Rattle.layer_traits.specs.Plans.{Follows, is_in_section};
+
+    /// What lies beneath.
+    type Machine;
+
+    /// The opening block of each lock; None where there is no such lock.
+    ghost opening: { Self.Machine → LockId → Option L.Block };
+
+    /// The events that the holder of the machine has seen, newest first.
+    ghost seen: { Self.Machine → List L.Event };
+
+    /// For which CPUs the holder of the machine acts. It carries that the machine is sound.
+    ghost ActsFor: { Self.Machine → CpuId → Type 0 };
+
+    /// For how many more events there is room.
+    ghost room: { Self.Machine → ℕ };
+
+    /// Which machine it is, as numbers; a machine that nobody has to know again needs none. No poll
+    /// changes it.
+    ghost site: { Self.Machine → List ℕ } = { λ _. [] };
+
+    /// No section of this CPU is under way.
+    ghost IsOutside: { Self.Machine → CpuId → Type 0 };
+
+    /// This CPU may hold a lock, as far as the machine tells.
+    ghost MayHold: { Self.Machine → CpuId → Type 0 };
+
+    /// Whose part it is.
+    ghost cpu_of: { Self → CpuId };
+
+    /// What the part has of its own.
+    ghost own: { Self → L.State };
+
+    /// The call that has begun and has not ended.
+    ghost under_way: { Self → Option L.Begun };
+
+    /// Whether the CPU waits at a lock or holds one.
+    ghost is_inside: { Self → Bool };
+
+    /// The part and the machine agree.
+    ghost Fits: { Self → Self.Machine → Type 0 };
+
+    /// Whether one poll is one action, as in the tower.
+    ghost IsStepwise: { Type 0 };
+
+    /// Whether one poll is one call: each poll answers. A lock that lets polls pass without an action
+    /// is neither.
+    ghost IsWhole: { Type 0 };
+
+    /// The actions on the locks, newest first, each Give under its section's edit.
+    ghost acts: { Self.Machine → List (Action L.Name) };
+
+    /// The part of `cpu` at boot, with no call under way. `homes` holds the home of each thread,
+    /// and `buffers` is the number of buffers; layers above use it.
+    ///
+    /// Requires: the homes are those of a boot: for a layer with threads, at most `THREADS`.
+    fn part(cpu: CpuId, homes: &[CpuId], buffers: u8) -> Self
+        requires { L.AreHomes homes.now }
+        ensures cpu { cpu_of result ≡ cpu }
+        ensures own { own result ≡ L.at_boot homes.now cpu }
+        ensures call { under_way result ≡ None }
+        ensures fits { (m : Self.Machine) → ActsFor m cpu → IsOutside m cpu → L.Boots (opening m) (seen m) homes.now cpu → Fits result m };
+
+    /// Whether the CPU waits at a lock or holds one.
+    fn is_busy(&self) -> bool
+        ensures { result ≡ is_inside self.now };
+
+    /// Looks again for a section that waits at its lock, and returns whether it did: a poll that ends
+    /// nothing, so it needs no call and has no answer. If it returns `false` nothing has changed,
+    /// and the call is to be polled; a layer may always return that.
+    ///
+    /// Requires: part and machine agree, and there is room for an event.
+    fn look(&mut self, m: &mut Self::Machine) -> bool
+        requires fits { Fits self.old m.old }
+        requires room { 0 < room m.old }
+        ensures still { result ≡ false → (self.new ≡ self.old) × (m.new ≡ m.old) }
+        ensures waits { result ≡ true → is_inside self.old ≡ true }
+        ensures own { own self.new ≡ own self.old }
+        ensures call { under_way self.new ≡ under_way self.old }
+        ensures inside { is_inside self.new ≡ is_inside self.old }
+        ensures seen { Grows (ActsFor m.old) L.cpu_of_event (seen m.old) (seen m.new) }
+        ensures framed { Framed Fits cpu_of opening site room ActsFor MayHold self.old self.new m.old m.new }
+        ensures tries { IsStepwise → result ≡ true
+            → Tries (ActsFor m.old) (cpu_of self.old) (acts m.old) (acts m.new) };
+
+    /// Does at most one action of `call`. Returns its answer once the call has ended, and `None` while
+    /// the same call is to be polled again. A call that touches nothing shared answers at once.
+    ///
+    /// Requires: part and machine agree, the lock of the call is there, there is room for an event,
+    /// the call is one that may come now (while one is under way, the same call), and the payload
+    /// holds what it puts.
+    fn poll(
+        &mut self,
+        m: &mut Self::Machine,
+        call: L::Call,
+        payload: &mut Payload,
+    ) -> Option<L::Answer>
+        requires fits { Fits self.old m.old }
+        requires there { L.IsThere (opening m.old) call }
+        requires room { 0 < room m.old }
+        requires call { L.MayPoll (opening m.old) (cpu_of self.old) (seen m.old) (own self.old) (under_way self.old) call }
+        requires carried { L.carried call payload.old }
+        ensures call { under_way self.new ≡ (if is_some result then None else Some (L.begun (cpu_of self.old) call)) }
+        ensures prompt { IsWhole → IsSome result }
+        ensures brought { IfSome result (λ answer. L.brought answer payload.new) }
+        ensures seen { L.Polled (opening m.old) (ActsFor m.old) (cpu_of self.old) call result (seen m.old) (seen m.new)
+            (own self.old) (own self.new) }
+        ensures still { L.IsLocal call → m.new ≡ m.old }
+        ensures framed { Framed Fits cpu_of opening site room ActsFor MayHold self.old self.new m.old m.new }
+        ensures outside { OnSome result ((L.IsLocal call → ⊥) → IsOutside m.new (cpu_of self.old)) }
+        ensures follows { IsStepwise → Follows (ActsFor m.old) L.table (opening m.old) (cpu_of self.old)
+            (L.plan (opening m.old) (cpu_of self.old) call (own self.old))
+            (acts m.old) (acts m.new) (record { own = own self.new; answer = result }) };
+
+    /// Law: a part that agrees with a machine is of a CPU for which the machine's holder acts.
+    ghost own_cpu: { (p : Self) (m : Self.Machine) → Fits p m → ActsFor m (cpu_of p) };
+
+    /// Law: each event that was seen was allowed.
+    ghost lawful: { (m : Self.Machine) (c : CpuId) → ActsFor m c → IsLawful (L.allowed (opening m)) (seen m) };
+
+    /// Law: each event that was seen is of a CPU that a machine may have.
+    ghost known: { (m : Self.Machine) (c : CpuId) → ActsFor m c → IsLawful (λ past e. (L.cpu_of_event e).0 < CPUS) (seen m) };
+
+    /// Law: the machine opened as one that may start.
+    ghost opens: { (m : Self.Machine) (c : CpuId) → ActsFor m c → L.Starts (opening m) };
+
+    /// Law: what a part has of its own agrees with the events.
+    ghost stands: { (p : Self) (m : Self.Machine) → Fits p m → L.Agrees (opening m) (cpu_of p) (seen m) (own p) };
+
+    /// Law: what a call under way tells of whether a section is.
+    ghost inside: { (p : Self) → L.Inside (under_way p) (is_inside p) };
+
+    /// Law: if no call is under way no lock is waited for or held.
+    ghost idle: { (p : Self) (m : Self.Machine) → Fits p m → under_way p ≡ None → is_inside p ≡ false };
+
+    /// Law: the actions are legal.
+    ghost legal: { (m : Self.Machine) (c : CpuId) → ActsFor m c → AreLegal (acts m) };
+
+    /// Law: if a poll is one action, the events that were seen are those of the actions.
+    ghost seen_is: { IsStepwise → (m : Self.Machine) → seen m ≡ L.events_in (acts m) };
+
+    /// Law: if a poll is one action, each section of the actions edits a block of its kind.
+    ghost proper: { IsStepwise → (m : Self.Machine) (c : CpuId) → ActsFor m c → L.AreProper (acts m) };
+
+    /// Law: if a poll is one action, a CPU is inside exactly while it waits at a lock or holds one.
+    ghost busy: { (p : Self) (m : Self.Machine) → Fits p m → IsStepwise → is_inside p ≡ is_in_section (phase (cpu_of p) (acts m)) };
+}

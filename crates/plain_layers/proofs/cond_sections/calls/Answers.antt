@@ -1,0 +1,31 @@
+use Rattle.std.proofs.Common.{rules, ◌≡◌, Some, None, sym, ◌∙◌, subst}
+use Rattle.event_log.specs.declared.ids.LockId.TheVariants.{Buffer}
+use Rattle.layer_traits.specs.Conditions.{cv_rules}
+use Rattle.layer_traits.specs.LockLaw.{lock_kernel}
+use Rattle.layer_traits.specs.Locking.{IsOwners, lock_after, lock_caller}
+use Rattle.layer_traits.specs.QueueBlocks.{inner}
+use Rattle.layer_traits.specs.Queues.{buffer_sections}
+use Rattle.plain_layers.proofs.CondSectionLemmas.{may_begin, owner_told}
+use Rattle.plain_layers.proofs.cond_sections.calls.Goals as goal
+
+-- the thread runs, nobody stands in the hand, and the call is its to make, as the machine tells the owner
+pub section_polls-requires-clause-poll_section : goal.section_polls-requires-clause-poll_section
+section_polls-requires-clause-poll_section g c =
+    let monitor_rules = g.G.Guarded.monitor_rules in
+    let C = g.C.CvLayer in
+    let m = c.args.m.now in
+    let part = c.args.part.now in
+    let call = c.args.call.now in
+    let runs : (C.own part).lock.sleep.threads.current ≡ Some (lock_caller (cv_rules monitor_rules) call) = search rules in
+    let empty : (C.own part).lock.sleep.threads.hand ≡ None = search rules in
+    let shown = g.met.C.OwnedConds.shown m (C.cpu_of part) c.args.buffer (g.met.C.CvLayer.own_cpu part m c.requires.fits) c.requires.buffer in
+    let told = owner_told (g.C.OwnedConds.lock_at m c.args.buffer)
+    (lock_after (cv_rules monitor_rules) (inner (C.opening m)) (Buffer c.args.buffer) (buffer_sections (C.seen m))) c.in-Some.owner shown.by_machine
+    (sym c.owner_in.ensures ∙ c.in-Some.is) in
+    may_begin monitor_rules (lock_kernel (cv_rules monitor_rules) (C.opening m)) (C.cpu_of part) (C.seen m) (C.own part) (C.under_way part) c.args.buffer call
+    runs c.requires.ended
+    (record {
+      empty = empty;
+      owners = subst (λ o. IsOwners (cv_rules monitor_rules) call o) (sym told) (c.is_callers.ensures c.if-not-is_callers.false);
+      stays = λ more others lawful. c.requires.granted _ _ _;
+    })

@@ -1,0 +1,28 @@
+use Rattle.std.proofs.Common.{rules, ◌≡◌, Some, None, sym, ◌∙◌}
+use Rattle.event_log.specs.declared.ids.LockId.TheVariants.{Buffer}
+use Rattle.layer_traits.specs.declared.locked.QEdit.TheVariants.{Release}
+use Rattle.layer_traits.specs.LockLaw.{lock_kernel}
+use Rattle.layer_traits.specs.Locking.{lock_after}
+use Rattle.layer_traits.specs.QueueBlocks.{inner}
+use Rattle.layer_traits.specs.Queues.{buffer_sections}
+use Rattle.plain_layers.proofs.CondSectionLemmas.{owner_told}
+use Rattle.plain_layers.proofs.LockSectionLemmas.{may_begin}
+use Rattle.plain_layers.proofs.lock_sections.releases.Goals as goal
+
+-- the thread runs, nobody stands in the hand, and the machine tells that it owns the lock
+pub section_polls-requires-clause-poll_section : goal.section_polls-requires-clause-poll_section
+section_polls-requires-clause-poll_section g c =
+    let lock_rules = g.F.Locked.rules in
+    let Q = g.Q.QLockLayer in
+    let m = c.args.m.now in
+    let part = c.args.part.now in
+    let runs : (Q.own part).sleep.threads.current ≡ Some (lock_rules.last_caller c.args.last) = search rules in
+    let empty : (Q.own part).sleep.threads.hand ≡ None = search rules in
+    let owned : c.in-Some.owner ≡ Some (lock_rules.last_caller c.args.last) = search rules in
+    let shown = g.met.Q.OwnedQLocks.shown m (Q.cpu_of part) c.args.buffer (g.met.Q.QLockLayer.own_cpu part m c.requires.fits) c.requires.buffer in
+    let told = owner_told (g.Q.OwnedQLocks.lock_at m c.args.buffer)
+    (lock_after lock_rules (inner (Q.opening m)) (Buffer c.args.buffer) (buffer_sections (Q.seen m))) c.in-Some.owner shown.by_machine
+    (sym c.owner_in.ensures ∙ c.in-Some.is) in
+    may_begin lock_rules (lock_kernel lock_rules (Q.opening m)) (Q.cpu_of part) (Q.seen m) (Q.own part) (Q.under_way part) c.args.buffer
+    (Release c.args.last) runs c.requires.ended
+    (record { empty = empty; owners = told ∙ owned; stays = λ more others lawful. c.requires.granted _ _ _ })

@@ -1,0 +1,10 @@
+use Rattle.std.proofs.Common.{[]}
+use Rattle.plain_layers.proofs.queues.PlainQueuesLayerQueueLaw.poll.Goals as goal
+
+-- a call that stays allowed is allowed now
+pub done-requires-clause-call : goal.done-requires-clause-call
+done-requires-clause-call g c = c.requires.call [] tt c.requires.fits.1.lawful
+
+-- nothing came before it
+pub returns-clause-seen : goal.returns-clause-seen
+returns-clause-seen g c = record { others = []; foreign = λ d acts. tt; is = c.done.ensures.seen; answers = c.done.ensures.answer }

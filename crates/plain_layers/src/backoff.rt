@@ -1,0 +1,154 @@
+//! A lock with backoff, of which a poll is neither one action nor one call: an example.
+//!
+//! Over it the tower keeps its safety: one order, a run of the buffers, their contents. What is told
+//! of each step (the step table, a system that is quiet, the steps of a call alone) is told of locks
+//! of which a poll is one action.
+
+ghost use Rattle.std.specs.Prelude.{◌≡◌, [], IfOk};
+ghost use Rattle.event_log.specs.declared.ids.TheConstants.{CPUS};
+
+use event_log::{CpuId, LockId, NoMemory};
+use layer_traits::{Edit, Layer, LockCall, LockLaw, LockLayer, OwnedLocks, Payload};
+use std::alloc::Global;
+
+/// The most polls that a CPU rests between two tries.
+const MOST: u8 = 8;
+
+/// One CPU's part of a lock whose CPUs rest between two tries: after each try of a section that is
+/// under way it lets polls pass, twice as many each time.
+#[derive(Drop)]
+pub struct Backoff<L> {
+    lower: L,
+    // How many polls are still to pass, and how many after the next try.
+    rests: u8,
+    next: u8,
+}
+
+impl<E: Edit, L: LockLayer<E>> Layer<LockLaw<E>> for Backoff<L> {
+    type Machine = L::Machine;
+
+    ghost opening = { λ m. L.opening m };
+
+    ghost seen = { λ m. L.seen m };
+
+    ghost ActsFor = { λ m c. L.ActsFor m c };
+
+    ghost room = { λ m. L.room m };
+
+    ghost site = { λ m. L.site m };
+
+    ghost IsOutside = { λ m c. L.IsOutside m c };
+
+    ghost MayHold = { λ m c. L.MayHold m c };
+
+    ghost cpu_of = { λ p. L.cpu_of p.lower };
+
+    ghost own = { λ p. tt };
+
+    ghost under_way = { λ p. L.under_way p.lower };
+
+    ghost is_inside = { λ p. L.is_inside p.lower };
+
+    ghost Fits = { λ p m. L.Fits p.lower m };
+
+    ghost IsStepwise = { ⊥ };
+
+    ghost IsWhole = { ⊥ };
+
+    ghost acts = { λ m. [] };
+
+    fn part(cpu: CpuId, homes: &[CpuId], buffers: u8) -> Self {
+        Backoff {
+            lower: L::part(cpu, homes, buffers),
+            rests: 0,
+            next: 1,
+        }
+    }
+
+    fn is_busy(&self) -> bool {
+        self.lower.is_busy()
+    }
+
+    fn look(&mut self, _m: &mut L::Machine) -> bool {
+        false
+    }
+
+    fn poll(
+        &mut self,
+        m: &mut L::Machine,
+        call: LockCall<E>,
+        payload: &mut Payload,
+    ) -> Option<E::Out> {
+        if self.rests > 0 && self.lower.is_busy() {
+            self.rests -= 1;
+            return None;
+        }
+        self.rests = self.next;
+        self.next = if self.next < MOST { self.next * 2 } else { 1 };
+        self.lower.poll(m, call, payload)
+    }
+
+    ghost own_cpu = { λ p m fits. L.own_cpu p.lower m fits };
+
+    ghost lawful = { λ m c acts. L.lawful m c acts };
+
+    ghost known = { λ m c acts. L.known m c acts };
+
+    ghost opens = { λ m c acts. tt };
+
+    ghost stands = { λ p m fits. tt };
+
+    ghost inside = { λ p. L.inside p.lower };
+
+    ghost idle = { λ p m fits none. L.idle p.lower m fits none };
+
+    ghost legal = { λ m c acts. tt };
+
+    ghost seen_is = { λ step m. absurd step };
+
+    ghost proper = { λ step m c acts. tt };
+
+    ghost busy = { λ p m fits step. absurd step };
+}
+
+impl<E: Edit, L: OwnedLocks<E>> OwnedLocks<E> for Backoff<L> {
+    ghost use Rattle.std.specs.Prelude.{◌<◌, refl};
+    ghost use Rattle.event_log.specs.Sections.{block_after};
+    ghost use Rattle.layer_traits.specs.OneLock.{AreDistinct, opened};
+    ghost use Rattle.layer_traits.proofs.OwnedLemmas.{parts_on, shown_on};
+
+    ghost block_at = { λ m lock. L.block_at m lock };
+
+    ghost block_with = { λ p lock. L.block_with p.lower lock };
+
+    fn open(
+        alloc: Global,
+        blocks: Vec<(LockId, E::Block)>,
+        room: usize,
+    ) -> Result<L::Machine, NoMemory>
+        requires distinct { AreDistinct blocks.items }
+        ensures seen { IfOk result (λ m. L.seen m ≡ []) }
+        ensures opening { IfOk result (λ m. L.opening m ≡ opened blocks.items) }
+        ensures room { IfOk result (λ m. L.room m ≡ room) }
+        ensures acts { IfOk result (λ m. (c : _) → c.0 < CPUS → L.ActsFor m c) }
+        ensures outside { IfOk result (λ m. (c : _) → L.IsOutside m c) }
+        ensures none { IfOk result (λ m. ⟦<Backoff<L> as Layer<LockLaw<E>>>⟧.acts m ≡ []) }
+        ensures holders { IfOk result (λ m. (c : _) → L.MayHold m c → ⊥) }
+    {
+        L::open(alloc, blocks, room)
+    }
+
+    fn block_in(m: &L::Machine, lock: LockId) -> Option<&E::Block> {
+        L::block_in(m, lock)
+    }
+
+    fn block_here(&self, lock: LockId) -> Option<&E::Block> {
+        self.lower.block_here(lock)
+    }
+
+    ghost shown = { λ m c lock acts there. shown_on
+        (parts_on (λ (p : Self). p.lower) (λ p. L.Fits p m) (λ (p : Self). Self.Fits p m) (λ p. L.cpu_of p) (L.MayHold m) (λ p fits. fits))
+        (λ p. L.block_with p lock) (L.block_at m lock) (block_after E.rules.edited (L.opening m) lock (L.seen m)) (L.shown m c lock acts there) };
+
+    ghost holding = { λ step m c held. absurd step };
+}

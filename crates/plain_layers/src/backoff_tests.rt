@@ -1,0 +1,140 @@
+//! The tower over a lock with backoff, run: its systems keep the one order and the contents of their
+//! buffers, though no poll of the lock is one action or one call.
+
+use crate::backoff::Backoff;
+use crate::system_tests::{goes, parts};
+use condvar::Cond;
+use event_log::NoMemory;
+use fifo_buffer::Fifo;
+use ipc_calls::{
+    Ipc, LockEdit, OpensBuffers, OpensLocks, OpensQueues, OpensScheds, TowerEdit, TowerLaws,
+};
+use layer_traits::{Owned, OwnedLocks};
+use plain_machine::Plain;
+use queuing_lock::QLock;
+use scheduler::Sched;
+use shared_queue::SharedQueues;
+use sleep_wakeup::Sleeper;
+use spinlock::Ticket;
+use std::alloc::Global;
+use std::marker::PhantomData;
+use std::process::Abort;
+use std::test::Fail;
+
+/// Plans in the form of those of one-step systems: the plan, which CPU takes each step, the text of
+/// the trace, and where all stands then.
+const ROWS: &str = r#"# A thread that sends 7: more polls than over a ticket lock, and the same end.
+cpus = 1
+trace = 4
+buffers = [1]
+[[thread]]
+cpu = 0
+program = ["set r0 7", "send 0 r0", "exit"]
+-- 00000000000000000000000000000000000000000000000000000000000000000000000000000000000000000000000000000000000000000000000000000000000000000000000000000000000000000000000000000000000000000000000000000000
+mctower-trace 1
+buffers 1
+cap 0 1
+e 0 0 send 0 7 0 0
+left 0 7
+end
+--
+Some(AllEnded) Ended
+quiet true, closed false
+==
+# A receiver on CPU 0 waits. A thread on CPU 1 sends 7, wakes it and sends it home, and it receives.
+# The CPUs take steps in turn, since one that stops inside a lock keeps the other waiting.
+cpus = 2
+trace = 4
+buffers = [1]
+[[thread]]
+cpu = 0
+program = ["recv 0 r0"]
+[[thread]]
+cpu = 1
+program = ["set r0 7", "send 0 r0"]
+-- 000000000000000000000000000000000000000000000000000000000000000000000000000000000000000000000000000010101010101010101010101010101010101010101010101010101010101010101010101010101010101010101010101010101010101010101010101010101010101010101010101010101010101010101010101010101010101010101010101010101010101010101010101010101010101010101010101010101010101010101010101010101010101010101010101010101010101010101010101010101010101010101010101010101010101010101010101010101010101010101010101010101010101010101010101010101010101010101010101010101010101010101010101010101010101010101010101010101010101010101010101010101010101010101010101010101010101010101010101010101010101010101010101010101010101010101010101010101010101010101010101010101010101010101010101010101010101010101010101010101010101010101010101010101010101010101010101010101010101010101010101010101010101010101010101010101010101010101010101010101010
+mctower-trace 1
+buffers 1
+cap 0 1
+e 1 1 send 0 7 0 0
+e 0 0 recv 0 7 1 0
+left 0
+end
+--
+Some(AllEnded) Ended
+Some(AllEnded) Ended
+quiet true, closed false
+"#;
+
+/// Runs the rows over message calls.
+fn rows_go<I: Owned + Drop>(rt: &impl Abort, alloc: Global) -> Result<(), NoMemory>
+where
+    I::Machine: Drop,
+{
+    for row in ROWS.split("==\n") {
+        match parts(row) {
+            Some((plan, steps, text, stands)) => {
+                goes::<I>(rt, alloc, plan, steps, (text, stands))?;
+            }
+            None => assert!(rt; false),
+        }
+    }
+    Ok(())
+}
+
+/// Runs them over message calls on these buffers.
+fn calls_go<B: OpensBuffers + Drop>(rt: &impl Abort, alloc: Global) -> Result<(), NoMemory>
+where
+    B::Machine: Drop,
+{
+    rows_go::<Ipc<B>>(rt, alloc)
+}
+
+/// And over these sections that put threads to sleep.
+fn buffers_go<S: OpensLocks + Drop>(rt: &impl Abort, alloc: Global) -> Result<(), NoMemory>
+where
+    S::Machine: Drop,
+{
+    calls_go::<Fifo<Cond<QLock<S>>>>(rt, alloc)
+}
+
+/// And over these schedulers.
+fn scheds_go<S: OpensScheds + Drop>(rt: &impl Abort, alloc: Global) -> Result<(), NoMemory>
+where
+    S::Machine: Drop,
+{
+    buffers_go::<Sleeper<LockEdit, S>>(rt, alloc)
+}
+
+/// And over these shared queues.
+fn queues_go<Q: OpensQueues + Drop>(rt: &impl Abort, alloc: Global) -> Result<(), NoMemory>
+where
+    Q::Machine: Drop,
+{
+    scheds_go::<Sched<Q>>(rt, alloc)
+}
+
+/// And over these critical sections.
+fn sections_go<L: OwnedLocks<TowerEdit> + Drop>(
+    rt: &impl Abort,
+    alloc: Global,
+) -> Result<(), NoMemory>
+where
+    L::Machine: Drop,
+{
+    let _laws: TowerLaws = PhantomData;
+    queues_go::<SharedQueues<L>>(rt, alloc)
+}
+
+/// And over these, with backoff. No function names the whole nest of types, since the proof of one
+/// that does takes minutes.
+fn backoff_goes(rt: &impl Abort, alloc: Global) -> Result<(), NoMemory> {
+    let _laws: TowerLaws = PhantomData;
+    sections_go::<Backoff<Ticket<Plain<TowerEdit>>>>(rt, alloc)
+}
+
+#[test]
+fn systems_run_over_a_lock_with_backoff(rt: HostRuntime) -> Result<(), Fail> {
+    backoff_goes(&rt, rt.alloc())?;
+    Ok(())
+}
