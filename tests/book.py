@@ -1,7 +1,7 @@
 #!/usr/bin/env python3
 """Tries the book: runs every command of docs/book and compares what comes with what the page says, byte for byte; looks up
 each file, public name and clause that a page names, and each name of the repository in the other pages of docs; holds the plan and the
-output that README.md shows against the files; draws each picture again; holds plans/kernel.py against what each plan is expected to
+output that README.md shows against the files; tries the patch of a third lock; draws each picture again; holds plans/kernel.py against what each plan is expected to
 print. .ci/run calls it; it takes about half a minute.
 
     tests/book.py [--write] [PROGRAM]
@@ -156,12 +156,20 @@ def first_minute(faults):
     return 2
 
 
+def patched(faults):
+    """Tries whether the patch of a third lock goes onto the tree as it stands; tells how many patches that were."""
+    ran = subprocess.run(["git", "apply", "--check", "docs/third-lock.patch"], cwd=ROOT, stdout=subprocess.PIPE, stderr=subprocess.STDOUT, text=True)
+    if ran.returncode:
+        faults.append(f"docs/third-lock.patch does not go onto the tree: {ran.stdout[:200]}")
+    return 1
+
+
 def names(faults):
     """Looks up what all pages cite, which needs no program; tells how much that was."""
     words, files = words_of_tree()
     pages = [ROOT / "README.md", *ROOT.glob("plans/*.md"), *ROOT.glob("docs/*.md"), *ROOT.glob("docs/spec/*.md"), *BOOK.glob("*.md")]
     count = sum(cited(page, words, files, faults) for page in sorted(pages))
-    return count + sum(looked_up(page, faults) for page in sorted(BOOK.glob("*.md"))) + first_minute(faults)
+    return count + sum(looked_up(page, faults) for page in sorted(BOOK.glob("*.md"))) + first_minute(faults) + patched(faults)
 
 
 def drawn(picture, program, write, faults):

@@ -1,6 +1,6 @@
 -- Tables of guests with one guest changed, and the entries of a CPU and of a thread in a grown history.
 use Rattle.std.proofs.Common.{◌≡◌, ◌≢◌, ℕ, zero, suc, ◌+◌, ◌<◌, ◌≤◌, ◌==◌, Bool, true, false, not, List, [], ◌∷◌, ◌++◌, length, slice_index_or}
-use Rattle.std.proofs.Common.{cond, reverse, get_or, Option, Some, None, option_map, refl, ap, sym, ◌∙◌, subst, arith, slice_set}
+use Rattle.std.proofs.Common.{cond, count_by, reverse, get_or, Option, Some, None, option_map, refl, ap, sym, ◌∙◌, subst, arith, slice_set}
 use Rattle.std.proofs.lemmas.Bool.{eq-eqb, ne_eqb}
 use Rattle.std.proofs.lemmas.List.{append-nil, reverse-append, get_or-set_same, get_or-set_other, set-get_or, map-set}
 use Rattle.std.proofs.lemmas.List.Elements.{filter-append}
@@ -19,7 +19,7 @@ use Rattle.cpu.specs.declared.guests.Guest.{Guest}
 use Rattle.cpu.specs.declared.guests.GuestStage.{GuestStage}
 use Rattle.cpu.specs.declared.guests.GuestStage.TheVariants.{Idle, Begun, Done, Ended}
 use Rattle.cpu.specs.Guests.{entries_of, fresh_effect, is_begun, is_calling, stage_after}
-use Rattle.cpu.specs.Cpus.{begun_count, guest_at, is_begun_guest, of_cpu, of_thread, programs_of, with_guest}
+use Rattle.cpu.specs.Cpus.{begun_count, guest_at, is_begun_guest, is_over, of_cpu, of_thread, programs_of, with_guest}
 use Rattle.guest.specs.declared.instructions.Instruction.{Instruction}
 
 -- a guest's number is within its table
@@ -78,6 +78,18 @@ count_with guests t x within =
     let new : cond (is_begun_guest x) 1 0 ≡ one_if (is_begun_guest x) = one_is (is_begun_guest x) in
     let whole : begun_count (slice_set guests t x) + cond (is_begun_guest (guest_at guests t)) 1 0 ≡ begun_count guests + cond (is_begun_guest x) 1 0 =
     sum_by-set (λ (g : Option Guest). cond (is_begun_guest g) 1 0) guests t x None within in
+    omega (arith, old, new, whole)
+
+-- and how many have not ended
+pub live_with : (guests : List (Option Guest)) (t : ℕ) (x : Option Guest) → t < length guests
+    → count_by (λ g. not (is_over g)) (slice_set guests t x) + one_if (not (is_over (guest_at guests t)))
+    ≡ count_by (λ g. not (is_over g)) guests + one_if (not (is_over x))
+live_with guests t x within =
+    let old : cond (not (is_over (guest_at guests t))) 1 0 ≡ one_if (not (is_over (guest_at guests t))) = one_is (not (is_over (guest_at guests t))) in
+    let new : cond (not (is_over x)) 1 0 ≡ one_if (not (is_over x)) = one_is (not (is_over x)) in
+    let whole : count_by (λ g. not (is_over g)) (slice_set guests t x) + cond (not (is_over (guest_at guests t))) 1 0
+    ≡ count_by (λ g. not (is_over g)) guests + cond (not (is_over x)) 1 0 =
+    sum_by-set (λ (g : Option Guest). cond (not (is_over g)) 1 0) guests t x None within in
     omega (arith, old, new, whole)
 
 -- entries of others are none of this CPU's

@@ -1,5 +1,6 @@
 pub mod Wakeups
 pub mod Follow
+pub mod Greatest
 pub mod GuestLists
 pub mod CpuStates
 pub mod Steps

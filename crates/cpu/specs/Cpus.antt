@@ -84,6 +84,10 @@ abbrev pub stands_at : Option Guest → Call → Type 0
 stands_at None call = ⊥
 stands_at (Some g) call = todo_of g ≡ Calls call
 
+-- the guest of this thread, if it is one, stands at this call
+abbrev pub IsKept : Option Tid → Call → List (Option Guest) → Type 0
+IsKept by call guests = (t : Tid) → by ≡ Some t → stands_at (guest_at guests t.0) call
+
 -- what is under way while a choice is being done
 abbrev pub under_way_of : Choice → Option UnderWay
 under_way_of (Polls t c) = Some (Calling t)

@@ -4,11 +4,11 @@ ghost use Rattle.std.specs.Prelude.{◌≡◌, ◌+◌, ◌<◌, true, false, �
 ghost use Rattle.layer_traits.specs.BufferLaw.{buffer_of, entry_of};
 ghost use Rattle.cpu.specs.Guests.{entries_of};
 ghost use Rattle.layer_traits.specs.declared.calls.Call.{Call};
-ghost use Rattle.cpu.specs.Cpus.{begins_at, begun_count, chosen_for, guest_at, stands_at};
+ghost use Rattle.cpu.specs.Cpus.{begins_at, begun_count, chosen_for, guest_at};
 
 use crate::guest_tables::Guests;
 use crate::guests::{Guest, Todo};
-use event_log::{BufId, CpuId, Entry, Tid};
+use event_log::{CpuId, Entry, Tid};
 use layer_traits::{Call, Effect, Ghost, IpcLayer, Pass, Reason, Reply, Step};
 
 /// What a CPU does next that is not halted.
@@ -150,8 +150,7 @@ impl<I: IpcLayer> Cpu<I> {
         ensures table { I.IsStepwise → IsTabledAt ⟦<I as IpcLayer>⟧ m.new self.new }
         ensures steps { I.IsStepwise → WentAt ⟦<I as IpcLayer>⟧ m.old self.old m.new self.new Stepped }
     {
-        let _ = asked;
-        let call = call_at(self.guests.at(thread));
+        let call = self.guests.call_of(thread, asked);
         self.poll(m, thread, &call);
     }
 
@@ -332,18 +331,6 @@ fn is_in_no_call(guest: &Option<Guest>) -> bool
     }
 }
 
-/// The message call at which this guest stands.
-#[inline(always)]
-fn call_at(guest: &Option<Guest>) -> Call
-    ensures { (call : Call) → stands_at guest.now call → result ≡ call }
-{
-    match guest {
-        Some(guest) => guest.call(),
-        // It has none.
-        None => Call::Recv(BufId(0)),
-    }
-}
-
 /// Writes the entry of a call's effect, where there is one and it is fresh; room for it is reserved.
 #[inline(always)]
 fn note_effect(
@@ -366,14 +353,14 @@ fn note_effect(
     }
 }
 
-/// Writes an entry, for which room is reserved.
-#[inline(always)]
+/// Writes an entry, for which room is reserved. It stands out of line, since most polls write none.
+#[inline(never)]
 fn put_entry(trace: &mut Vec<Entry>, entry: Entry)
     requires { length trace.old.items < vec_capacity trace.old }
     ensures items { trace.new.items ≡ trace.old.items ++ entry ∷ [] }
     ensures capacity { vec_capacity trace.old ≤ vec_capacity trace.new }
 {
-    trace.push(entry).unwrap();
+    trace.push_reserved(entry);
 }
 
 /// The entry of an effect of a call.

@@ -4,15 +4,17 @@ ghost use Rattle.std.specs.Prelude.{◌≡◌, ◌+◌, ◌^◌, ◌<◌, ◌≤
 ghost use Rattle.std.specs.List.{count_by, list_all};
 ghost use Rattle.layer_traits.specs.Places.{one_if};
 ghost use Rattle.cpu.specs.Guests.{computed, is_begun, is_ended, polled};
-ghost use Rattle.cpu.specs.Cpus.{begun_count, fresh_at, guest_at, is_begun_guest, is_over, passed_by, with_guest};
+ghost use Rattle.layer_traits.specs.declared.calls.Call.{Call};
+ghost use Rattle.cpu.specs.Cpus.{begun_count, fresh_at, guest_at, is_begun_guest, is_over, passed_by, stands_at, with_guest};
 
 use crate::guests::{Guest, GuestStage};
-use event_log::Tid;
-use layer_traits::{Effect, Pass, Reply};
+use event_log::{BufId, Tid};
+use layer_traits::{Call, Effect, Ghost, Pass, Reply};
 use std::marker::Model;
 
 /// The guest of each thread by its number, `None` at threads of other homes. It is seen as their
-/// table, and keeps two counts over it, so that nobody who asks for one goes through the table.
+/// table. It keeps two counts over it, so that nobody who asks for one goes through the table, and
+/// the call that was made last, so that a call is made once while its thread polls it.
 #[derive(Drop)]
 pub struct Guests {
     table: Vec<Option<Guest>>,
@@ -20,6 +22,10 @@ pub struct Guests {
     begun: usize,
     /// How many have not ended.
     live: usize,
+    /// The call that was made last.
+    kept: Call,
+    /// The thread whose guest stands at it, as long as it does.
+    kept_by: Option<Tid>,
 }
 
 impl Model for Guests {
@@ -27,13 +33,14 @@ impl Model for Guests {
     ghost use Rattle.std.specs.Global.{Global};
     ghost use Rattle.std.specs.List.{count_by};
     ghost use Rattle.cpu.specs.declared.guests.Guest.{Guest};
-    ghost use Rattle.cpu.specs.Cpus.{begun_count, is_over};
+    ghost use Rattle.cpu.specs.Cpus.{IsKept, begun_count, is_over};
 
     ghost Value = { Vec (Option Guest) Global };
 
     ghost view = { λ g. g.table };
 
-    ghost invariant = { λ g. (g.begun ≡ begun_count g.table.items) × (g.live ≡ count_by (λ x. not (is_over x)) g.table.items) };
+    ghost invariant = { λ g. (g.begun ≡ begun_count g.table.items) × ((g.live ≡ count_by (λ x. not (is_over x)) g.table.items)
+        × IsKept g.kept_by g.kept g.table.items) };
 }
 
 impl Guests {
@@ -43,7 +50,13 @@ impl Guests {
     {
         let begun = count_begun(&table);
         let live = count_live(&table);
-        Guests { table, begun, live }
+        Guests {
+            table,
+            begun,
+            live,
+            kept: Call::Recv(BufId(0)),
+            kept_by: None,
+        }
     }
 
     /// What stands at this thread's number.
@@ -71,6 +84,23 @@ impl Guests {
         self.live == 0
     }
 
+    /// The message call at which this thread's guest stands, which is the one asked for. It is made
+    /// at the first poll, and kept until the guest moves on or another thread calls.
+    #[inline(always)]
+    pub(crate) fn call_of(&mut self, thread: Tid, asked: Ghost<Call>) -> Call
+        requires within { thread.0 < length self.old.items }
+        requires asked { stands_at (guest_at self.old.items thread.0) asked }
+        ensures call { result ≡ asked }
+        ensures same { self.new ≡ self.old }
+    {
+        let _ = asked;
+        if self.kept_by != Some(thread) {
+            self.kept = call_at(&self.table[usize::from(thread.0)]);
+            self.kept_by = Some(thread);
+        }
+        self.kept
+    }
+
     /// Notes what a poll of a thread's call answered, and tells whether an effect that the call has
     /// after it came in it.
     #[inline(always)]
@@ -92,6 +122,9 @@ impl Guests {
         guest.note(effect, answer);
         let after = guest.stage;
         recount(&mut self.begun, &mut self.live, before, after);
+        if answer.is_some() {
+            self.kept_by = None;
+        }
         fresh
     }
 
@@ -119,6 +152,7 @@ impl Guests {
         guest.pass(pass);
         let after = guest.stage;
         recount(&mut self.begun, &mut self.live, before, after);
+        self.kept_by = None;
     }
 
     /// Notes that a thread did an instruction of its own.
@@ -127,10 +161,23 @@ impl Guests {
         requires { thread.0 < length self.old.items }
         ensures { self.new.items ≡ with_guest self.old.items thread.0 computed }
     {
+        self.kept_by = None;
         match &mut self.table[usize::from(thread.0)] {
             Some(guest) => guest.compute(),
             None => {}
         }
+    }
+}
+
+/// The message call at which this guest stands.
+#[inline(always)]
+fn call_at(guest: &Option<Guest>) -> Call
+    ensures { (call : Call) → stands_at guest.now call → result ≡ call }
+{
+    match guest {
+        Some(guest) => guest.call(),
+        // It has none.
+        None => Call::Recv(BufId(0)),
     }
 }
 

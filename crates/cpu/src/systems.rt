@@ -205,8 +205,7 @@ where
         ensures stay { StayHome self.new }
         ensures once { StandsOnce self.new }
     {
-        let count = self.cpus.len();
-        if !steps.iter().all(|cpu| usize::from(cpu.0) < count) {
+        if !are_below(steps, self.cpus.len()) {
             self.holds();
             return Err(BadCpu);
         }
@@ -352,4 +351,18 @@ where
     {
         let _ = &self.room;
     }
+}
+
+/// Whether each of these CPUs has a number below this one: told by the greatest of them, which is
+/// found without a branch for each.
+fn are_below(cpus: &[CpuId], count: usize) -> bool
+    ensures { (result ≡ true) ↔ All (λ c. c.0 < count) cpus.now }
+{
+    let mut most = 0;
+    for cpu in cpus {
+        if most < cpu.0 {
+            most = cpu.0;
+        }
+    }
+    cpus.is_empty() || usize::from(most) < count
 }

@@ -5,13 +5,12 @@ ghost use Rattle.std.specs.Prelude.{◌≡◌};
 ghost use Rattle.cpu_workers.specs.Counts.{counting};
 
 mod keys;
-mod sections;
+pub(crate) mod sections;
 mod tables;
 mod threads;
 
 use event_log::{BufId, LockId};
 use layer_traits::{Edit, LockLaw, Payload, SectionOf};
-pub use sections::CountWords;
 use std::marker::PhantomData;
 pub use tables::{NotCounted, count_or_leave, count_table, number_left};
 use thiserror::Error;

@@ -11,6 +11,7 @@ ghost use Rattle.cpu_workers.specs.Lawful.{IsLawfulReport};
 ghost use Rattle.cpu_workers.specs.Seating.{HaveLeft, OpensPlan};
 
 use crate::gates::Gate;
+use crate::plan_words::PlanWords;
 use crate::report::Report;
 use crate::seating::{Left, run_over};
 use crate::seats::TowerSeat;
@@ -111,17 +112,18 @@ fn parted<K: TableWords>(
     }
 }
 
-// Lets a worker of each CPU run at its seat of ticket locks.
-fn run_tickets<G: Gate + Sync, R: Threads + Wait + Sync>(
+// Lets a worker of each CPU run at its seat of locks whose words are read as those of ticket locks,
+// as the words of any lock may be.
+fn run_tickets<K: PlanWords + Sync, G: Gate + Sync, R: Threads + Wait + Sync>(
     rt: &R,
     alloc: Global,
     boot: &Boot,
     turns: u64,
     gate: &G,
-    shared: &Shared<TowerEdit, TicketWords>,
+    shared: &Shared<TowerEdit, K>,
     keys: Vec<Key<TowerEdit>>,
 ) -> Result<Back<TowerEdit>, WorkerError>
-    requires lock { boot.now.lock ≡ kind.Ticket }
+    requires lock { boot.now.lock ≡ K.lock_kind }
     requires keys { keys.items ≡ new_seat_views shared.now boot.now.cpus }
     requires opens { OpensPlan boot.now (opened shared.now.start) }
     ensures { IfOk result (λ b. HaveLeft boot.now (G.MayAnswer gate.now) turns shared.now b.keys.items (map (λ t. t.items) b.traces.items) b.taken.items
@@ -130,13 +132,11 @@ fn run_tickets<G: Gate + Sync, R: Threads + Wait + Sync>(
     let back = Back::with_capacity(alloc, boot.cpus() as usize)?;
     let seats = seats_at(alloc, shared, keys)?;
     let _laws: TowerLockLaws = PhantomData;
-    let left = run_over::<Ticket<TowerSeat<'_, TicketWords>>, G, R>(
-        rt, alloc, boot, turns, gate, seats,
-    )?;
+    let left = run_over::<Ticket<TowerSeat<'_, K>>, G, R>(rt, alloc, boot, turns, gate, seats)?;
     Ok(parted(left, back))
 }
 
-// Lets a worker of each CPU run at its seat of locks with grant words.
+// Lets a worker of each CPU run at its seat of locks with grant words, in events of their own.
 fn run_grants<G: Gate + Sync, R: Threads + Wait + Sync>(
     rt: &R,
     alloc: Global,
@@ -201,6 +201,43 @@ fn closed<K: TableWords>(shared: Shared<TowerEdit, K>, back: Back<TowerEdit>) ->
     }
 }
 
+// Runs a plan at a table of locks whose words are read as those of ticket locks, as [`run_workers`]
+// says.
+fn run_words<K: PlanWords + Sync, G: Gate + Sync, R: Threads + Wait + Sync>(
+    rt: &R,
+    alloc: Global,
+    boot: &Boot,
+    turns: u64,
+    gate: &G,
+) -> Result<Report, WorkerError>
+    requires lock { boot.now.lock ≡ K.lock_kind }
+    ensures { IfOk result (λ r. IsLawfulReport (setup_for boot.now) (G.MayAnswer gate.now) turns
+        (shown (map (λ t. t.items) r.traces.items) r.taken.items r.stops.items r.blocks.items)) }
+{
+    let open = table_of::<K>(alloc, boot)?;
+    let (shared, keys) = open;
+    let back = run_tickets(rt, alloc, boot, turns, gate, &shared, keys)?;
+    Ok(closed(shared, back))
+}
+
+// Runs a plan at a table of locks with grant words, as [`run_workers`] says.
+fn run_waiters<G: Gate + Sync, R: Threads + Wait + Sync>(
+    rt: &R,
+    alloc: Global,
+    boot: &Boot,
+    turns: u64,
+    gate: &G,
+) -> Result<Report, WorkerError>
+    requires lock { boot.now.lock ≡ kind.Grant }
+    ensures { IfOk result (λ r. IsLawfulReport (setup_for boot.now) (G.MayAnswer gate.now) turns
+        (shown (map (λ t. t.items) r.traces.items) r.taken.items r.stops.items r.blocks.items)) }
+{
+    let open = table_of::<WaiterWords>(alloc, boot)?;
+    let (shared, keys) = open;
+    let back = run_grants(rt, alloc, boot, turns, gate, &shared, keys)?;
+    Ok(closed(shared, back))
+}
+
 /// Runs a plan with a worker thread for each CPU, each at its own seat at one table of shared
 /// words, under a gate. The locks of the table are of the plan's kind. A worker stops between two of
 /// its sections, as [`crate::work`] says: where its CPU is halted, where the gate has answered
@@ -224,17 +261,7 @@ pub fn run_workers<G: Gate + Sync, R: Threads + Wait + Sync>(
         (shown (map (λ t. t.items) r.traces.items) r.taken.items r.stops.items r.blocks.items)) }
 {
     match boot.lock() {
-        LockKind::Ticket => {
-            let open = table_of::<TicketWords>(alloc, boot)?;
-            let (shared, keys) = open;
-            let back = run_tickets(rt, alloc, boot, turns, gate, &shared, keys)?;
-            Ok(closed(shared, back))
-        }
-        LockKind::Grant => {
-            let open = table_of::<WaiterWords>(alloc, boot)?;
-            let (shared, keys) = open;
-            let back = run_grants(rt, alloc, boot, turns, gate, &shared, keys)?;
-            Ok(closed(shared, back))
-        }
+        LockKind::Ticket => run_words::<TicketWords, G, R>(rt, alloc, boot, turns, gate),
+        LockKind::Grant => run_waiters(rt, alloc, boot, turns, gate),
     }
 }

@@ -1,36 +1,21 @@
 -- What is said under a condition is so under any that it follows from: so what is said of layers whose polls are single actions holds
 -- without a condition where they are such.
-use Rattle.std.proofs.Common.{inl, inr, ℕ, Bool, true, false, List, Option, Some, None}
-use Rattle.std.specs.Prelude.{Result, Ok, Err}
+use Rattle.std.proofs.Common.{◌≡◌, ◌⊎◌, inl, inr, List, refl, subst}
+use Rattle.std.specs.Prelude.{Result, Ok, Err, IsErrAnd}
 use Rattle.event_log.specs.declared.ids.CpuId.{CpuId}
 use Rattle.boot.specs.declared.locks.LockKind.{LockKind}
 use Rattle.boot.specs.declared.refusals.BootError.{BootError}
+use Rattle.boot.specs.declared.refusals.BootError.TheVariants as refused
 use Rattle.boot.specs.Plan.{BootPlan}
-use Rattle.clap.specs.Walk.{Text}
 use Rattle.cpu.specs.Claims.{Shown}
 use Rattle.cpu.specs.Systems.{Ran, WentOn, goes, starts, stayed, took}
-use Rattle.mctower.specs.declared.refusals.Refusal.{Refusal}
-use Rattle.mctower.specs.declared.serve.Done.{Done}
+use Rattle.mctower.specs.declared.run.Fault.{Fault}
+use Rattle.mctower.specs.declared.run.Fault.TheVariants.{NoMemory, Boot, BadCpu, NoOrder, WriteFault}
 use Rattle.mctower.specs.declared.states.State.{State}
-use Rattle.mctower.specs.Line.{Ghost, check, count, run, threads}
-use Rattle.mctower.specs.Output.{Output}
-use Rattle.mctower.specs.Running.{IsRunOf}
-use Rattle.mctower.specs.Serve.{Ends, OfInput, OfPlan, RunsAsked, RunsPlan, Serves, ReportsRun}
+use Rattle.mctower.specs.Output.{IsUntouched, Output}
+use Rattle.mctower.specs.Plans.{from_boot}
+use Rattle.mctower.specs.Running.{IsPrinted, IsRunOf, NoCondition, Refuses, RunsOverTower, RunsPlan, RunsText, lock_in}
 use Rattle.mctower.specs.State.{IsStateOf}
-
--- what is meant for a plan is so for the input's, where it follows for any plan
-module _ {A B : BootPlan → Result Done Refusal → Output → Type 0}
-    (so : (plan : BootPlan) (answer : Result Done Refusal) (out : Output) → A plan answer out → B plan answer out) where
-  of_plan : (read : Result BootPlan BootError) (answer : Result Done Refusal) (out : Output) → OfPlan A read answer out → OfPlan B read answer out
-  of_plan (Ok plan) answer out is = so plan answer out is
-  of_plan (Err error) answer out refused = refused
-
-  of_input : (input : Option (List ℕ)) (answer : Result Done Refusal) (out : Output) → OfInput A input answer out → OfInput B input answer out
-  of_input input answer out (inl refused) = inl refused
-  of_input input answer out (inr (inl refused)) = inr (inl refused)
-  of_input input answer out (inr (inr (bytes, is, inl refused))) = inr (inr (bytes, is, inl refused))
-  of_input input answer out (inr (inr (bytes, is, inr (inl refused)))) = inr (inr (bytes, is, inr (inl refused)))
-  of_input input answer out (inr (inr (bytes, is, inr (inr (text, means))))) = inr (inr (bytes, is, inr (inr (text, of_plan _ answer out means))))
 
 module _ (If Where : Type 0) (follows : Where → If) where
   went : (c : CpuId) (s r : Shown) → WentOn If c s r → WentOn Where c s r
@@ -58,7 +43,25 @@ module _ (If Where : Type 0) (follows : Where → If) where
     once = is.once;
   }
 
-  state_of : (s : Shown) (state : State) → IsStateOf If s state → IsStateOf Where s state
+  printed : (plan : BootPlan) (steps : List CpuId) (s : Shown) (out : Output) → IsPrinted If plan steps s out → IsPrinted Where plan steps s out
+  printed plan steps s out is =
+      record { cpus = is.cpus; ran = run_of plan steps s is.ran; out = is.out; fifo = is.fifo; table = λ here. is.table (follows here) }
+
+  runs_plan : (plan : BootPlan) (steps : List CpuId) (result : Result Shown Fault) (out : Output) → RunsPlan If plan steps result out
+      → RunsPlan Where plan steps result out
+  runs_plan plan steps (Ok s) out runs = (runs.0, printed plan steps s out runs.1)
+  runs_plan plan steps (Err NoMemory) out runs = runs
+  runs_plan plan steps (Err (Boot e)) out runs = runs
+  runs_plan plan steps (Err BadCpu) out runs = runs
+  runs_plan plan steps (Err NoOrder) out runs = runs
+  runs_plan plan steps (Err WriteFault) out runs = (runs.0, (runs.1.0, printed plan steps runs.1.0 out runs.1.1))
+
+  pub runs_text : (read : Result BootPlan BootError) (steps : List CpuId) (result : Result Shown Fault) (out : Output) → RunsText If read steps result out
+      → RunsText Where read steps result out
+  runs_text (Ok plan) steps result out runs = runs_plan plan steps result out runs
+  runs_text (Err e) steps result out runs = runs
+
+  pub state_of : (s : Shown) (state : State) → IsStateOf If s state → IsStateOf Where s state
   state_of s state is = record {
     halted = is.halted;
     count = is.count;
@@ -69,40 +72,34 @@ module _ (If Where : Type 0) (follows : Where → If) where
     still = λ here. is.still (follows here);
   }
 
-  tells : (plan : BootPlan) (steps : List CpuId) (s : Shown) (answer : Result Done Refusal) (failed : Bool) → ReportsRun If plan steps s answer failed
-      → ReportsRun Where plan steps s answer failed
-  tells plan steps s answer false (state, is, table, given) = (state, state_of s state is, (λ here. table (follows here)), given)
-  tells plan steps s answer true given = given
+-- want of memory is no more than that, whatever the text
+no_memory : (read : Result BootPlan BootError) (steps : List CpuId) (out : Output) → IsUntouched out → RunsText NoCondition read steps (Err NoMemory) out
+no_memory (Ok plan) steps out untouched = untouched
+no_memory (Err e) steps out untouched = untouched
 
-module _ (If Where : LockKind → Type 0) (follows : (lock : LockKind) → Where lock → If lock) where
-  runs_plan : (steps : List CpuId) (plan : BootPlan) (answer : Result Done Refusal) (out : Output)
-      → RunsPlan If steps plan answer out → RunsPlan Where steps plan answer out
-  runs_plan steps plan answer out (inl refused) = inl refused
-  runs_plan steps plan answer out (inr runs) = inr (record {
-    cpus = runs.cpus;
-    system = runs.system;
-    ran = run_of (If plan.lock) (Where plan.lock) (follows plan.lock) plan steps runs.system runs.ran;
-    trace = runs.trace;
-    traced = runs.traced;
-    fifo = runs.fifo;
-    table = λ here. runs.table (follows plan.lock here);
-    put = (tells (If plan.lock) (Where plan.lock) (follows plan.lock) plan steps runs.system answer out.failed runs.put.0, runs.put.1);
-  })
+-- a text that is no plan is refused
+refused_text : (e : BootError) (out : Output) → IsUntouched out → Refuses e (Err (from_boot e)) out
+refused_text refused.NoMemory out untouched = untouched
+refused_text refused.BadToml out untouched = (refl, untouched)
+refused_text (refused.MissingKey key) out untouched = (refl, untouched)
+refused_text (refused.OutOfRange key) out untouched = (refl, untouched)
+refused_text (refused.Guest t line fault) out untouched = (refl, untouched)
 
-  asked : (steps : Option (List CpuId)) (input : Option (List ℕ)) (answer : Result Done Refusal) (out : Output)
-      → RunsAsked If steps input answer out → RunsAsked Where steps input answer out
-  asked None input answer out refused = refused
-  asked (Some steps) input answer out runs = of_input (runs_plan steps) input answer out runs
+-- want of memory, or what the text's plan says of its lock
+abbrev IsNamed : Result LockKind Fault → Result BootPlan BootError → Type 0
+IsNamed named read = (named ≡ Err NoMemory) ⊎ (named ≡ lock_in read)
 
-  serves : (ghost_of : Option Ghost) (input : Option (List ℕ)) (answer : Result Done Refusal) (out : Output)
-      → Serves If ghost_of input answer out → Serves Where ghost_of input answer out
-  serves None input answer out served = served
-  serves (Some (count cpus times lock)) input answer out served = served
-  serves (Some check) input answer out served = served
-  serves (Some (run schedule)) input answer out served = asked _ input answer out served
-  serves (Some (threads turns)) input answer out served = served
+-- a text whose plan's lock cannot be told is run by nobody: it is refused, or memory was wanting
+pub unnamed_text : (read : Result BootPlan BootError) (steps : List CpuId) (fault : Fault) (out : Output)
+    → IsNamed (Err fault) read → IsUntouched out → RunsText NoCondition read steps (Err fault) out
+unnamed_text read steps fault out (inl is) untouched =
+    let none : NoMemory ≡ fault = cc is in subst (λ (f : Fault). RunsText NoCondition read steps (Err f) out) none (no_memory read steps out untouched)
+unnamed_text (Ok plan) steps fault out (inr is) untouched = absurd (cc is)
+unnamed_text (Err e) steps fault out (inr is) untouched =
+    let same : from_boot e ≡ fault = cc is in subst (λ (f : Fault). Refuses e (Err f) out) same (refused_text e out untouched)
 
-  pub ends : {words : List Text} {ghost_of : Option Ghost} {input : Option (List ℕ)} {status : ℕ} {out err : Output}
-      → Ends If words ghost_of input status out err → Ends Where words ghost_of input status out err
-  ends {ghost_of = ghost_of} {input = input} {out = out} is =
-      record { answer = is.answer; ends = is.ends; served = serves ghost_of input is.answer out is.served; told = is.told }
+-- a fault that is passed on is what is told
+pub fault_told : (read : Result BootPlan BootError) (steps : List CpuId) (fault : Fault) (told : Result State Fault) (out : Output)
+    → RunsText NoCondition read steps (Err fault) out → IsErrAnd told (λ f. f ≡ fault) → RunsOverTower read steps told out
+fault_told read steps fault (Ok state) out runs is = absurd is
+fault_told read steps fault (Err f) out runs is = record { answer = Err fault; runs = runs; tells = is }

@@ -3,19 +3,18 @@ use Rattle.std.specs.Prelude.{◌≡◌, ℕ, ◌<◌, true, false, List, length
 use Rattle.event_log.specs.declared.ids.CpuId.{CpuId}
 use Rattle.event_log.specs.Streams.{IsFirstInFirstOut}
 use Rattle.boot.specs.declared.locks.LockKind.{LockKind}
-use Rattle.boot.specs.declared.locks.LockKind.TheVariants as kind
 use Rattle.boot.specs.declared.refusals.BootError.{BootError}
 use Rattle.boot.specs.Plan.{BootPlan}
 use Rattle.cpu.specs.Claims.{FollowPrograms, HasOneOrder, Shown, StandsOnce, StayHome, traces_of}
 use Rattle.cpu.specs.Sound.{IsSetupFor, SoundByTable, setup_for}
 use Rattle.cpu.specs.Systems.{Ran, whole_of}
 use Rattle.cpu.specs.Observed.{ObservedByTable}
-use Rattle.mctower.specs.declared.run.Ran.{Ran as RanOver}
-use Rattle.mctower.specs.declared.run.Ran.TheVariants.{Ticket, Grant}
 use Rattle.mctower.specs.declared.run.Fault.{Fault}
 use Rattle.mctower.specs.declared.run.Fault.TheVariants.{NoMemory, Boot, BadCpu, NoOrder, WriteFault}
 use Rattle.mctower.specs.Output.{IsUntouched, Output}
-use Rattle.mctower.specs.Plans.{IsOpened, IsSystemOf, table_run}
+use Rattle.mctower.specs.Plans.{IsOpened, IsSystemOf, from_boot, table_run}
+use Rattle.mctower.specs.State.{IsStateOf}
+use Rattle.mctower.specs.declared.states.State.{State}
 use Rattle.mctower.specs.Tabled.{IsTextOfRun}
 use Rattle.mctower.specs.Texts.{IsOut}
 
@@ -61,32 +60,7 @@ RunsPlan IsStepwise plan steps (Err BadCpu) out = (¬ AreCpus plan.cpus steps) �
 RunsPlan IsStepwise plan steps (Err NoOrder) out = ⊥
 RunsPlan IsStepwise plan steps (Err WriteFault) out = (out.failed ≡ true) × ((s : Shown) × IsPrinted IsStepwise plan steps s out)
 
--- ---- over the lock that the plan names
-
--- of the layers over ticket locks and of those over locks with grant words, what is said of those over this lock
-abbrev pub on_lock : Type 0 → Type 0 → LockKind → Type 0
-on_lock tickets grants kind.Ticket = tickets
-on_lock tickets grants kind.Grant = grants
-
--- the lock beneath a system after a run
-abbrev pub lock_beneath : {I J M N : Type 0} → RanOver I J M N → LockKind
-lock_beneath (Ticket s) = kind.Ticket
-lock_beneath (Grant s) = kind.Grant
-
--- the system after a run, whatever its lock is
-abbrev pub system_of : {I J M N : Type 0} → RanOver I J M N → Shown
-system_of (Ticket s) = s
-system_of (Grant s) = s
-
--- an answer by its system alone
-abbrev pub system_in : {I J M N : Type 0} → Result (RanOver I J M N) Fault → Result Shown Fault
-system_in (Ok ran) = Ok (system_of ran)
-system_in (Err fault) = Err fault
-
--- where there is a system, this is the lock beneath it
-abbrev pub IsOver : {I J M N : Type 0} → LockKind → Result (RanOver I J M N) Fault → Type 0
-IsOver lock (Ok ran) = lock_beneath ran ≡ lock
-IsOver lock (Err fault) = Unit {0}
+-- ---- of a plan's text
 
 -- what a run answers where the plan's text is refused: that refusal, before anything is written
 abbrev pub Refuses : BootError → Result Shown Fault → Output → Type 0
@@ -97,8 +71,31 @@ Refuses e (Err BadCpu) out = ⊥
 Refuses e (Err NoOrder) out = ⊥
 Refuses e (Err WriteFault) out = ⊥
 
--- what a run of a text answers, by the plan that the text gives or its first fault; want of memory aside. The system stands on the lock
--- that the plan names, and the condition is that of the layers over this lock.
-abbrev pub RunsText : {I J M N : Type 0} → (LockKind → Type 0) → Result BootPlan BootError → List CpuId → Result (RanOver I J M N) Fault → Output → Type 0
-RunsText IsStepwise (Ok plan) steps result out = IsOver plan.lock result × RunsPlan (IsStepwise plan.lock) plan steps (system_in result) out
-RunsText IsStepwise (Err e) steps result out = Refuses e (system_in result) out
+-- what a run of a text answers, by the plan that the text gives or its first fault; want of memory aside
+abbrev pub RunsText : Type 0 → Result BootPlan BootError → List CpuId → Result Shown Fault → Output → Type 0
+RunsText IsStepwise (Ok plan) steps result out = RunsPlan IsStepwise plan steps result out
+RunsText IsStepwise (Err e) steps result out = Refuses e result out
+
+-- ---- over the lock that the plan names
+
+-- what is said of layers of which each poll is one action holds of such layers without a condition
+abbrev pub NoCondition : Type 0
+NoCondition = Unit {0}
+
+-- the lock that a text's plan names, or the text's first fault
+abbrev pub lock_in : Result BootPlan BootError → Result LockKind Fault
+lock_in (Ok plan) = Ok plan.lock
+lock_in (Err e) = Err (from_boot e)
+
+-- what is told of a run's answer: what the state lines tell of its system, or its fault
+abbrev pub Tells : Result Shown Fault → Result State Fault → Type 0
+Tells (Ok s) (Ok state) = IsStateOf NoCondition s state
+Tells (Ok s) (Err fault) = ⊥
+Tells (Err fault) (Ok state) = ⊥
+Tells (Err fault) (Err told) = told ≡ fault
+
+-- A text was run over layers of which each poll is one action, and this is told of the answer.
+pub record RunsOverTower (read : Result BootPlan BootError) (steps : List CpuId) (told : Result State Fault) (printed : Output) : Type 0 where
+  pub answer : Result Shown Fault
+  pub runs : RunsText NoCondition read steps answer printed
+  pub tells : Tells answer told

@@ -7,7 +7,6 @@ use Rattle.std.specs.declared.io.ErrorKind.TheVariants.{OutOfMemory}
 use Rattle.clap.specs.Walk.{Text}
 use Rattle.event_log.specs.declared.ids.CpuId.{CpuId}
 use Rattle.event_log.specs.Streams.{IsFirstInFirstOut}
-use Rattle.boot.specs.declared.locks.LockKind.{LockKind}
 use Rattle.boot.specs.declared.refusals.BootError.{BootError}
 use Rattle.boot.specs.declared.refusals.BootError.TheVariants.{BadToml}
 use Rattle.boot.specs.Plan.{BootPlan, plan_of}
@@ -23,7 +22,7 @@ use Rattle.mctower.specs.declared.refusals.Refusal.{Refusal}
 use Rattle.mctower.specs.declared.refusals.Refusal.TheVariants.{BadLine, NoMemory, BadCpu, NoThread, ReadFault, WriteFault, BadSchedule, Plan as BadPlan}
 use Rattle.cpu.specs.Claims.{Shown, traces_of}
 use Rattle.cpu_workers.specs.declared.stops.Stop.{Stop}
-use Rattle.mctower.specs.Running.{AreCpus, IsRunOf}
+use Rattle.mctower.specs.Running.{AreCpus, IsRunOf, NoCondition}
 use Rattle.mctower.specs.State.{IsStateOf, text_of_state}
 use Rattle.mctower.specs.declared.serve.Done.{Done}
 use Rattle.mctower.specs.declared.serve.Done.TheVariants.{Exit, Ran, Worked}
@@ -112,33 +111,31 @@ OfInput Means input answer out = RefusedBy NoMemory answer out
 
 -- ---- run
 
--- what is to be told is the system's state, where the machine does one action a step that of the step table's system; or the output failed
-abbrev pub ReportsRun : Type 0 → BootPlan → List CpuId → Shown → Result Done Refusal → Bool → Type 0
-ReportsRun IsStepwise plan steps s answer false =
-    (state : State) × IsStateOf IsStepwise s state × (IsStepwise → IsStateOfRun plan steps state) × (answer ≡ Ok (Ran state))
-ReportsRun IsStepwise plan steps s answer true = answer ≡ Err WriteFault
+-- what is to be told is the system's state, which is that of the step table's system; or the output failed
+abbrev pub ReportsRun : BootPlan → List CpuId → Shown → Result Done Refusal → Bool → Type 0
+ReportsRun plan steps s answer false =
+    (state : State) × IsStateOf NoCondition s state × IsStateOfRun plan steps state × (answer ≡ Ok (Ran state))
+ReportsRun plan steps s answer true = answer ≡ Err WriteFault
 
 -- the text is out, and what is to be told is the system's state; or the output failed, and a beginning of the text is out
-abbrev pub PutsRun : Type 0 → BootPlan → List CpuId → Shown → List ℕ → Result Done Refusal → Output → Type 0
-PutsRun IsStepwise plan steps s text answer out = ReportsRun IsStepwise plan steps s answer out.failed × IsPut out text
+abbrev pub PutsRun : BootPlan → List CpuId → Shown → List ℕ → Result Done Refusal → Output → Type 0
+PutsRun plan steps s text answer out = ReportsRun plan steps s answer out.failed × IsPut out text
 
--- the plan's system took the steps, by the step table where its machine does one action a step, and its trace text is written; in the order that
--- it tells, for each buffer what was put is what was taken, in that order, and then what is left; where the machine does one action a step, it is
--- the text of the step table's system of the plan after these steps
-pub record RunsTrace (IsStepwise : Type 0) (plan : BootPlan) (steps : List CpuId) (answer : Result Done Refusal) (printed : Output) : Type 0 where
+-- the plan's system took the steps, by the step table, and its trace text is written; in the order that it tells, for each buffer what was put is
+-- what was taken, in that order, and then what is left; it is the text of the step table's system of the plan after these steps
+pub record RunsTrace (plan : BootPlan) (steps : List CpuId) (answer : Result Done Refusal) (printed : Output) : Type 0 where
   pub cpus : AreCpus plan.cpus steps
   pub system : Shown
-  pub ran : IsRunOf IsStepwise plan steps system
+  pub ran : IsRunOf NoCondition plan steps system
   pub trace : List ℕ
   pub traced : IsTextOf plan.caps (traces_of system) system.contents trace
   pub fifo : IsFirstInFirstOut traced.order system.contents
-  pub table : IsStepwise → IsTextOfRun plan steps trace
-  pub put : PutsRun IsStepwise plan steps system trace answer printed
+  pub table : IsTextOfRun plan steps trace
+  pub put : PutsRun plan steps system trace answer printed
 
--- the plan is run over the lock that it names, or a step is of no CPU of it
-abbrev pub RunsPlan : (LockKind → Type 0) → List CpuId → BootPlan → Result Done Refusal → Output → Type 0
-RunsPlan IsStepwise steps plan answer out = ((¬ AreCpus plan.cpus steps) × RefusedBy BadCpu answer out)
-    ⊎ RunsTrace (IsStepwise plan.lock) plan steps answer out
+-- the plan is run over the tower, or a step is of no CPU of it
+abbrev pub RunsPlan : List CpuId → BootPlan → Result Done Refusal → Output → Type 0
+RunsPlan steps plan answer out = ((¬ AreCpus plan.cpus steps) × RefusedBy BadCpu answer out) ⊎ RunsTrace plan steps answer out
 
 -- the steps that a schedule asks for: none without one
 abbrev pub steps_asked : Option Text → Option (List CpuId)
@@ -146,9 +143,9 @@ steps_asked None = Some []
 steps_asked (Some text) = steps_of text
 
 -- the steps are run; what is no schedule is a bad command line, want of memory aside
-abbrev pub RunsAsked : (LockKind → Type 0) → Option (List CpuId) → Option (List ℕ) → Result Done Refusal → Output → Type 0
-RunsAsked IsStepwise (Some steps) input answer out = OfInput (RunsPlan IsStepwise steps) input answer out
-RunsAsked IsStepwise None input answer out = RefusedBy NoMemory answer out ⊎ RefusedBy BadSchedule answer out
+abbrev pub RunsAsked : Option (List CpuId) → Option (List ℕ) → Result Done Refusal → Output → Type 0
+RunsAsked (Some steps) input answer out = OfInput (RunsPlan steps) input answer out
+RunsAsked None input answer out = RefusedBy NoMemory answer out ⊎ RefusedBy BadSchedule answer out
 
 -- ---- threads
 
@@ -166,14 +163,13 @@ WorksPlan turns plan answer out = RefusedBy NoThread answer out ⊎ WorksTrace p
 -- ---- any order
 
 -- Serving what the words mean: the answer, and what became of standard output. The bytes on standard
--- input are `input`, where they are known. Memory or the input may be wanting always. What is said of layers of which each poll is one
--- action is said of those over the lock that the plan names.
-abbrev pub Serves : (LockKind → Type 0) → Option Ghost → Option (List ℕ) → Result Done Refusal → Output → Type 0
-Serves IsStepwise None input answer out = RefusedBy NoMemory answer out ⊎ RefusedBy BadLine answer out
-Serves IsStepwise (Some (count cpus times lock)) input answer out = Counts (times * cpus) answer out
-Serves IsStepwise (Some check) input answer out = Checks input answer out
-Serves IsStepwise (Some (run schedule)) input answer out = RunsAsked IsStepwise (steps_asked schedule) input answer out
-Serves IsStepwise (Some (threads turns)) input answer out = OfInput (WorksPlan turns) input answer out
+-- input are `input`, where they are known. Memory or the input may be wanting always.
+abbrev pub Serves : Option Ghost → Option (List ℕ) → Result Done Refusal → Output → Type 0
+Serves None input answer out = RefusedBy NoMemory answer out ⊎ RefusedBy BadLine answer out
+Serves (Some (count cpus times lock)) input answer out = Counts (times * cpus) answer out
+Serves (Some check) input answer out = Checks input answer out
+Serves (Some (run schedule)) input answer out = RunsAsked (steps_asked schedule) input answer out
+Serves (Some (threads turns)) input answer out = OfInput (WorksPlan turns) input answer out
 
 -- ---- standard error
 
@@ -192,16 +188,11 @@ pub record EndsReported (words : List Text) (status : ℕ) (err : Output) : Type
   pub told : Reports words answer err
 
 -- A command line is served: there is one answer by which the exit status, standard output and standard error are.
-pub record Ends (IsStepwise : LockKind → Type 0) (words : List Text) (ghost_of : Option Ghost) (input : Option (List ℕ)) (status : ℕ)
-    (out err : Output) : Type 0 where
+pub record Ends (words : List Text) (ghost_of : Option Ghost) (input : Option (List ℕ)) (status : ℕ) (out err : Output) : Type 0 where
   pub answer : Result Done Refusal
   pub ends : status ≡ status_of answer
-  pub served : Serves IsStepwise ghost_of input answer out
+  pub served : Serves ghost_of input answer out
   pub told : Reports words answer err
-
--- Serving over layers of which each poll is one action: what is said of such layers holds without a condition, whichever lock is beneath.
-abbrev pub NoCondition : LockKind → Type 0
-NoCondition lock = Unit {0}
 
 -- ---- standard input
 

@@ -9,14 +9,13 @@ ghost use Rattle.cpu_workers.specs.Counts.{sections_at};
 ghost use Rattle.mctower.specs.Count.{AreReady, after_round, after_rounds};
 
 use crate::line::MOST_TIMES;
+use crate::locks::{GrantLock, OwnedLock, TicketLock};
 use boot::LockKind;
-use cpu_workers::counting::{self, AddOne, CountFault, CountLaws, NUMBER};
+use cpu_workers::counting::{self, AddOne, CountFault, NUMBER};
 use event_log::{CpuId, LockId, NoMemory};
 use layer_traits::{LockLayer, OwnedLocks, Payload};
-use plain_machine::{GrantPlain, Plain};
-use spinlock::{Grant, Ticket, whole};
+use spinlock::whole;
 use std::alloc::{AllocError, Global};
-use std::marker::PhantomData;
 use std::sync::Wait;
 use std::thread::Threads;
 
@@ -145,7 +144,7 @@ pub fn number_in<L: OwnedLocks<AddOne>>(machine: &L::Machine) -> u64
 }
 
 /// Counts over the owned machine behind this lock: as [`count_plain`].
-fn count_behind<L: OwnedLocks<AddOne> + Drop>(
+pub(crate) fn count_behind<L: OwnedLocks<AddOne> + Drop>(
     alloc: Global,
     cpus: u8,
     times: u64,
@@ -172,10 +171,9 @@ pub fn count_plain(alloc: Global, cpus: u8, times: u64, lock: LockKind) -> Resul
     requires times { times ≤ MOST_TIMES }
     ensures { IfOk result (λ number. number ≡ times * cpus) }
 {
-    let _laws: CountLaws = PhantomData;
     match lock {
-        LockKind::Ticket => count_behind::<Ticket<Plain<AddOne>>>(alloc, cpus, times),
-        LockKind::Grant => count_behind::<Grant<GrantPlain<AddOne>>>(alloc, cpus, times),
+        LockKind::Ticket => TicketLock::count(alloc, cpus, times),
+        LockKind::Grant => GrantLock::count(alloc, cpus, times),
     }
 }
 

@@ -22,6 +22,7 @@ ghost use Rattle.mctower.specs.Serve.{EndsReported};
 pub mod count;
 mod help;
 pub mod line;
+pub mod locks;
 pub mod print;
 pub mod reading;
 pub mod refusals;
@@ -35,12 +36,12 @@ pub mod tower;
 
 use line::LineError;
 use refusals::{Refusal, line_refused, status_of_refusal, write_report};
+use serve::serve;
 use std::io::{BufWriter, Write};
 use std::process::ExitCode;
 use std::sync::Wait;
 use std::thread::Threads;
 use std::{env, io};
-use tower::serve_tower;
 use tracer::Sink;
 
 fn main(rt: HostRuntime) -> ExitCode {
@@ -93,6 +94,6 @@ fn serve_words<T: AllocGlobal + Input + Print + Threads + Wait + Sync, E: Write>
         return refused(err, words, Refusal::NoMemory);
     };
     let mut out = Sink::new(buffered);
-    let status = serve_tower(rt, rt.alloc(), words, &mut rt.reader(), &mut out, err);
+    let status = serve(rt, rt.alloc(), words, &mut rt.reader(), &mut out, err);
     ExitCode::from(status)
 }

@@ -5,10 +5,8 @@ ghost use Rattle.event_log.specs.declared.ids.TheConstants.{CPUS, THREADS};
 ghost use Rattle.layer_traits.specs.declared.calls.Place.{Place};
 ghost use Rattle.cpu.specs.Claims.{IsPlaceOf, listed};
 ghost use Rattle.cpu.specs.Systems.{halted_in};
-ghost use Rattle.mctower.specs.Running.{lock_beneath, on_lock, system_of};
 ghost use Rattle.mctower.specs.State.{IsStateOf};
 
-use crate::run::Ran;
 use crate::states::State;
 use arrayvec::ArrayVec;
 use cpu::System;
@@ -61,18 +59,5 @@ where
         places,
         threads,
         is_quiet,
-    }
-}
-
-/// What the state lines tell of the system of a plan after a run. Takes no memory.
-pub fn state_after<I: Owned + Drop, J: Owned + Drop>(ran: &Ran<I, J>) -> State
-where
-    I::Machine: Drop,
-    J::Machine: Drop,
-    ensures { IsStateOf (on_lock I.IsStepwise J.IsStepwise (lock_beneath ran.now)) (system_of ran.now) result }
-{
-    match ran {
-        Ran::Ticket(system) => state_of(system),
-        Ran::Grant(system) => state_of(system),
     }
 }

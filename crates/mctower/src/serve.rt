@@ -8,26 +8,23 @@ ghost use Rattle.tracer.specs.Sinks.{has_failed, is_flushed};
 ghost use Rattle.mctower.specs.Output.{between};
 ghost use Rattle.mctower.specs.Line.{order_of};
 ghost use Rattle.mctower.specs.Schedule.{ReadsSteps};
-ghost use Rattle.mctower.specs.Running.{on_lock};
 ghost use Rattle.mctower.specs.Serve.{Checks, Counts, Ends, OfBytes, OfInput, Puts, ReadsAll, RunsPlan, Serves, PrintsVerdict, kind_refused, reads_input, steps_asked};
 
 use crate::count::{count_plain, count_table};
 use crate::line::{MOST_TIMES, Order, read_line};
 use crate::print::print;
-use crate::reading::state_after;
 use crate::refusals::{
     Refusal, count_refused, line_refused, run_refused, status_of_refusal, steps_refused,
     write_report,
 };
-use crate::run::run_text;
 use crate::schedule::{MOST_STEPS, StepsError, read_steps};
 use crate::states::State;
 use crate::threads::{serve_threads, write_stops};
+use crate::tower::run_plan;
 use boot::{BootError, LockKind};
 use cpu_workers::Stop;
 use event_log::CpuId;
 use itoa::Buffer;
-use layer_traits::Owned;
 use std::alloc::Global;
 use std::io;
 use std::io::{Read, Write};
@@ -172,66 +169,55 @@ fn steps_in(alloc: Global, schedule: Option<String>) -> Result<Vec<CpuId>, Steps
 }
 
 /// Runs the plan of these bytes under a schedule's steps.
-fn run_bytes<I: Owned + Drop, J: Owned + Drop, O: Write>(
+fn run_bytes<O: Write>(
     alloc: Global,
     bytes: &[u8],
     steps: &[CpuId],
     out: &mut Sink<O>,
 ) -> Result<Done, Refusal>
-where
-    I::Machine: Drop,
-    J::Machine: Drop,
     requires live { has_failed out.old ≡ false }
     requires few { length steps.now ≤ MOST_STEPS }
-    ensures runs { OfBytes (RunsPlan (on_lock I.IsStepwise J.IsStepwise) steps.now) bytes.now result (between O.contents out.old out.new) }
+    ensures runs { OfBytes (RunsPlan steps.now) bytes.now result (between O.contents out.old out.new) }
     ensures flushed { IfOk result (λ _. is_flushed out.new ≡ true) }
 {
     let Ok(plan) = str::from_utf8(bytes) else {
         return Err(Refusal::Plan(BootError::BadToml));
     };
-    match run_text::<I, J, O>(alloc, plan, steps, out) {
-        Ok(ran) => put_out(out, &[], Done::Ran(state_after(&ran))),
+    match run_plan(alloc, plan, steps, out) {
+        Ok(state) => put_out(out, &[], Done::Ran(state)),
         Err(fault) => Err(run_refused(fault)),
     }
 }
 
 /// Runs the plan on the input under a schedule's steps.
-fn serve_run<I: Owned + Drop, J: Owned + Drop, R: Read, O: Write>(
+fn serve_run<R: Read, O: Write>(
     alloc: Global,
     steps: &[CpuId],
     input: &mut R,
     out: &mut Sink<O>,
 ) -> Result<Done, Refusal>
-where
-    I::Machine: Drop,
-    J::Machine: Drop,
     requires live { has_failed out.old ≡ false }
     requires few { length steps.now ≤ MOST_STEPS }
-    ensures runs { OfInput (RunsPlan (on_lock I.IsStepwise J.IsStepwise) steps.now) (R.remaining input.old) result
-        (between O.contents out.old out.new) }
+    ensures runs { OfInput (RunsPlan steps.now) (R.remaining input.old) result (between O.contents out.old out.new) }
     ensures flushed { IfOk result (λ _. is_flushed out.new ≡ true) }
 {
     let bytes = match read_all(alloc, input) {
         Ok(bytes) => bytes,
         Err(refusal) => return Err(refusal),
     };
-    run_bytes::<I, J, O>(alloc, bytes.as_slice(), steps, out)
+    run_bytes(alloc, bytes.as_slice(), steps, out)
 }
 
 /// Does what the words order, and gives what is done. Nothing is told on standard error.
-fn answer<I: Owned + Drop, J: Owned + Drop, R: Read, O: Write, T: Threads + Wait + Sync>(
+fn answer<R: Read, O: Write, T: Threads + Wait + Sync>(
     rt: &T,
     alloc: Global,
     words: &[&str],
     input: &mut R,
     out: &mut Sink<O>,
 ) -> Result<Done, Refusal>
-where
-    I::Machine: Drop,
-    J::Machine: Drop,
     requires { has_failed out.old ≡ false }
-    ensures served { Serves (on_lock I.IsStepwise J.IsStepwise) (order_of (map (λ w. w.now) words.now)) (R.remaining input.old) result
-        (between O.contents out.old out.new) }
+    ensures served { Serves (order_of (map (λ w. w.now) words.now)) (R.remaining input.old) result (between O.contents out.old out.new) }
     ensures flushed { IfOk result (λ _. is_flushed out.new ≡ true) }
     ensures unread { reads_input (order_of (map (λ w. w.now) words.now)) ≡ false → input.new ≡ input.old }
 {
@@ -240,7 +226,7 @@ where
         Ok(Order::Count(cpus, times, lock)) => serve_count(rt, alloc, cpus, times, lock, out),
         Ok(Order::Check) => serve_check(alloc, input, out),
         Ok(Order::Run(schedule)) => match steps_in(alloc, schedule) {
-            Ok(steps) => serve_run::<I, J, R, O>(alloc, steps.as_slice(), input, out),
+            Ok(steps) => serve_run(alloc, steps.as_slice(), input, out),
             Err(error) => Err(steps_refused(error)),
         },
         Ok(Order::Threads(turns)) => serve_threads(rt, alloc, turns, input, out),
@@ -256,29 +242,26 @@ where
 /// stopped; else with 0 and 3 nothing is there. With both `out` is flushed. The input is read for a
 /// check, for a run whose schedule is one, and for a run in threads.
 ///
-/// A run is served by the layers that `I` is the top of where its plan names ticket locks, and else
-/// by those that `J` is the top of. One in threads waits for its workers, so it need not return.
+/// A run goes over the tower of all layers, over the lock that its plan names, in one owned machine.
+/// One in threads waits for its workers, so it need not return.
 ///
 /// Requires: neither `out` nor `err` has failed.
-pub fn serve<
-    I: Owned + Drop,
-    J: Owned + Drop,
-    R: Read,
-    O: Write,
-    E: Write,
-    T: Threads + Wait + Sync,
->(rt: &T, alloc: Global, words: &[&str], input: &mut R, out: &mut Sink<O>, err: &mut Sink<E>) -> u8
-where
-    I::Machine: Drop,
-    J::Machine: Drop,
+pub fn serve<R: Read, O: Write, E: Write, T: Threads + Wait + Sync>(
+    rt: &T,
+    alloc: Global,
+    words: &[&str],
+    input: &mut R,
+    out: &mut Sink<O>,
+    err: &mut Sink<E>,
+) -> u8
     requires out { has_failed out.old ≡ false }
     requires err { has_failed err.old ≡ false }
-    ensures served { Ends (on_lock I.IsStepwise J.IsStepwise) (map (λ w. w.now) words.now) (order_of (map (λ w. w.now) words.now)) (R.remaining input.old) result
+    ensures served { Ends (map (λ w. w.now) words.now) (order_of (map (λ w. w.now) words.now)) (R.remaining input.old) result
         (between O.contents out.old out.new) (between E.contents err.old err.new) }
     ensures flushed { (result ≡ 0) ⊎ (result ≡ 3) → is_flushed out.new ≡ true }
     ensures unread { reads_input (order_of (map (λ w. w.now) words.now)) ≡ false → input.new ≡ input.old }
 {
-    match answer::<I, J, R, O, T>(rt, alloc, words, input, out) {
+    match answer(rt, alloc, words, input, out) {
         Ok(Done::Exit(status)) => status,
         Ok(Done::Ran(state)) => {
             state.write_report(err);

@@ -1,279 +1,187 @@
-//! Serving over the tower of all layers. A proof of a function that names a nest of many types
-//! takes minutes, the more the more it has of other types and values. So what is served is one
-//! value, a [`Session`], behind a trait that names no layer; each function here names a few layers,
-//! over any that meet the trait beneath, climbs with one tower at a time, and hands the top on
-//! ([`Next`]). Two functions name a lock of an owned machine: the first tower stands on ticket
-//! locks, the second on locks with grant words. `serve_tower` takes memory and may wait, as `serve`
-//! does.
+//! What is done over the tower of all layers. A proof of a function that names a nest of many types
+//! takes minutes, the more the more it has of other types and values. So what is done is one value,
+//! behind a trait that names no layer ([`OverTower`]). Each function that climbs names a few layers,
+//! over any that meet the trait beneath, and hands the top on. The lock at the foot is named in
+//! `locks.rt`. `run_plan` takes memory. No call waits, unless the sink's writer does.
 
-ghost use Rattle.std.specs.Prelude.{◌≡◌, ◌⊎◌, false, map, true};
-ghost use Rattle.tracer.specs.Sinks.{has_failed, is_flushed};
+ghost use Rattle.std.specs.Prelude.{◌≡◌, ◌≤◌, ◌⊎◌, Err, false, length};
+ghost use Rattle.boot.specs.Plan.{plan_of};
+ghost use Rattle.tracer.specs.Sinks.{has_failed};
 ghost use Rattle.mctower.specs.Output.{between};
-ghost use Rattle.mctower.specs.Line.{order_of};
-ghost use Rattle.mctower.specs.Serve.{Ends, NoCondition, reads_input};
+ghost use Rattle.mctower.specs.Running.{RunsOverTower, lock_in};
+ghost use Rattle.mctower.specs.declared.run.Fault.TheVariants as fault;
 
-use crate::serve::serve;
+use crate::locks::over_lock;
+use crate::reading::state_of;
+use crate::run::{Fault, run_text};
+use crate::schedule::MOST_STEPS;
+use crate::states::State;
+use boot::{Boot, LockKind};
 use condvar::Cond;
+use event_log::CpuId;
 use fifo_buffer::Fifo;
 use ipc_calls::{
     Ipc, LockEdit, StepwiseBuffers, StepwiseLocks, StepwiseQueues, StepwiseScheds,
-    StepwiseSections, TowerEdit, TowerLaws, TowerLockLaws,
+    StepwiseSections, TowerLaws,
 };
 use layer_traits::Stepwise;
-use plain_machine::{GrantPlain, Plain};
 use queuing_lock::QLock;
 use scheduler::Sched;
 use shared_queue::SharedQueues;
 use sleep_wakeup::Sleeper;
-use spinlock::{Grant, Ticket};
 use std::alloc::Global;
-use std::io::{Read, Write};
+use std::io::Write;
 use std::marker::PhantomData;
-use std::sync::Wait;
-use std::thread::Threads;
 use tracer::Sink;
 
-/// [`serve`] over top layers of which each poll is one action: what it says of such layers holds
-/// without a condition. Each step of a run is one of the step table, and a system that is told quiet
-/// is stuck.
-fn serve_stepwise<
-    I: Stepwise + Drop,
-    J: Stepwise + Drop,
-    R: Read,
-    O: Write,
-    E: Write,
-    T: Threads + Wait + Sync,
->(rt: &T, alloc: Global, words: &[&str], input: &mut R, out: &mut Sink<O>, err: &mut Sink<E>) -> u8
-where
-    I::Machine: Drop,
-    J::Machine: Drop,
-    requires out { has_failed out.old ≡ false }
-    requires err { has_failed err.old ≡ false }
-    ensures served { Ends NoCondition (map (λ w. w.now) words.now) (order_of (map (λ w. w.now) words.now)) (R.remaining input.old) result
-        (between O.contents out.old out.new) (between E.contents err.old err.new) }
-    ensures flushed { (result ≡ 0) ⊎ (result ≡ 3) → is_flushed out.new ≡ true }
-    ensures unread { reads_input (order_of (map (λ w. w.now) words.now)) ≡ false → input.new ≡ input.old }
-{
-    serve::<I, J, R, O, E, T>(rt, alloc, words, input, out, err)
-}
+/// What is done over the top of a tower, by a contract that names no layer. So the functions that
+/// climb the tower rest on this alone, and their proofs, which take minutes, stay as they are where
+/// the proof of what is done changes.
+pub trait OverTower {
+    ghost use Rattle.boot.specs.declared.locks.LockKind.{LockKind};
 
-/// What is served over the tops of two towers, by a contract that names no layer. So the functions
-/// that climb the towers rest on this alone, and their proofs, which take minutes, stay as they are
-/// where the proof of [`serve`] changes.
-pub trait Serving {
-    ghost use Rattle.std.specs.Prelude.{ℕ};
+    /// What comes of it.
+    type Done;
 
-    /// Whether it may be served.
-    ghost IsReady: { Self → Type 0 };
+    /// Whether it may be done over the tower of a lock of this kind.
+    ghost IsReady: { Self → LockKind → Type 0 };
 
-    /// What serving makes of it, with this exit status.
-    ghost Serves: { Self → ℕ → Self → Type 0 };
+    /// What doing it makes of it, if this comes of it.
+    ghost Does: { Self → Self.Done → Self → Type 0 };
 
-    /// Serves it, and gives the exit status. The first top stands on ticket locks.
+    /// Does it over the top of the tower that stands on a lock of this kind.
     ///
-    /// Requires: it may be served.
-    fn serve<I: Stepwise + Drop, J: Stepwise + Drop>(&mut self) -> u8
+    /// Requires: it may be done over the tower of such a lock.
+    fn over<I: Stepwise + Drop>(&mut self, lock: LockKind) -> Self::Done
     where
         I::Machine: Drop,
-        J::Machine: Drop,
-        requires { IsReady self.old }
-        ensures { Serves self.old result self.new };
-}
-
-/// One command line over its streams.
-#[derive(Drop)]
-pub struct Session<'t, 'w, 's, 'i, 'o, 'e, R: Read, O: Write, E: Write, T: Threads + Wait + Sync> {
-    rt: &'t T,
-    alloc: Global,
-    words: &'w [&'s str],
-    input: &'i mut R,
-    out: &'o mut Sink<O>,
-    err: &'e mut Sink<E>,
-}
-
-impl<R: Read, O: Write, E: Write, T: Threads + Wait + Sync> Serving
-    for Session<'_, '_, '_, '_, '_, '_, R, O, E, T> {
-    ghost use Rattle.std.specs.Prelude.{◌≡◌, ◌⊎◌, false, map, true};
-    ghost use Rattle.tracer.specs.Sinks.{has_failed, is_flushed};
-    ghost use Rattle.mctower.specs.Output.{between};
-    ghost use Rattle.mctower.specs.Line.{order_of};
-    ghost use Rattle.mctower.specs.Serve.{Ends, NoCondition, reads_input};
-    ghost use Rattle.std.specs.Thread.{IsSync};
-
-    // The first is what the bound `Sync` says, which the prover does not take off a method of a trait.
-    ghost IsReady = { λ s. IsSync T.row × ((has_failed s.out.now ≡ false) × (has_failed s.err.now ≡ false)) };
-
-    ghost Serves = { λ old result new.
-        ((new.input.ghost_name ≡ old.input.ghost_name) × ((new.out.ghost_name ≡ old.out.ghost_name) × (new.err.ghost_name ≡ old.err.ghost_name)))
-        × (Ends NoCondition (map (λ w. w.now) old.words.now) (order_of (map (λ w. w.now) old.words.now)) (R.remaining old.input.now) result
-        (between O.contents old.out.now new.out.now) (between E.contents old.err.now new.err.now)
-        × (((result ≡ 0) ⊎ (result ≡ 3) → is_flushed new.out.now ≡ true)
-        × (reads_input (order_of (map (λ w. w.now) old.words.now)) ≡ false → new.input.now ≡ old.input.now))) };
-
-    fn serve<I: Stepwise + Drop, J: Stepwise + Drop>(&mut self) -> u8
-    where
-        I::Machine: Drop,
-        J::Machine: Drop,
-    {
-        serve_stepwise::<I, J, R, O, E, T>(
-            self.rt, self.alloc, self.words, self.input, self.out, self.err,
-        )
-    }
-}
-
-/// How a session goes on once the top of one more tower is known.
-trait Next {
-    /// What is served.
-    type Served: Serving;
-
-    /// Goes on with the next tower, or serves.
-    ///
-    /// Requires: the session may be served.
-    fn next<I: Stepwise + Drop>(session: &mut Self::Served) -> u8
-    where
-        I::Machine: Drop,
-        requires { Self.Served.IsReady session.old }
-        ensures { Self.Served.Serves session.old result session.new };
+        requires { IsReady self.old lock }
+        ensures { Does self.old result self.new };
 }
 
 /// Goes on over message calls.
-fn over_buffers<N: Next, B: StepwiseBuffers + Drop>(session: &mut N::Served) -> u8
+fn over_buffers<V: OverTower, B: StepwiseBuffers + Drop>(lock: LockKind, work: &mut V) -> V::Done
 where
     B::Machine: Drop,
-    requires { N.Served.IsReady session.old }
-    ensures { N.Served.Serves session.old result session.new }
+    requires { V.IsReady work.old lock }
+    ensures { V.Does work.old result work.new }
 {
-    N::next::<Ipc<B>>(session)
+    work.over::<Ipc<B>>(lock)
 }
 
 /// [`over_buffers`] over buffers, conditions and queuing locks.
-fn over_locks<N: Next, S: StepwiseLocks + Drop>(session: &mut N::Served) -> u8
+fn over_locks<V: OverTower, S: StepwiseLocks + Drop>(lock: LockKind, work: &mut V) -> V::Done
 where
     S::Machine: Drop,
-    requires { N.Served.IsReady session.old }
-    ensures { N.Served.Serves session.old result session.new }
+    requires { V.IsReady work.old lock }
+    ensures { V.Does work.old result work.new }
 {
-    over_buffers::<N, Fifo<Cond<QLock<S>>>>(session)
+    over_buffers::<V, Fifo<Cond<QLock<S>>>>(lock, work)
 }
 
 /// [`over_locks`] over sleep and wakeup.
-fn over_scheds<N: Next, S: StepwiseScheds + Drop>(session: &mut N::Served) -> u8
+fn over_scheds<V: OverTower, S: StepwiseScheds + Drop>(lock: LockKind, work: &mut V) -> V::Done
 where
     S::Machine: Drop,
-    requires { N.Served.IsReady session.old }
-    ensures { N.Served.Serves session.old result session.new }
+    requires { V.IsReady work.old lock }
+    ensures { V.Does work.old result work.new }
 {
-    over_locks::<N, Sleeper<LockEdit, S>>(session)
+    over_locks::<V, Sleeper<LockEdit, S>>(lock, work)
 }
 
 /// [`over_scheds`] over a scheduler.
-fn over_queues<N: Next, Q: StepwiseQueues + Drop>(session: &mut N::Served) -> u8
+fn over_queues<V: OverTower, Q: StepwiseQueues + Drop>(lock: LockKind, work: &mut V) -> V::Done
 where
     Q::Machine: Drop,
-    requires { N.Served.IsReady session.old }
-    ensures { N.Served.Serves session.old result session.new }
+    requires { V.IsReady work.old lock }
+    ensures { V.Does work.old result work.new }
 {
-    over_scheds::<N, Sched<Q>>(session)
+    over_scheds::<V, Sched<Q>>(lock, work)
 }
 
-/// [`over_queues`] over shared queues.
-fn over_sections<N: Next, L: StepwiseSections + Drop>(session: &mut N::Served) -> u8
+/// Does what is to be done over the tower that stands on a lock of this kind, of which `L` has the
+/// sections.
+///
+/// Requires: it may be done over the tower of such a lock.
+pub fn over_sections<V: OverTower, L: StepwiseSections + Drop>(
+    lock: LockKind,
+    work: &mut V,
+) -> V::Done
 where
     L::Machine: Drop,
-    requires { N.Served.IsReady session.old }
-    ensures { N.Served.Serves session.old result session.new }
+    requires { V.IsReady work.old lock }
+    ensures { V.Does work.old result work.new }
 {
     let _laws: TowerLaws = PhantomData;
-    over_queues::<N, SharedQueues<L>>(session)
+    over_queues::<V, SharedQueues<L>>(lock, work)
 }
 
-/// [`over_sections`] over locks with grant words of an owned machine.
-fn over_grants<N: Next>(session: &mut N::Served) -> u8
-    requires { N.Served.IsReady session.old }
-    ensures { N.Served.Serves session.old result session.new }
-{
-    let _laws: TowerLockLaws = PhantomData;
-    over_sections::<N, Grant<GrantPlain<TowerEdit>>>(session)
+/// A plan that is to be run under a schedule, and the sink of its trace text.
+#[derive(Drop)]
+pub struct PlanRun<'p, 's, 'o, O: Write> {
+    alloc: Global,
+    plan: &'p str,
+    steps: &'s [CpuId],
+    out: &'o mut Sink<O>,
 }
 
-/// [`over_sections`] over ticket locks of an owned machine.
-fn over_tickets<N: Next>(session: &mut N::Served) -> u8
-    requires { N.Served.IsReady session.old }
-    ensures { N.Served.Serves session.old result session.new }
-{
-    let _laws: TowerLockLaws = PhantomData;
-    over_sections::<N, Ticket<Plain<TowerEdit>>>(session)
-}
+impl<O: Write> OverTower for PlanRun<'_, '_, '_, O> {
+    ghost use Rattle.std.specs.Prelude.{◌≡◌, ◌≤◌, false, length, Ok};
+    ghost use Rattle.boot.specs.Plan.{plan_of};
+    ghost use Rattle.tracer.specs.Sinks.{has_failed};
+    ghost use Rattle.mctower.specs.Output.{between};
+    ghost use Rattle.mctower.specs.Running.{RunsOverTower, lock_in};
+    ghost use Rattle.mctower.specs.declared.schedule.TheConstants.{MOST_STEPS};
 
-/// Behind the first tower's top `I`: serves over it and the second's.
-struct Both<V, I> {
-    of: PhantomData<(V, I)>,
-}
+    type Done = Result<State, Fault>;
 
-impl<V: Serving, I: Stepwise + Drop> Next for Both<V, I>
-where
-    I::Machine: Drop,
-{
-    type Served = V;
+    ghost IsReady = { λ run lock. (lock_in (plan_of run.plan.now) ≡ Ok lock) × ((has_failed run.out.now ≡ false) × (length run.steps.now ≤ MOST_STEPS)) };
 
-    fn next<J: Stepwise + Drop>(session: &mut V) -> u8
-    where
-        J::Machine: Drop,
-    {
-        session.serve::<I, J>()
-    }
-}
+    ghost Does = { λ old told new. (new.out.ghost_name ≡ old.out.ghost_name)
+        × RunsOverTower (plan_of old.plan.now) old.steps.now told (between O.contents old.out.now new.out.now) };
 
-/// Behind the first tower's top: goes on with the second, over locks with grant words.
-struct First<V> {
-    of: PhantomData<V>,
-}
-
-impl<V: Serving> Next for First<V> {
-    type Served = V;
-
-    fn next<I: Stepwise + Drop>(session: &mut V) -> u8
+    fn over<I: Stepwise + Drop>(&mut self, _lock: LockKind) -> Result<State, Fault>
     where
         I::Machine: Drop,
     {
-        over_grants::<Both<V, I>>(session)
+        let system = run_text::<I, O>(self.alloc, self.plan, self.steps, self.out)?;
+        Ok(state_of(&system))
     }
 }
 
-/// Serves over both towers, of which the first stands on ticket locks.
-fn over_tower<V: Serving>(session: &mut V) -> u8
-    requires { V.IsReady session.old }
-    ensures { V.Serves session.old result session.new }
+/// The lock that a plan names.
+///
+/// Errors: `Boot` where the plan is refused, and why. `NoMemory` where an allocation was refused.
+fn lock_of(alloc: Global, plan: &str) -> Result<LockKind, Fault>
+    ensures { (result ≡ Err fault.NoMemory) ⊎ (result ≡ lock_in (plan_of plan.now)) }
 {
-    over_tickets::<First<V>>(session)
+    let boot = Boot::read(alloc, plan)?;
+    Ok(boot.lock())
 }
 
-/// [`serve`] over the whole tower, over the locks of one owned machine, ticket locks or locks with
-/// grant words, of which each poll is one action. A plan's run stands on the lock that the plan names.
+/// Runs a plan under a schedule over the tower of the lock that it names, as
+/// [`run_text`] does, and gives what the state lines tell of the system. The plan is read twice:
+/// for the name of its lock, and for the run over that lock's tower.
 ///
-/// Requires: neither `out` nor `err` has failed.
-pub fn serve_tower<R: Read, O: Write, E: Write, T: Threads + Wait + Sync>(
-    rt: &T,
+/// Requires: the sink has not failed. There are at most `MOST_STEPS` steps.
+///
+/// Errors: those of `run_text`.
+pub fn run_plan<O: Write>(
     alloc: Global,
-    words: &[&str],
-    input: &mut R,
+    plan: &str,
+    steps: &[CpuId],
     out: &mut Sink<O>,
-    err: &mut Sink<E>,
-) -> u8
-    requires out { has_failed out.old ≡ false }
-    requires err { has_failed err.old ≡ false }
-    ensures served { Ends NoCondition (map (λ w. w.now) words.now) (order_of (map (λ w. w.now) words.now)) (R.remaining input.old) result
-        (between O.contents out.old out.new) (between E.contents err.old err.new) }
-    ensures flushed { (result ≡ 0) ⊎ (result ≡ 3) → is_flushed out.new ≡ true }
-    ensures unread { reads_input (order_of (map (λ w. w.now) words.now)) ≡ false → input.new ≡ input.old }
+) -> Result<State, Fault>
+    requires live { has_failed out.old ≡ false }
+    requires few { length steps.now ≤ MOST_STEPS }
+    ensures { RunsOverTower (plan_of plan.now) steps.now result (between O.contents out.old out.new) }
 {
-    let mut session = Session {
-        rt,
+    let lock = lock_of(alloc, plan)?;
+    let mut run = PlanRun {
         alloc,
-        words,
-        input,
+        plan,
+        steps,
         out,
-        err,
     };
-    over_tower(&mut session)
+    over_lock(lock, &mut run)
 }

@@ -2,21 +2,19 @@
 
 ghost use Rattle.std.specs.Prelude.{◌≡◌, ◌+◌, ◌<◌, None, IsSome};
 ghost use Rattle.event_log.specs.declared.ids.CpuId.{CpuId};
-ghost use Rattle.event_log.specs.WordsLog.{lock_phase, Idle};
 ghost use Rattle.layer_traits.specs.OneLock.{opened};
-ghost use Rattle.table_machine.specs.SeatViews.{IsOf, new_seat_view};
-ghost use Rattle.cpu_workers.specs.Counts.{made, HasMade, MayHaveMade};
+ghost use Rattle.table_machine.specs.SeatViews.{new_seat_view};
+ghost use Rattle.cpu_workers.specs.Counts.{made, MayHaveMade};
 
 use crate::counting::keys::{CountTable, KeySlot};
-use crate::counting::{AddOne, CountLaws, NUMBER};
+use crate::counting::{AddOne, NUMBER};
+use crate::plan_words::PlanWords;
 use crossbeam_utils::sync::WaitGroup;
 use event_log::{CpuId, LockId};
 use layer_traits::{LockCall, LockLayer, Payload};
-use spinlock::{Grant, Ticket};
-use std::marker::PhantomData;
 use std::sync::Wait;
 use std::thread;
-use table_machine::{GrantSeat, Key, Seat, Shared, TableWords, TicketWords, WaiterWords};
+use table_machine::{Key, Shared};
 
 // How often a worker polls before it lets other threads run: with more threads than processors, the
 // one whose turn it is may not be running. So many looks take about as long as a change of threads.
@@ -70,7 +68,7 @@ fn add_one<L: LockLayer<AddOne>, R: Wait>(
 }
 
 // So many sections of this CPU at its seat, which add 1 each.
-fn work_at<L: LockLayer<AddOne> + Drop, R: Wait>(
+pub(crate) fn work_at<L: LockLayer<AddOne> + Drop, R: Wait>(
     rt: &R,
     cpu: CpuId,
     seat: &mut L::Machine,
@@ -92,56 +90,8 @@ fn work_at<L: LockLayer<AddOne> + Drop, R: Wait>(
     }
 }
 
-/// The words of a table's locks, by which the workers of a count take turns.
-pub trait CountWords: TableWords {
-    /// So many sections of the key's CPU, which add 1 each.
-    ///
-    /// Requires: the key is one of this table, its CPU neither waits at a lock nor holds one, and
-    /// the lock of the number is there.
-    fn work<R: Wait>(
-        rt: &R,
-        shared: &Shared<AddOne, Self>,
-        key: Key<AddOne>,
-        times: u64,
-    ) -> Key<AddOne>
-        requires of { IsOf shared.now key }
-        requires lock { IsSome (opened key.start NUMBER) }
-        requires outside { lock_phase key.cpu key.seen ≡ Idle }
-        ensures { HasMade NUMBER key result times };
-}
-
-impl CountWords for TicketWords {
-    fn work<R: Wait>(
-        rt: &R,
-        shared: &Shared<AddOne, TicketWords>,
-        key: Key<AddOne>,
-        times: u64,
-    ) -> Key<AddOne> {
-        let cpu = key.cpu();
-        let _laws: CountLaws = PhantomData;
-        let mut seat = shared.seat(key);
-        work_at::<Ticket<Seat<'_, AddOne>>, R>(rt, cpu, &mut seat, times);
-        seat.back()
-    }
-}
-
-impl CountWords for WaiterWords {
-    fn work<R: Wait>(
-        rt: &R,
-        shared: &Shared<AddOne, WaiterWords>,
-        key: Key<AddOne>,
-        times: u64,
-    ) -> Key<AddOne> {
-        let cpu = key.cpu();
-        let _laws: CountLaws = PhantomData;
-        let mut seat = shared.seat(key);
-        work_at::<Grant<GrantSeat<'_, AddOne>>, R>(rt, cpu, &mut seat, times);
-        seat.back()
-    }
-}
-
 // A worker: it waits until all are started, and works if its key was then put into its hand.
-pub(crate) fn worker<T: CountTable, K: CountWords, R: Wait>(
+pub(crate) fn worker<T: CountTable, K: PlanWords, R: Wait>(
     rt: &R,
     shared: &Shared<AddOne, K>,
     cpu: CpuId,

@@ -5,9 +5,9 @@ ghost use Rattle.table_machine.specs.SeatViews.{new_seat_views};
 ghost use Rattle.cpu_workers.specs.Counts.{AllHaveMade, IsNumberOfFrees, counting};
 ghost use Rattle.cpu_workers.specs.declared.counting.CountFault.TheVariants.{NoMemory as LacksMemory};
 
-use crate::counting::sections::CountWords;
 use crate::counting::threads::{Refused, work_all};
 use crate::counting::{AddOne, CountFault, NUMBER};
+use crate::plan_words::PlanWords;
 use boot::LockKind;
 use event_log::{CPUS, NoMemory};
 use std::alloc::Global;
@@ -66,7 +66,7 @@ pub struct NotCounted {
 
 // Counts at the table, if it was opened: memory is wanting where it was not. Where nothing was
 // counted the table is closed with the keys that came back, and its number is 0.
-fn count_if_open<K: CountWords + Sync, R: Threads + Wait + Sync>(
+fn count_if_open<K: PlanWords + Sync, R: Threads + Wait + Sync>(
     rt: &R,
     alloc: Global,
     opened: Result<(Shared<AddOne, K>, Vec<Key<AddOne>>), NoMemory>,

@@ -8,8 +8,9 @@ ghost use Rattle.cpu_workers.specs.Reports.{Both};
 ghost use Rattle.cpu_workers.specs.declared.counting.CountFault.TheVariants.{NoMemory as LacksMemory, NoThread as LacksThread};
 
 use crate::counting::keys::{CountTable, Fresh, KeySlot, MadeBy};
-use crate::counting::sections::{CountWords, worker};
+use crate::counting::sections::worker;
 use crate::counting::{AddOne, CountFault, NUMBER};
+use crate::plan_words::PlanWords;
 use crossbeam_utils::sync::WaitGroup;
 use std::alloc::{AllocError, Global};
 use std::snapshot::Snapshot;
@@ -113,7 +114,7 @@ fn join_one<R: Threads + Wait>(
 
 // A worker for each key, all started before any is handed its key, and all joined. Where a thread
 // could not be started, the keys are as they were.
-fn work_in<T: CountTable + Send, K: CountWords + Sync, R: Threads + Wait + Sync>(
+fn work_in<T: CountTable + Send, K: PlanWords + Sync, R: Threads + Wait + Sync>(
     rt: &R,
     shared: &Shared<AddOne, K>,
     keys: Vec<Key<AddOne>>,
@@ -184,7 +185,7 @@ pub(crate) struct Refused {
 }
 
 // As `work_in`, where the supplies are there: memory is wanting exactly where they are not.
-fn work_if_supplied<T: CountTable + Send, K: CountWords + Sync, R: Threads + Wait + Sync>(
+fn work_if_supplied<T: CountTable + Send, K: PlanWords + Sync, R: Threads + Wait + Sync>(
     rt: &R,
     shared: &Shared<AddOne, K>,
     keys: Vec<Key<AddOne>>,
@@ -218,7 +219,7 @@ fn work_if_supplied<T: CountTable + Send, K: CountWords + Sync, R: Threads + Wai
 
 // A worker for each key, all started before any is handed its key, and all joined. All memory is
 // taken before the first is started. Where memory or a thread was refused, the keys are as they were.
-pub(crate) fn work_all<T: CountTable + Send, K: CountWords + Sync, R: Threads + Wait + Sync>(
+pub(crate) fn work_all<T: CountTable + Send, K: PlanWords + Sync, R: Threads + Wait + Sync>(
     rt: &R,
     alloc: Global,
     shared: &Shared<AddOne, K>,

@@ -2,7 +2,6 @@ use Rattle.std.proofs.Common.{◌≡◌, ◌∙◌, ap, sym, subst, map, option_
 use Rattle.event_log.specs.declared.ids.CpuId.{CpuId}
 use Rattle.mctower.specs.Output.{between}
 use Rattle.mctower.specs.Line.{Ghost, ghost_by, order_of, run}
-use Rattle.mctower.specs.Running.{on_lock}
 use Rattle.mctower.specs.Serve.{RunsAsked, Serves, steps_asked}
 use Rattle.mctower.proofs.serve.answer.Goals as goal
 
@@ -13,8 +12,8 @@ returns-in-Ok-clause-served g c =
     c.in-Ok-Run.ensures ∙ ap (λ o. Some (ghost_by o)) c.in-Ok-Run.field-0-is in
     let asked : steps_asked (option_map string_bytes c.in-Ok-Run.schedule) ≡ Some c.as_slice.result.now =
     c.in-Ok.ensures ∙ ap Some (sym c.as_slice.ensures.value) in
-    subst (λ (ghost_of : Option Ghost). Serves (on_lock g.I.IpcLayer.IsStepwise g.J.IpcLayer.IsStepwise) ghost_of (g.R.Read.remaining c.args.input.now)
+    subst (λ (ghost_of : Option Ghost). Serves ghost_of (g.R.Read.remaining c.args.input.now)
     c.serve_run.result (between g.O.Write.contents c.args.out.now c.serve_run.new.out)) (sym means)
-    (subst (λ (steps : Option (List CpuId)). RunsAsked (on_lock g.I.IpcLayer.IsStepwise g.J.IpcLayer.IsStepwise) steps
+    (subst (λ (steps : Option (List CpuId)). RunsAsked steps
     (g.R.Read.remaining c.args.input.now) c.serve_run.result (between g.O.Write.contents c.args.out.now c.serve_run.new.out)) (sym asked)
     c.serve_run.ensures.runs)

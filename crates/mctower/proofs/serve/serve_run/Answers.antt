@@ -1,15 +1,13 @@
 use Rattle.std.proofs.Common.{inr, subst}
 use Rattle.mctower.specs.Output.{between}
-use Rattle.mctower.specs.Running.{on_lock}
 use Rattle.mctower.specs.Serve.{OfBytes, RunsPlan}
 use Rattle.mctower.proofs.serve.serve_run.Goals as goal
 
 pub returns-clause-runs : goal.returns-clause-runs
 returns-clause-runs g c =
-    let IsStepwise = on_lock g.I.IpcLayer.IsStepwise g.J.IpcLayer.IsStepwise in
     inr (inr (
       c.in-Ok.bytes.items,
       c.in-Ok.ensures,
-      subst (λ t. OfBytes (RunsPlan IsStepwise c.args.steps.now) t c.run_bytes.result (between g.O.Write.contents c.args.out.now c.run_bytes.new.out))
+      subst (λ t. OfBytes (RunsPlan c.args.steps.now) t c.run_bytes.result (between g.O.Write.contents c.args.out.now c.run_bytes.new.out))
           c.as_slice.ensures.value c.run_bytes.ensures.runs,
     ))

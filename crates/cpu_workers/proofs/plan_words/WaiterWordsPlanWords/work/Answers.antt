@@ -11,7 +11,7 @@ use Rattle.cpu_workers.specs.declared.counting.AddOne.{AddOne}
 use Rattle.cpu_workers.specs.declared.counting.TheConstants.{NUMBER}
 use Rattle.cpu_workers.specs.Counts.{HasMade, made}
 use Rattle.cpu_workers.proofs.Counts.{has_made}
-use Rattle.cpu_workers.proofs.counting.sections.WaiterWordsCountWords.work.Goals as goal
+use Rattle.cpu_workers.proofs.plan_words.WaiterWordsPlanWords.work.Goals as goal
 
 pub work_at-requires-clause-outside : goal.work_at-requires-clause-outside
 work_at-requires-clause-outside g c =

@@ -6,7 +6,7 @@ use Rattle.cpu_workers.specs.declared.counting.AddOne.{AddOne}
 use Rattle.cpu_workers.specs.declared.counting.TheConstants.{NUMBER}
 use Rattle.cpu_workers.specs.Counts.{HasMade, made}
 use Rattle.cpu_workers.proofs.Counts.{has_made}
-use Rattle.cpu_workers.proofs.counting.sections.TicketWordsCountWords.work.Goals as goal
+use Rattle.cpu_workers.proofs.plan_words.TicketWordsPlanWords.work.Goals as goal
 
 pub returns : goal.returns
 returns g c =

@@ -1,0 +1,92 @@
+//! The locks that a plan or a count may name, each over an owned machine. A further lock is one more
+//! impl here, and an arm where a lock is chosen by its kind: `over_lock` and `count_plain`.
+
+ghost use Rattle.std.specs.Prelude.{◌≡◌, ◌*◌, ◌≤◌, IfOk};
+ghost use Rattle.event_log.specs.declared.ids.TheConstants.{CPUS};
+ghost use Rattle.boot.specs.declared.locks.LockKind.TheVariants as kind;
+
+use crate::count::count_behind;
+use crate::line::MOST_TIMES;
+use crate::tower::{OverTower, over_sections};
+use boot::LockKind;
+use cpu_workers::counting::{AddOne, CountLaws};
+use event_log::NoMemory;
+use ipc_calls::{TowerEdit, TowerLockLaws};
+use plain_machine::{GrantPlain, Plain};
+use spinlock::{Grant, Ticket};
+use std::alloc::Global;
+use std::marker::PhantomData;
+
+/// A lock by its kind: the tower over it in an owned machine, and a count behind it.
+pub trait OwnedLock {
+    ghost use Rattle.boot.specs.declared.locks.LockKind.{LockKind};
+
+    /// Its kind, as a plan names it.
+    ghost kind: { LockKind };
+
+    /// Does what is to be done over the tower that stands on it.
+    ///
+    /// Requires: it may be done over the tower of this kind of lock.
+    fn climb<V: OverTower>(work: &mut V) -> V::Done
+        requires { V.IsReady work.old kind }
+        ensures { V.Does work.old result work.new };
+
+    /// Counts behind it: each of `cpus` CPUs does `times` sections that add 1.
+    ///
+    /// Requires: `cpus` is at most [`CPUS`](event_log::CPUS). `times` is at most [`MOST_TIMES`].
+    ///
+    /// Errors: `NoMemory` where memory ran out; then no section was done.
+    fn count(alloc: Global, cpus: u8, times: u64) -> Result<u64, NoMemory>
+        requires cpus { cpus ≤ CPUS }
+        requires times { times ≤ MOST_TIMES }
+        ensures { IfOk result (λ number. number ≡ times * cpus) };
+}
+
+/// A ticket lock.
+#[derive(Drop)]
+pub struct TicketLock;
+
+impl OwnedLock for TicketLock {
+    ghost kind = { kind.Ticket };
+
+    fn climb<V: OverTower>(work: &mut V) -> V::Done {
+        let _laws: TowerLockLaws = PhantomData;
+        over_sections::<V, Ticket<Plain<TowerEdit>>>(LockKind::Ticket, work)
+    }
+
+    fn count(alloc: Global, cpus: u8, times: u64) -> Result<u64, NoMemory> {
+        let _laws: CountLaws = PhantomData;
+        count_behind::<Ticket<Plain<AddOne>>>(alloc, cpus, times)
+    }
+}
+
+/// A lock with a grant word for each waiter.
+#[derive(Drop)]
+pub struct GrantLock;
+
+impl OwnedLock for GrantLock {
+    ghost kind = { kind.Grant };
+
+    fn climb<V: OverTower>(work: &mut V) -> V::Done {
+        let _laws: TowerLockLaws = PhantomData;
+        over_sections::<V, Grant<GrantPlain<TowerEdit>>>(LockKind::Grant, work)
+    }
+
+    fn count(alloc: Global, cpus: u8, times: u64) -> Result<u64, NoMemory> {
+        let _laws: CountLaws = PhantomData;
+        count_behind::<Grant<GrantPlain<AddOne>>>(alloc, cpus, times)
+    }
+}
+
+/// Does what is to be done over the tower that stands on a lock of this kind.
+///
+/// Requires: it may be done over the tower of this kind of lock.
+pub fn over_lock<V: OverTower>(lock: LockKind, work: &mut V) -> V::Done
+    requires { V.IsReady work.old lock }
+    ensures { V.Does work.old result work.new }
+{
+    match lock {
+        LockKind::Ticket => TicketLock::climb(work),
+        LockKind::Grant => GrantLock::climb(work),
+    }
+}
