@@ -1,5 +1,5 @@
 -- What a poll of a lock with conditions leaves, and why whoever was woken out of a wait stands on no waiting list.
-use Rattle.std.proofs.Common.{◌≡◌, ◌<◌, ◌≤◌, true, false, List, length, slice_set, Option, Some, None, is_some, if◌then◌else◌, refl, ap, ◌∙◌, arith}
+use Rattle.std.proofs.Common.{◌≡◌, ◌<◌, ◌≤◌, Bool, true, false, List, length, slice_set, Option, Some, None, is_some, if◌then◌else◌, refl, ap, ◌∙◌, sym, arith}
 use Rattle.std.proofs.lemmas.Option.{slice_get_within}
 use Rattle.event_log.specs.declared.ids.BufId.{BufId}
 use Rattle.event_log.specs.declared.ids.CpuId.{CpuId}
@@ -21,7 +21,7 @@ use Rattle.layer_traits.specs.declared.queues.QueueEvent.{QueueEvent}
 use Rattle.layer_traits.specs.declared.scheds.SchedCall.{SchedCall}
 use Rattle.layer_traits.specs.declared.sleeps.Outcome.{Outcome}
 use Rattle.layer_traits.specs.Conditions.{MonitorRules, CvCall, cv_rules}
-use Rattle.layer_traits.specs.CvLaw.{CvPolled, MayWait, Waiting, cv_plan_for, left_reported, left_waiting, waited, waiting_with}
+use Rattle.layer_traits.specs.CvLaw.{CvPolled, MayCallCond, MayWait, Waiting, cv_plan_for, left_reported, left_waiting, waited, waiting_with}
 use Rattle.layer_traits.specs.ListsAgree.{is_at}
 use Rattle.layer_traits.specs.Locking.{LockState, lock_after, lock_caller, wait_list_in}
 use Rattle.layer_traits.specs.LockLaw.{Locking, LockPolled, LocksAgree, lock_kernel, lock_plan, slept_for}
@@ -58,8 +58,23 @@ current_awake monitor_rules opening seen c own t legal stands agree runs lock li
     not_counted t (wait_list_in line (lock_after (cv_rules monitor_rules) (inner opening) lock (buffer_sections seen)))
     (agree lock line t ∙ ap (λ w. one_if (is_at lock line (wait_channel_of w))) at)
 
--- the poll of a thread that was woken out of its wait
-pub over_polled : {G B O : Type 0} (monitor_rules : MonitorRules G B O) (k : Kernel (CvCall G) (LockState B) (Outcome (QOut (CvOut O)))) (ActsFor : CpuId
+-- whether the caller waited, as the wake tells
+pub wake_told : (waits : List (Option BufId)) (woke is : Bool) (t u : Tid) → woke ≡ is_some (slept_for waits u) → woke ≡ is → u ≡ t
+    → is_some (slept_for waits t) ≡ is
+wake_told waits woke is t u was told caller = rw (← caller) (sym was ∙ told)
+
+-- a wake of a thread that waited ends its wait
+pub wake_ended : (waits now : List (Option BufId)) (woke : Bool) (t u : Tid) → now ≡ (if woke then slice_set waits u.0 None else waits) → woke ≡ true
+    → u ≡ t → now ≡ slice_set waits t.0 None
+wake_ended waits now woke t u same told caller = rw (← caller) (same ∙ ap (λ b. if b then slice_set waits u.0 None else waits) told)
+
+-- a wake of a thread that did not wait leaves all as they are
+pub wake_kept : (waits now : List (Option BufId)) (woke : Bool) (u : Tid) → now ≡ (if woke then slice_set waits u.0 None else waits) → woke ≡ false
+    → now ≡ waits
+wake_kept waits now woke u same told = same ∙ ap (λ b. if b then slice_set waits u.0 None else waits) told
+
+-- the poll of a thread that was woken out of its wait, by the buffer at which it waited
+over_at : {G B O : Type 0} (monitor_rules : MonitorRules G B O) (k : Kernel (CvCall G) (LockState B) (Outcome (QOut (CvOut O)))) (ActsFor : CpuId
     → Type 0)
     (c : CpuId) (b : BufId) (call : CvCall G)
     (old : List (QueueEvent (CvCall G))) (own : Waiting O) (under_way : Option (SchedCall (CvCall G))) (may : Type 0) (side : Side)
@@ -70,8 +85,8 @@ pub over_polled : {G B O : Type 0} (monitor_rules : MonitorRules G B O) (k : Ker
     ≡ false)
     → side ≡ side_in call → waits ≡ slice_set own.waits (lock_caller (cv_rules monitor_rules) call).0 None
     → CvPolled monitor_rules k ActsFor c b call at old old own under_way (waiting_with own.lock waits (Some (waited side)))
-over_polled monitor_rules k ActsFor c b call old own under_way may side waits None some duty left same now = absurd cc
-over_polled {O = O} monitor_rules k ActsFor c b call old own under_way may side waits (Some at) some duty left same now =
+over_at monitor_rules k ActsFor c b call old own under_way may side waits None some duty left same now = absurd cc
+over_at {O = O} monitor_rules k ActsFor c b call old own under_way may side waits (Some at) some duty left same now =
     let of : side ≡ duty.2.0 = same ∙ ap side_in duty.2.1 in
     record {
       side = duty.2.0;
@@ -81,6 +96,24 @@ over_polled {O = O} monitor_rules k ActsFor c b call old own under_way may side 
       leaves = ap (λ w. waiting_with own.lock w (Some (waited {O = O} side))) now
           ∙ ap (λ s. waiting_with own.lock (slice_set own.waits (lock_caller (cv_rules monitor_rules) call).0 None) (Some (waited {O = O} s))) of;
     }
+
+-- the poll of a thread that was woken out of its wait
+pub over_polled : {G B O : Type 0} (monitor_rules : MonitorRules G B O) (k : Kernel (CvCall G) (LockState B) (Outcome (QOut (CvOut O)))) (ActsFor : CpuId
+    → Type 0)
+    (c : CpuId) (b : BufId) (call : CvCall G)
+    (old : List (QueueEvent (CvCall G))) (own : Waiting O) (under_way : Option (SchedCall (CvCall G))) (side : Side)
+    (waits : List (Option BufId))
+    → is_some (slept_for own.waits (lock_caller (cv_rules monitor_rules) call)) ≡ true
+    → MayCallCond monitor_rules k c old own under_way b call
+    → ((line : WaitList) → is_in (lock_caller (cv_rules monitor_rules) call) (wait_list_in line (lock_after (cv_rules monitor_rules) k.opening (Buffer b)
+    (buffer_sections old)))
+    ≡ false)
+    → side ≡ side_in call → waits ≡ slice_set own.waits (lock_caller (cv_rules monitor_rules) call).0 None
+    → CvPolled monitor_rules k ActsFor c b call (slept_for own.waits (lock_caller (cv_rules monitor_rules) call)) old old own under_way
+    (waiting_with own.lock waits (Some (waited side)))
+over_polled monitor_rules k ActsFor c b call old own under_way side waits some duty left same now =
+    over_at monitor_rules k ActsFor c b call old own under_way _ side waits (slept_for own.waits (lock_caller (cv_rules monitor_rules) call)) some duty.may left
+    same now
 
 -- what the lock's answer leaves, by what it says
 left_by_out : {O : Type 0} (t : Tid) (b : BufId) (waits now : List (Option BufId)) (lock : Locking (CvOut O)) (out : QOut (CvOut O))

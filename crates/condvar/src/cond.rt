@@ -4,8 +4,8 @@ use crate::calls::{caller_of, side_of};
 use crate::waits::Waits;
 use event_log::{BufId, CpuId, Tid};
 use layer_traits::{
-    CvEdit, CvLayer, CvLeave, CvOut, Guarded, Outcome, OwnedConds, OwnedQLocks, Pass, Payload,
-    QEdit, QLockLayer, QOut, WaitList,
+    BufferCall, CvEdit, CvLaw, CvLeave, CvOut, Guarded, Outcome, OwnedConds, OwnedQLocks, Pass,
+    Payload, QEdit, QLockLaw, QOut, ThreadLayer, WaitList,
 };
 
 /// One CPU's part of queuing locks with Mesa conditions (Anderson and Dahlin), over a part `Q` of
@@ -16,19 +16,7 @@ pub struct Cond<Q> {
     waits: Waits,
 }
 
-impl<G: Guarded, Q: QLockLayer<CvEdit<G>>> CvLayer<G> for Cond<Q> {
-    ghost use Rattle.std.specs.Prelude.{◌≡◌, ◌<◌, None, Some, IsSome, IfSome};
-    ghost use Rattle.event_log.specs.declared.ids.LockId.TheVariants.{Buffer};
-    ghost use Rattle.layer_traits.specs.Conditions.{cv_rules};
-    ghost use Rattle.layer_traits.specs.CvLaw.{CvPolled, MayWait, MustStay, cv_plan, waiting_with};
-    ghost use Rattle.layer_traits.specs.Framed.{Framed};
-    ghost use Rattle.layer_traits.specs.LockLaw.{MayGo, MayLock, lock_kernel, slept_for};
-    ghost use Rattle.layer_traits.specs.Locking.{lock_caller, lock_moves, lock_rules};
-    ghost use Rattle.layer_traits.specs.Plans.{Follows, table_of};
-    ghost use Rattle.layer_traits.specs.QueueBlocks.{homes_in};
-    ghost use Rattle.layer_traits.specs.QueueRules.{queue_rules};
-    ghost use Rattle.layer_traits.specs.Payloads.{cv_brought, cv_carried, lock_brought, lock_carried};
-    ghost use Rattle.condvar.specs.declared.cond.Cond.{Cond};
+impl<G: Guarded, Q: ThreadLayer<QLockLaw<CvEdit<G>>>> ThreadLayer<CvLaw<G>> for Cond<Q> {
     ghost use Rattle.condvar.specs.Waiting.{with_waits};
 
     type Machine = Q::Machine;
@@ -114,49 +102,19 @@ impl<G: Guarded, Q: QLockLayer<CvEdit<G>>> CvLayer<G> for Cond<Q> {
     fn poll(
         &mut self,
         m: &mut Q::Machine,
-        buffer: BufId,
-        call: QEdit<CvEdit<G>, CvLeave>,
+        call: BufferCall<QEdit<CvEdit<G>, CvLeave>>,
         payload: &mut Payload,
-    ) -> Option<Outcome<QOut<CvOut<G::Out>>>>
-        requires fits { Q.Fits self.old.lower m.old }
-        requires buffer { IsSome (Q.opening m.old (Buffer buffer)) }
-        requires room { 0 < Q.room m.old }
-        requires caller { (Q.own self.old.lower).sleep.threads.current ≡ Some (lock_caller (cv_rules G.monitor_rules) call) }
-        requires call { MayWait (slept_for self.old.waits.buffers (lock_caller (cv_rules G.monitor_rules) call)) (Q.under_way self.old.lower) buffer
-            call (lock_caller (cv_rules G.monitor_rules) call)
-            (MayGo (slept_for (Q.own self.old.lower).slept (lock_caller (cv_rules G.monitor_rules) call)) (Q.under_way self.old.lower) buffer call
-            (lock_caller (cv_rules G.monitor_rules) call)
-            (MayLock (cv_rules G.monitor_rules) (lock_kernel (cv_rules G.monitor_rules) (Q.opening m.old)) (Q.cpu_of self.old.lower) (Q.seen m.old)
-            (Q.own self.old.lower).sleep.threads.hand buffer call)) }
-        requires carried { lock_carried (cv_carried G.carried) call payload.old.message }
-        ensures seen { CvPolled G.monitor_rules (lock_kernel (cv_rules G.monitor_rules) (Q.opening m.old)) (λ c. Q.ActsFor m.old c) (Q.cpu_of self.old.lower)
-            buffer call (slept_for self.old.waits.buffers (lock_caller (cv_rules G.monitor_rules) call)) (Q.seen m.old) (Q.seen m.new)
-            (with_waits (Q.own self.old.lower) self.old.waits.buffers) (Q.under_way self.new.lower)
-            (waiting_with (Q.own self.new.lower) self.new.waits.buffers result) }
-        ensures woken { IsSome (slept_for self.old.waits.buffers (lock_caller (cv_rules G.monitor_rules) call)) → m.new ≡ m.old }
-        ensures handed { IsSome (slept_for (Q.own self.old.lower).slept (lock_caller (cv_rules G.monitor_rules) call)) → m.new ≡ m.old }
-        ensures framed { Framed (λ (p : Cond Q) k. Q.Fits p.lower k) (λ p. Q.cpu_of p.lower) (λ k. Q.opening k) (λ k. Q.site k) (λ k. Q.room k)
-            (λ k c. Q.ActsFor k c) (λ k c. Q.MayHold k c) self.old self.new m.old m.new }
-        ensures brought { IfSome result (λ outcome. lock_brought (cv_brought G.brought) outcome.out payload.new.message) }
-        ensures prompt { Q.IsWhole → result ≡ None
-            → MustStay (lock_caller (cv_rules G.monitor_rules) call) buffer (with_waits (Q.own self.old.lower) self.old.waits.buffers)
-            (with_waits (Q.own self.new.lower) self.new.waits.buffers) }
-        ensures follows { Q.IsStepwise
-            → Follows (λ c. Q.ActsFor m.old c) (table_of (queue_rules (lock_rules (cv_rules G.monitor_rules)) (lock_moves (cv_rules G.monitor_rules))))
-            (Q.opening m.old) (Q.cpu_of self.old.lower)
-            (cv_plan (lock_moves (cv_rules G.monitor_rules)) (homes_in (Q.opening m.old)) (Q.cpu_of self.old.lower) buffer call
-            (with_waits (Q.own self.old.lower) self.old.waits.buffers))
-            (Q.acts m.old) (Q.acts m.new) (waiting_with (Q.own self.new.lower) self.new.waits.buffers result) }
-    {
-        let t = caller_of::<G>(&call);
+    ) -> Option<Outcome<QOut<CvOut<G::Out>>>> {
+        let t = caller_of::<G>(&call.edit);
         if self.waits.wake(t) {
             return Some(Outcome {
-                out: QOut::Released(CvOut::Waited(side_of::<G>(&call))),
+                out: QOut::Released(CvOut::Waited(side_of::<G>(&call.edit))),
                 slept: false,
                 woke: None,
             });
         }
-        let answer = self.lower.poll(m, buffer, call, payload);
+        let buffer = call.buffer;
+        let answer = self.lower.poll(m, call, payload);
         self.waits.complete(t, buffer, answer)
     }
 
@@ -166,12 +124,6 @@ impl<G: Guarded, Q: QLockLayer<CvEdit<G>>> CvLayer<G> for Cond<Q> {
     }
 
     ghost own_cpu = { λ p m. Q.own_cpu p.lower m };
-
-    ghost stands = { λ p m. Q.stands p.lower m };
-
-    ghost lists = { λ p m. Q.lists p.lower m };
-
-    ghost awaits = { λ p m. Q.awaits p.lower m };
 
     ghost opens = { Q.opens };
 
@@ -188,6 +140,10 @@ impl<G: Guarded, Q: QLockLayer<CvEdit<G>>> CvLayer<G> for Cond<Q> {
     ghost proper = { Q.proper };
 
     ghost busy = { λ p m. Q.busy p.lower m };
+
+    ghost stands = { λ p m. Q.stands p.lower m };
+
+    ghost inside = { λ p. tt };
 
     ghost idle = { λ p m. Q.idle p.lower m };
 }

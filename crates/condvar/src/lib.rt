@@ -4,8 +4,9 @@
 //! Thread 3, which owns the lock of buffer 0, gives it on and waits for a message, in one event:
 //!
 //! ```text
-//! let wait = QEdit::Release(CvLeave::Wait(Tid(3), Side::Receivers));
-//! let outcome = part.poll(&mut machine, BufId(0), wait, &mut payload);
+//! let edit = QEdit::Release(CvLeave::Wait(Tid(3), Side::Receivers));
+//! let call = BufferCall { buffer: BufId(0), edit };
+//! let outcome = part.poll(&mut machine, call, &mut payload);
 //! // None while it waits; it answers once the thread was woken and runs again
 //! ```
 #![tactic(auto)]

@@ -17,3 +17,4 @@ pub mod NativeKeys
 pub mod NativeLists
 pub mod NativeOrder
 pub mod NativeRuns
+pub mod TowerOpening

@@ -10,21 +10,18 @@ use Rattle.event_log.specs.Actions.{Action, AreLegal, acts_of, renamed}
 use Rattle.event_log.specs.Messages.{Message}
 use Rattle.layer_traits.specs.declared.queue_edits.QueueBlock.{QueueBlock}
 use Rattle.layer_traits.specs.declared.queue_edits.QueueEdit.{QueueEdit}
-use Rattle.layer_traits.specs.BufferBlocks.{BufferState}
 use Rattle.layer_traits.specs.BufferEffects.{opening_locks}
 use Rattle.layer_traits.specs.OneLock.{AreDistinct, opened}
 use Rattle.layer_traits.specs.QueueBlocks.{StartsWell, homes_in, inner}
 use Rattle.layer_traits.specs.Renaming.{renamed_edit, viewed}
-use Rattle.layer_traits.specs.Sleeping.{SleepState}
 use Rattle.layer_traits.specs.WordsProtocol.{edit_of}
-use Rattle.queuing_lock.specs.declared.edits.QBlock.{QBlock}
 use Rattle.queuing_lock.specs.Nested.{edit_in as lock_call, nested_lock_of}
 use Rattle.sleep_wakeup.specs.Nested.{edit_in as slept_edit, state_of}
 use Rattle.cpu.specs.Boots.{homes_for}
 use Rattle.cpu.specs.Sound.{setup_for}
 use Rattle.table_machine.specs.SeatViews.{TableView, Closes, IsOver, site_of}
 use Rattle.cpu.specs.Table.Setups.{at_boot}
-use Rattle.cpu.specs.Tower.Views.{TowerBlock, TowerName}
+use Rattle.cpu.specs.Tower.Views.{TowerName}
 use Rattle.cpu_workers.specs.declared.gates.Go.{Go}
 use Rattle.cpu_workers.specs.declared.stops.Stop.{Stop}
 use Rattle.cpu_workers.specs.Closing.{Key, LockBlock, LockEdit, blocks_read, tower_rules}
@@ -51,21 +48,6 @@ pub record OpensPlan (plan : BootPlan) (opening : LockId → Option Block) : Typ
   pub homes : homes_in opening ≡ homes_for plan
   pub queues : (c : CpuId) → c.0 < plan.cpus → IsSome (opening (Pending c))
   pub locks : inner (viewed nested_lock_of (viewed state_of opening)) ≡ opening_locks plan.caps
-
--- sections that put threads to sleep open for a CPU: with its queue, with the home of each thread, and with an empty buffer of each capacity
--- under a free lock
-pub record LocksOpen (caps : List ℕ) (homes : List CpuId) (c : CpuId) (opening : LockId → Option (QueueBlock (SleepState (QBlock BufferState))))
-    : Type 0 where
-  pub homes_are : homes_in opening ≡ homes
-  pub queue : IsSome (opening (Pending c))
-  pub locks : inner (viewed nested_lock_of opening) ≡ opening_locks caps
-
--- and so do buffers, which tell their own capacities
-pub record BuffersOpen (caps : List ℕ) (homes : List CpuId) (c : CpuId) (own : List ℕ) (opening : LockId → Option TowerBlock) : Type 0 where
-  pub caps_are : own ≡ caps
-  pub homes_are : homes_in opening ≡ homes
-  pub queue : IsSome (opening (Pending c))
-  pub locks : inner opening ≡ opening_locks own
 
 -- a machine for one CPU's worker before its first turn: it acts for the CPU, no section of which is under way, has seen no section and no
 -- action, and its locks open so

@@ -11,14 +11,11 @@ ghost use Rattle.cpu_workers.specs.Seating.{IsReady, IsUnused, tower_acts};
 
 use crate::callers::Caller;
 use crate::native_threads::{NativeTask, call_all};
-use crate::native_towers::call_scheds;
 use crate::natives::Native;
 use crate::starting::WorkerError;
 use event_log::{CpuId, NoMemory, Tid};
-use ipc_calls::{TowerEdit, TowerLaws};
-use layer_traits::{IpcLayer, LockLayer};
-use scheduler::Sched;
-use shared_queue::SharedQueues;
+use ipc_calls::{Ipc, TowerEdit, TowerLaws, TowerOver};
+use layer_traits::{IpcLayer, Layer, LockLaw};
 use std::alloc::Global;
 use std::marker::PhantomData;
 use std::sync::Wait;
@@ -152,13 +149,13 @@ where
 }
 
 /// Lets each native run over its machine, in a thread of its own, and gives what they leave, in their
-/// order. All memory is taken before any call. With `native_towers` it alone names the layers of the
-/// tower, each of which makes a proof above it dearer.
+/// order. All memory is taken before any call. It alone names the layers of the tower, each of which
+/// makes a proof above it dearer.
 ///
 /// Errors: `NoMemory` where memory was refused and `NoThread` where a thread could not be started;
 /// then no call was made.
 pub(crate) fn call_over<
-    L: LockLayer<TowerEdit> + Drop + Send,
+    L: Layer<LockLaw<TowerEdit>> + Drop + Send,
     N: Native + Drop + Send,
     R: Threads + Wait + Sync,
 >(
@@ -189,5 +186,5 @@ where
         → HasLeftCalls N.Kept caps.now (cpu_at k) n x.native (tower_acts (L.acts x.machine))) }
 {
     let _laws: TowerLaws = PhantomData;
-    call_scheds::<Sched<SharedQueues<L>>, N, R>(rt, alloc, caps, homes, machines, natives)
+    call_each::<Ipc<TowerOver<L>>, N, R>(rt, alloc, caps, homes, machines, natives)
 }

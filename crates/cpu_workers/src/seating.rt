@@ -12,17 +12,14 @@ ghost use Rattle.cpu_workers.specs.Reports.{Both};
 ghost use Rattle.cpu_workers.specs.Seating.{HasLeft, IsApart, IsAtBoot, IsReady, IsUnused, OpensPlan, tower_acts};
 
 use crate::gates::Gate;
-use crate::plan_towers::run_scheds;
 use crate::starting::{Came, WorkerError, work_all};
 use crate::turns::Did;
 use crate::worker::Worker;
 use boot::Boot;
 use cpu::{guests_of, homes_of};
 use event_log::{CpuId, Entry, NoMemory};
-use ipc_calls::{TowerEdit, TowerLaws};
-use layer_traits::{IpcLayer, Layer, LockLaw, LockLayer};
-use scheduler::Sched;
-use shared_queue::SharedQueues;
+use ipc_calls::{Ipc, TowerEdit, TowerLaws, TowerOver};
+use layer_traits::{IpcLayer, Layer, LockLaw};
 use std::alloc::Global;
 use std::marker::PhantomData;
 use std::sync::Wait;
@@ -166,39 +163,9 @@ where
     Ok(all_apart::<I>(came, left))
 }
 
-// As `run_over`. The check of a function that names one lock is dearer by `LockLayer` than by the
-// trait of every layer, and that of one that names the layers above the locks the other way round.
-fn run_queues<L: LockLayer<TowerEdit> + Drop + Send, G: Gate + Sync, R: Threads + Wait + Sync>(
-    rt: &R,
-    alloc: Global,
-    boot: &Boot,
-    turns: u64,
-    gate: &G,
-    machines: Vec<L::Machine>,
-) -> Result<Vec<Left<L::Machine>>, WorkerError>
-where
-    L::Machine: Drop + Send,
-    requires stepwise { L.IsStepwise }
-    requires room { (m : L.Machine) → 0 < L.room m }
-    requires plan { IsPlan boot.now }
-    requires count { length machines.items ≤ boot.now.cpus }
-    requires few { length machines.items ≤ CPUS }
-    requires ready { (k : ℕ) (m : L.Machine) → slice_get machines.items k ≡ Some m
-        → IsReady (L.ActsFor m (cpu_at k)) (L.IsOutside m (cpu_at k)) (L.seen m ≡ []) (L.acts m ≡ []) (OpensPlan boot.now (L.opening m)) }
-    ensures count { IfOk result (λ left. length left.items ≡ length machines.items) }
-    ensures site { IfOk result (λ left. (k : ℕ) (x : _) (m : L.Machine) → slice_get left.items k ≡ Some x → slice_get machines.items k ≡ Some m
-        → L.site x.machine ≡ L.site m) }
-    ensures owns { IfOk result (λ left. (k : ℕ) (x : _) → slice_get left.items k ≡ Some x → L.ActsFor x.machine (cpu_at k)) }
-    ensures left { IfOk result (λ left. (k : ℕ) (x : _) → slice_get left.items k ≡ Some x
-        → HasLeft boot.now (G.MayAnswer gate.now) turns (cpu_at k) (tower_acts (L.acts x.machine)) (L.site x.machine) x.trace.items x.did.taken x.did.stop) }
-{
-    let _laws: TowerLaws = PhantomData;
-    run_scheds::<Sched<SharedQueues<L>>, G, R>(rt, alloc, boot, turns, gate, machines)
-}
-
 /// Lets a worker of each CPU of the plan run over its machine, each in a thread of its own, and gives
-/// what they leave, by CPU. All memory is taken before any step. With `run_queues` and `plan_towers` it
-/// alone names the layers of the tower, each of which makes a proof above it dearer.
+/// what they leave, by CPU. All memory is taken before any step. It alone names the layers of the tower,
+/// each of which makes a proof above it dearer.
 ///
 /// Errors: `NoMemory` where memory was refused and `NoThread` where a thread could not be started;
 /// then no step was taken.
@@ -230,5 +197,6 @@ where
     ensures left { IfOk result (λ left. (k : ℕ) (x : _) → slice_get left.items k ≡ Some x
         → HasLeft boot.now (G.MayAnswer gate.now) turns (cpu_at k) (tower_acts (L.acts x.machine)) (L.site x.machine) x.trace.items x.did.taken x.did.stop) }
 {
-    run_queues::<L, G, R>(rt, alloc, boot, turns, gate, machines)
+    let _laws: TowerLaws = PhantomData;
+    run_each::<Ipc<TowerOver<L>>, G, R>(rt, alloc, boot, turns, gate, machines)
 }

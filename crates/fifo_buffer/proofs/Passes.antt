@@ -139,13 +139,13 @@ lawful_before opening mine past new is lawful =
 pub passed_own : (opening : LockId → Option (QueueBlock BufferLock)) (c : CpuId) (past : List BufferEvent) (cv cv' : Waiting BufferOut)
     (call_states : List CallState)
     (under_way : Option (SchedCall (CvCall BufferEdit))) (calling : Option Tid) (p : Pass) (done : Bool) → MayGoOn (under_way_at calling under_way) (Passing p)
-    → cv'.lock.sleep.deferred ≡ cv.lock.sleep.deferred → cv'.lock.slept ≡ cv.lock.slept → cv'.waits ≡ cv.waits
+    → (cv'.lock.sleep.deferred ≡ cv.lock.sleep.deferred) × (cv'.lock.slept ≡ cv.lock.slept) × (cv'.waits ≡ cv.waits)
     → PartFits opening c past cv call_states under_way calling → PartFits opening c past cv' call_states (if done then None else Some (sched.Pass p)) calling
-passed_own opening c past cv cv' call_states under_way (Some t) p done may deferred slept waits fits = absurd (wrong may)
+passed_own opening c past cv cv' call_states under_way (Some t) p done may rest fits = absurd (wrong may)
   where
     wrong : Calling t ≡ Passing p → ⊥
     wrong is = absurd cc
-passed_own opening c past cv cv' call_states under_way None p done may deferred slept waits fits = record {
+passed_own opening c past cv cv' call_states under_way None p done may (deferred, slept, waits) fits = record {
   boots = fits.boots;
   sizes = record { slept = rw slept fits.sizes.slept; waits = rw waits fits.sizes.waits; call_states_are = fits.sizes.call_states_are };
   calls = record { none = none done; deferred = deferred ∙ fits.calls.deferred; fit = λ u home. rw (slept, waits) (fits.calls.fit u home) };

@@ -36,7 +36,7 @@ use Rattle.layer_traits.specs.BufferEffects.{effects_in}
 use Rattle.layer_traits.specs.BufferLaw.{IsEffectOf, buffer_of, recorded, section_at, side_of}
 use Rattle.layer_traits.specs.BufferProtocol.{BufferLock, BufferSection, buffer_at, buffer_monitor_rules, buffer_rules}
 use Rattle.layer_traits.specs.Conditions.{CvCall, cv_rules}
-use Rattle.layer_traits.specs.CvLaw.{MayWait, Waiting, left_waiting}
+use Rattle.layer_traits.specs.CvLaw.{MayCallCond, MayWait, Waiting, left_waiting}
 use Rattle.layer_traits.specs.LockLaw.{MayGo, MayLock, Locking, left_after, lock_kernel, slept_for}
 use Rattle.layer_traits.specs.Locking.{wait_list_asked, wait_list_slept, lock_answer, lock_out, asker_report}
 use Rattle.layer_traits.specs.Passes.{own_slept, own_woken, passed_on, queue_for}
@@ -119,12 +119,14 @@ module _ (opening : LockId → Option (QueueBlock BufferLock)) (c : CpuId) (t : 
 
   pub may_poll_section : (own : Waiting BufferOut) (under_way : Option (SchedCall (CvCall BufferEdit)))
       → MayPollSection (inner opening) (buffer_sections past) t call call_state own under_way
-      → (u : Tid) → u ≡ t
-      → MayWait (slept_for own.waits u) under_way (buffer_of call) (section_at t call call_state.stage) u
-      (MayGo (slept_for own.lock.slept u) under_way (buffer_of call) (section_at t call call_state.stage) u
-      (MayLock (cv_rules buffer_monitor_rules) (lock_kernel (cv_rules buffer_monitor_rules) opening) c past own.lock.sleep.threads.hand (buffer_of call)
-      (section_at t call call_state.stage)))
-  may_poll_section own under_way may u same = rw same (may_for own under_way (slept_for own.lock.slept t) (slept_for own.waits t) refl refl may.goes)
+      → MayCallCond buffer_monitor_rules (lock_kernel (cv_rules buffer_monitor_rules) opening) c past own under_way (buffer_of call)
+      (section_at t call call_state.stage)
+  may_poll_section own under_way may =
+      let same = caller_is t call call_state.stage in
+      record {
+        runs = rw same may.current;
+        may = rw same (may_for own under_way (slept_for own.lock.slept t) (slept_for own.waits t) refl refl may.goes);
+      }
 
 -- the marks after an answer
 abbrev slept_list : Tid → BufId → List (Option BufId) → QOut (CvOut BufferOut) → List (Option BufId)

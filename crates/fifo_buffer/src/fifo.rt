@@ -19,8 +19,8 @@ use crate::sections::{answers_at_once, buffer_in, load_message, reply, section};
 use arrayvec::ArrayVec;
 use event_log::{BufId, CAPACITY, CpuId, Msg, Tid};
 use layer_traits::{
-    BufferEdit, BufferLayer, Call, CvLayer, Effect, OwnedBuffers, OwnedConds, Pass, Payload, Reply,
-    Stage, WaitList,
+    BufferCall, BufferEdit, BufferLayer, Call, CvLaw, Effect, OwnedBuffers, OwnedConds, Pass,
+    Payload, Reply, Stage, ThreadLayer, WaitList,
 };
 
 /// One CPU's part of first-in first-out blocking bounded buffers (Anderson and Dahlin), over a part
@@ -34,7 +34,7 @@ pub struct Fifo<C> {
     payload: Payload,
 }
 
-impl<C: CvLayer<BufferEdit>> Fifo<C> {
+impl<C: ThreadLayer<CvLaw<BufferEdit>>> Fifo<C> {
     /// Polls the section of `call` by `t` at this stage, and tells whether it ended.
     fn poll_section(&mut self, m: &mut C::Machine, t: Tid, call: &Call, stage: Stage) -> bool
         requires known { t.0 < THREADS }
@@ -71,7 +71,10 @@ impl<C: CvLayer<BufferEdit>> Fifo<C> {
     {
         load_message(&mut self.payload.message, call, stage);
         let edit = section(t, call, stage);
-        let answer = self.lower.poll(m, buffer_in(call), edit, &mut self.payload);
+        let buffer = buffer_in(call);
+        let answer = self
+            .lower
+            .poll(m, BufferCall { buffer, edit }, &mut self.payload);
         self.call_states
             .record_answer(t, call, &answer, &self.payload.message)
     }
@@ -98,7 +101,7 @@ impl<C: CvLayer<BufferEdit>> Fifo<C> {
     }
 }
 
-impl<C: CvLayer<BufferEdit>> BufferLayer for Fifo<C> {
+impl<C: ThreadLayer<CvLaw<BufferEdit>>> BufferLayer for Fifo<C> {
     ghost use Rattle.std.proofs.Common.{ap};
     ghost use Rattle.event_log.specs.declared.ids.LockId.TheVariants.{Buffer};
     ghost use Rattle.layer_traits.proofs.ActedLemmas.{moves_read};
@@ -218,11 +221,11 @@ impl<C: CvLayer<BufferEdit>> BufferLayer for Fifo<C> {
 
     ghost lawful = { λ m c acts. fifo_lawful (C.opening m) (C.seen m) acts.1 (C.lawful m c acts.0) };
 
-    ghost stands = { λ p m fits. C.stands p.lower m fits.0 };
+    ghost stands = { λ p m fits. (C.stands p.lower m fits.0).stands };
 
     ghost moves_legal = { λ m c acts. C.moves_legal m c acts.0 };
 
-    ghost lists = { λ p m fits. fifo_wait_lists (C.opening m) (C.seen m) fits.1.boots (C.lists p.lower m fits.0) };
+    ghost lists = { λ p m fits. fifo_wait_lists (C.opening m) (C.seen m) fits.1.boots (C.stands p.lower m fits.0).lists };
 
     ghost opens = { λ m c acts. C.opens m c acts.0 };
 

@@ -19,8 +19,10 @@ use condvar::Cond;
 use event_log::{CpuId, LockId, NoMemory};
 use fifo_buffer::{Fifo, empty_blocks};
 use layer_traits::{
-    BufferBlock, BufferEdit, CvEdit, CvLeave, IpcLayer, LockLaw, LockLayer, OwnedLocks, QueueBlock,
-    QueueEdit, QueueEvent, QueueLaw, SchedCall, SchedLaw, SectionOf, ThreadsOf,
+    BufferBlock, BufferEdit, BufferOut, CvEdit, CvLaw, CvLeave, CvOut, IpcLayer, Layer, LockLaw,
+    LockStateOf, LockingOf, OwnedLocks, QLockLaw, QOut, QueueBlock, QueueEdit, QueueEvent,
+    QueueLaw, SchedCall, SchedLaw, SectionOf, SleepLaw, SleepStateOf, SleepingOf, ThreadsOf,
+    WaitingOf,
 };
 use queuing_lock::{QBlock, QLock, QLockEdit, lock_blocks};
 use scheduler::Sched;
@@ -46,8 +48,8 @@ pub type TowerOver<L> = Fifo<Cond<QLock<Sleeper<LockEdit, Sched<SharedQueues<L>>
 /// tower names them, since the check looks for them there.
 pub type TowerLockLaws = PhantomData<(LockLaw<TowerEdit>, SectionOf<TowerEdit>)>;
 
-/// The laws of the layers beneath sleep and wakeup, with the types that their clauses name. A function
-/// that makes a part of the tower names them, since the check looks for them there.
+/// The laws of the tower's layers, with the types that their clauses name. A function that makes a part
+/// of the tower names them, since the check looks for them there.
 pub type TowerLaws = PhantomData<
     (
         LockLaw<TowerEdit>,
@@ -57,6 +59,14 @@ pub type TowerLaws = PhantomData<
         SchedLaw<SleepEdit<LockEdit>>,
         SchedCall<SleepEdit<LockEdit>>,
         ThreadsOf,
+        SleepLaw<LockEdit>,
+        SleepStateOf<QBlock<BufferBlock>>,
+        SleepingOf<QOut<CvOut<BufferOut>>>,
+        QLockLaw<CvEdit<BufferEdit>>,
+        LockStateOf<BufferBlock>,
+        LockingOf<CvOut<BufferOut>>,
+        CvLaw<BufferEdit>,
+        WaitingOf<BufferOut>,
     ),
 >;
 
@@ -93,7 +103,7 @@ pub fn tower_blocks(
 /// Requires: nothing was done in the machine, its holder acts for the CPU, and it opened with the
 /// locks of the tower: these homes, an empty buffer of each of these capacities, at most `BUFFERS`,
 /// and a pending queue of the CPU.
-pub fn part_over<L: LockLayer<TowerEdit>>(
+pub fn part_over<L: Layer<LockLaw<TowerEdit>>>(
     m: &L::Machine,
     cpu: CpuId,
     caps: &[u8],

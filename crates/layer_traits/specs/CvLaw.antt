@@ -26,7 +26,7 @@ use Rattle.thread_blocks.specs.Queues.{is_in}
 use Rattle.layer_traits.specs.MoveRules.{MoveRules}
 use Rattle.layer_traits.specs.Queues.{Kernel, buffer_sections}
 use Rattle.layer_traits.specs.Locking.{LockState, lock_after, lock_caller, wait_list_in}
-use Rattle.layer_traits.specs.LockLaw.{Locking, LockPolled, MustWait, at_start, slept_for, lock_plan, lock_pass_plan}
+use Rattle.layer_traits.specs.LockLaw.{Locking, LockPolled, MayGo, MayLock, MustWait, at_start, slept_for, lock_plan, lock_pass_plan}
 use Rattle.layer_traits.specs.Plans.{Left, Plan, Now, raised}
 
 -- a CPU's own state: that of its queuing locks, and of each thread the buffer at which it waits, until its wait answers
@@ -42,6 +42,14 @@ waiting_at_start homes c = record { lock = at_start homes c; waits = replicate T
 abbrev pub MayWait : {G E : Type 0} → Option BufId → Option (SchedCall E) → BufId → CvCall G → Tid → Type 0 → Type 0
 MayWait None under_way b call t may = may
 MayWait (Some at) under_way b call t may = (under_way ≡ None) × (at ≡ b) × ((side : Side) × (call ≡ Release (Wait t side)))
+
+-- a call may be polled: its caller runs here, and it goes on or may begin
+pub record MayCallCond {G B O : Type 0} (monitor_rules : MonitorRules G B O) (k : Kernel (CvCall G) (LockState B) (Outcome (QOut (CvOut O)))) (c : CpuId)
+    (past : List (QueueEvent (CvCall G))) (own : Waiting O) (under_way : Option (SchedCall (CvCall G))) (b : BufId) (call : CvCall G) : Type 0 where
+  pub runs : own.lock.sleep.threads.current ≡ Some (lock_caller (cv_rules monitor_rules) call)
+  pub may : MayWait (slept_for own.waits (lock_caller (cv_rules monitor_rules) call)) under_way b call (lock_caller (cv_rules monitor_rules) call)
+      (MayGo (slept_for own.lock.slept (lock_caller (cv_rules monitor_rules) call)) under_way b call (lock_caller (cv_rules monitor_rules) call)
+      (MayLock (cv_rules monitor_rules) k c past own.lock.sleep.threads.hand b call))
 
 -- the answer of a wait on this side that is over
 abbrev pub waited : {O : Type 0} → Side → Outcome (QOut (CvOut O))

@@ -1,6 +1,7 @@
 -- The waiting lists of the locks agree with the places of the threads, by count: a thread stands once in the list of the line at
 -- which it sleeps, and in no other.
 use Rattle.std.specs.Prelude.{◌≡◌, Bool, true, false, ◌&&◌, List, Option, Some, None}
+use Rattle.event_log.specs.declared.ids.CpuId.{CpuId}
 use Rattle.event_log.specs.declared.ids.LockId.{LockId}
 use Rattle.event_log.specs.declared.ids.Tid.{Tid}
 use Rattle.event_log.specs.History.{same_lock}
@@ -9,7 +10,7 @@ use Rattle.layer_traits.specs.declared.moves.WaitList.{WaitList}
 use Rattle.layer_traits.specs.declared.moves.WaitList.TheVariants.{Sleepers, Receivers, Senders}
 use Rattle.layer_traits.specs.declared.queue_edits.QueueBlock.{QueueBlock}
 use Rattle.layer_traits.specs.declared.queues.QueueEvent.{QueueEvent}
-use Rattle.layer_traits.specs.Places.{WaitChannel, At, one_if, count_in, wait_channel_of, where_is}
+use Rattle.layer_traits.specs.Places.{At, Stands, Threads, WaitChannel, one_if, count_in, wait_channel_of, where_is}
 use Rattle.layer_traits.specs.QueueBlocks.{inner, homes_in}
 use Rattle.layer_traits.specs.Queues.{buffer_sections, moves_in}
 use Rattle.layer_traits.specs.Sleeping.{SleepRules, SleepState, wait_list_at, sleep_edited}
@@ -41,3 +42,9 @@ abbrev pub ListsAgree : {E B O : Type 0} → SleepRules E B O → (LockId → Op
 ListsAgree rules opening seen = (lock : LockId) →
     Agrees lock (λ line. wait_list_at line (block_after (sleep_edited rules) (inner opening) lock (buffer_sections seen)))
     (λ t. wait_channel_of (where_is (homes_in opening) (moves_in (sleep_kernel rules opening) seen) t))
+
+-- a part's threads stand at its CPU, each once and no other, and the lists of each lock agree with the places
+pub record SleepAgrees {E B O : Type 0} (rules : SleepRules E B O) (opening : LockId → Option (QueueBlock (SleepState B))) (c : CpuId)
+    (seen : List (QueueEvent E)) (own : Threads) : Type 0 where
+  pub stands : Stands (homes_in opening) c (moves_in (sleep_kernel rules opening) seen) own
+  pub lists : ListsAgree rules opening seen

@@ -23,7 +23,7 @@ use Rattle.layer_traits.specs.declared.sleeps.Outcome.{Outcome}
 use Rattle.layer_traits.specs.ListsAgree.{is_at}
 use Rattle.layer_traits.specs.Locking.{LockRules, LockState, lock_caller, lock_rules, lock_moves, lock_after, owner_of, IsOwners, wait_list_in}
 use Rattle.layer_traits.specs.MoveRules.{MoveRules}
-use Rattle.layer_traits.specs.Places.{one_if, count_in, wait_channel_of, where_is, at_boot}
+use Rattle.layer_traits.specs.Places.{Stands, one_if, count_in, wait_channel_of, where_is, at_boot}
 use Rattle.layer_traits.specs.Plans.{Left, Plan, Now, raised}
 use Rattle.layer_traits.specs.Protocol.{section}
 use Rattle.layer_traits.specs.QueueBlocks.{inner, homes_in}
@@ -67,6 +67,12 @@ pub record MayLock {F R B O : Type 0} (rules : LockRules F R B O) (k : Kernel (Q
 abbrev pub MayGo : {F R : Type 0} → Option BufId → Option (SchedCall (QEdit F R)) → BufId → QEdit F R → Tid → Type 0 → Type 0
 MayGo None under_way b e t duty = MayCall under_way (call.OnBuffer b e) duty
 MayGo (Some at) under_way b e t duty = (under_way ≡ None) × (at ≡ b) × (e ≡ Acquire t)
+
+-- a call may be polled: its caller runs here, and it goes on or may begin
+pub record MayCallLock {F R B O : Type 0} (rules : LockRules F R B O) (k : Kernel (QEdit F R) (LockState B) (Outcome (QOut O))) (c : CpuId)
+    (past : List (QueueEvent (QEdit F R))) (own : Locking O) (under_way : Option (SchedCall (QEdit F R))) (b : BufId) (e : QEdit F R) : Type 0 where
+  pub runs : own.sleep.threads.current ≡ Some (lock_caller rules e)
+  pub may : MayGo (slept_for own.slept (lock_caller rules e)) under_way b e (lock_caller rules e) (MayLock rules k c past own.sleep.threads.hand b e)
 
 -- the call asks for the lock
 abbrev pub IsAcquire : {F R : Type 0} → QEdit F R → Type 0
@@ -149,6 +155,15 @@ abbrev pub LocksAgree : {F R B O : Type 0} → LockRules F R B O → (LockId →
 LocksAgree rules opening seen = (lock : LockId) (line : WaitList) (t : Tid) →
     count_in t (wait_list_in line (lock_after rules (inner opening) lock (buffer_sections seen)))
     ≡ one_if (is_at lock line (wait_channel_of (where_is (homes_in opening) (moves_in (lock_kernel rules opening) seen) t)))
+
+-- a part's threads stand at its CPU, each once and no other; the lists of each lock agree with the places; and of whom it is kept
+-- that it slept for a lock, it owns that lock or still sleeps for it
+pub record LockAgrees {F R B O : Type 0} (rules : LockRules F R B O) (opening : LockId → Option (QueueBlock (LockState B))) (c : CpuId)
+    (seen : List (QueueEvent (QEdit F R))) (own : Locking O) : Type 0 where
+  pub stands : Stands (homes_in opening) c (moves_in (lock_kernel rules opening) seen) own.sleep.threads
+  pub lists : LocksAgree rules opening seen
+  pub awaits : (t : Tid) (b : BufId) → slept_for own.slept t ≡ Some b
+      → HasOrAwaits t (lock_after rules (inner opening) (Buffer b) (buffer_sections seen))
 
 -- why the poll of a whole machine answers nothing: a woken thread is now to be sent home, or the caller now sleeps for the lock
 abbrev pub MustWait : {O : Type 0} → Tid → BufId → Locking O → Locking O → Type 0

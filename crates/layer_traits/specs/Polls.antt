@@ -6,6 +6,10 @@ use Rattle.event_log.specs.History.{AreForeign}
 use Rattle.event_log.specs.Sections.{Section, cpu_of_section, block_after}
 use Rattle.layer_traits.specs.Protocol.{Rules, StaysAllowed}
 
+-- a call is under way until it is answered
+abbrev pub until_answered : {A S : Type 0} → Option A → S → Option S
+until_answered result call = if is_some result then None else Some call
+
 -- a section may be polled: at its first poll it is allowed and stays so; after that it is the one under way
 abbrev pub MayPoll : {E : Type 0} → (List (Section E) → Section E → Type 0) → List (Section E) → Option (Section E) → Section E → Type 0
 MayPoll Allowed past None s = StaysAllowed Allowed past s

@@ -41,7 +41,7 @@ pub record MaySleep {E B O : Type 0} (k : Kernel E B O) (c : CpuId) (past : List
   pub stays : EditStays k c past (call.OnBuffer b e)
 
 -- a call may be polled: the first poll owes this duty, and after that it is the same call
-abbrev pub MayCall : {E : Type 0} → Option (SchedCall E) → SchedCall E → Type 0 → Type 0
+abbrev pub MayCall : {S : Type 0} → Option S → S → Type 0 → Type 0
 MayCall None s duty = duty
 MayCall (Some under_way) s duty = under_way ≡ s
 

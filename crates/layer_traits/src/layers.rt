@@ -22,7 +22,7 @@ pub trait Law {
     type Answer: Drop;
 
     /// What a lock guards.
-    type Block: Drop;
+    type Block;
 
     /// The name of a section: its edit.
     type Name;
@@ -51,8 +51,8 @@ pub trait Law {
     /// The lock of a call is there.
     ghost IsThere: { (LockId → Option Self.Block) → Self.Call → Type 0 };
 
-    /// A call that touches nothing shared.
-    ghost IsLocal: { Self.Call → Type 0 } = { λ _. ⊥ };
+    /// With this own state of the part, the call touches nothing shared.
+    ghost IsLocal: { Self.State → Self.Call → Type 0 } = { λ _ _. ⊥ };
 
     /// The homes are those of a boot.
     ghost AreHomes: { List CpuId → Type 0 } = { λ _. Unit {0} };
@@ -72,9 +72,17 @@ pub trait Law {
     /// The payload holds what the answer brings.
     ghost brought: { Self.Answer → Payload → Type 0 };
 
-    /// What a poll adds to the events, makes of what the part has of its own, and answers.
+    /// Which call is under way after a poll with this answer, as far as the answer tells.
+    ghost LeavesBegun: { CpuId → Self.Call → Option Self.Answer → Option Self.Begun → Type 0 };
+
+    /// What a poll adds to the events, makes of what the part has of its own, leaves under way, and
+    /// answers.
     ghost Polled: { (LockId → Option Self.Block) → (CpuId → Type 0) → CpuId → Self.Call → Option Self.Answer → List Self.Event → List Self.Event
-        → Self.State → Self.State → Type 0 };
+        → Self.State → Self.State → Option Self.Begun → Type 0 };
+
+    /// What the poll of a whole machine makes of what the part has of its own: it answers, or the law
+    /// tells why it does not.
+    ghost IsPrompt: { Self.Call → Option Self.Answer → Self.State → Self.State → Type 0 } = { λ _ result _ _. IsSome result };
 
     /// What the names of sections mean.
     ghost table: { Table Self.Name Self.Block Self.Reply };
@@ -93,6 +101,9 @@ pub trait Law {
 
     /// Each section of the actions edits a block of its kind.
     ghost AreProper: { List (Action Self.Name) → Type 0 } = { λ _. Unit {0} };
+
+    /// Each thread moves from where it stands.
+    ghost MovesAreLegal: { (LockId → Option Self.Block) → List Self.Event → Type 0 } = { λ _ _. Unit {0} };
 
     /// What a part has of its own agrees with the events.
     ghost Agrees: { (LockId → Option Self.Block) → CpuId → List Self.Event → Self.State → Type 0 } = { λ _ _ _ _. Unit {0} };
@@ -213,14 +224,14 @@ pub trait Layer<L: Law> {
         requires room { 0 < room m.old }
         requires call { L.MayPoll (opening m.old) (cpu_of self.old) (seen m.old) (own self.old) (under_way self.old) call }
         requires carried { L.carried call payload.old }
-        ensures call { under_way self.new ≡ (if is_some result then None else Some (L.begun (cpu_of self.old) call)) }
-        ensures prompt { IsWhole → IsSome result }
+        ensures call { L.LeavesBegun (cpu_of self.old) call result (under_way self.new) }
+        ensures prompt { IsWhole → L.IsPrompt call result (own self.old) (own self.new) }
         ensures brought { IfSome result (λ answer. L.brought answer payload.new) }
         ensures seen { L.Polled (opening m.old) (ActsFor m.old) (cpu_of self.old) call result (seen m.old) (seen m.new)
-            (own self.old) (own self.new) }
-        ensures still { L.IsLocal call → m.new ≡ m.old }
+            (own self.old) (own self.new) (under_way self.new) }
+        ensures still { L.IsLocal (own self.old) call → m.new ≡ m.old }
         ensures framed { Framed Fits cpu_of opening site room ActsFor MayHold self.old self.new m.old m.new }
-        ensures outside { OnSome result ((L.IsLocal call → ⊥) → IsOutside m.new (cpu_of self.old)) }
+        ensures outside { OnSome result ((L.IsLocal (own self.old) call → ⊥) → IsOutside m.new (cpu_of self.old)) }
         ensures follows { IsStepwise → Follows (ActsFor m.old) L.table (opening m.old) (cpu_of self.old)
             (L.plan (opening m.old) (cpu_of self.old) call (own self.old))
             (acts m.old) (acts m.new) (record { own = own self.new; answer = result }) };
@@ -233,6 +244,9 @@ pub trait Layer<L: Law> {
 
     /// Law: each event that was seen is of a CPU that a machine may have.
     ghost known: { (m : Self.Machine) (c : CpuId) → ActsFor m c → IsLawful (λ past e. (L.cpu_of_event e).0 < CPUS) (seen m) };
+
+    /// Law: each thread moves from where it stands.
+    ghost moves_legal: { (m : Self.Machine) (c : CpuId) → ActsFor m c → L.MovesAreLegal (opening m) (seen m) };
 
     /// Law: the machine opened as one that may start.
     ghost opens: { (m : Self.Machine) (c : CpuId) → ActsFor m c → L.Starts (opening m) };

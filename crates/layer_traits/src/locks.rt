@@ -2,7 +2,7 @@
 //!
 //! No call takes memory, and none waits.
 
-ghost use Rattle.std.specs.Prelude.{IsSome};
+ghost use Rattle.std.specs.Prelude.{◌≡◌, IsSome};
 
 use crate::edits::Edit;
 use crate::layers::{Law, Layer};
@@ -42,7 +42,7 @@ pub struct LockLaw<E> {
 impl<E: Edit> Law for LockLaw<E> {
     ghost use Rattle.event_log.specs.Sections.{cpu_of_section, sections_in};
     ghost use Rattle.layer_traits.specs.Plans.{section_plan, table_of};
-    ghost use Rattle.layer_traits.specs.Polls.{MayPoll, Polled};
+    ghost use Rattle.layer_traits.specs.Polls.{MayPoll, Polled, until_answered};
     ghost use Rattle.layer_traits.specs.Protocol.{section};
 
     type Call = LockCall<E>;
@@ -77,7 +77,9 @@ impl<E: Edit> Law for LockLaw<E> {
 
     ghost brought = { E.brought };
 
-    ghost Polled = { λ opening ActsFor cpu call result old new own own'. Polled E.rules opening ActsFor (section cpu call.lock call.edit) result old new };
+    ghost LeavesBegun = { λ cpu call result begun. begun ≡ until_answered result (section cpu call.lock call.edit) };
+
+    ghost Polled = { λ opening ActsFor cpu call result old new own own' begun. Polled E.rules opening ActsFor (section cpu call.lock call.edit) result old new };
 
     ghost table = { table_of E.rules };
 

@@ -5,13 +5,14 @@
 ghost use Rattle.std.specs.Prelude.{◌≡◌, List, Option, Some, IsSome, option_and_then, option_map};
 
 use crate::conditions::Guarded;
-use crate::cv_layers::CvLayer;
+use crate::cv_layers::CvLaw;
 use crate::moves::WaitList;
+use crate::threads::ThreadLayer;
 use event_log::{BufId, CpuId, Tid};
 
 /// A layer of condition variables whose machine tells of the blocks that are at home, and whose
 /// parts tell of those in their CPU's hands.
-pub trait OwnedConds<G: Guarded>: CvLayer<G> {
+pub trait OwnedConds<G: Guarded>: ThreadLayer<CvLaw<G>> {
     ghost use Rattle.event_log.specs.declared.ids.BufId.{BufId};
     ghost use Rattle.event_log.specs.declared.ids.CpuId.{CpuId};
     ghost use Rattle.event_log.specs.declared.ids.LockId.TheVariants.{Buffer, Pending};

@@ -5,13 +5,14 @@
 ghost use Rattle.std.specs.Prelude.{◌≡◌, ◌<◌, [], true, Option, IsSome, IfOk, option_map};
 
 use crate::edits::Edit;
-use crate::locks::LockLayer;
+use crate::layers::Layer;
+use crate::locks::LockLaw;
 use event_log::{LockId, NoMemory};
 use std::alloc::Global;
 
 /// A layer of critical sections whose machine is opened with its blocks and tells of those that are
 /// at home, and whose parts tell of those in their CPU's hands.
-pub trait OwnedLocks<E: Edit>: LockLayer<E> {
+pub trait OwnedLocks<E: Edit>: Layer<LockLaw<E>> {
     ghost use Rattle.event_log.specs.declared.ids.CpuId.{CpuId};
     ghost use Rattle.event_log.specs.declared.ids.LockId.{LockId};
     ghost use Rattle.event_log.specs.declared.ids.TheConstants.{CPUS};

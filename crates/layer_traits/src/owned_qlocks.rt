@@ -6,12 +6,13 @@ ghost use Rattle.std.specs.Prelude.{◌≡◌, List, Option, Some, IsSome, optio
 
 use crate::locked::Locked;
 use crate::moves::WaitList;
-use crate::qlock_layers::QLockLayer;
+use crate::qlock_layers::QLockLaw;
+use crate::threads::ThreadLayer;
 use event_log::{BufId, CpuId, Tid};
 
 /// A layer of queuing locks whose machine tells of the blocks that are at home, and whose parts
 /// tell of those in their CPU's hands.
-pub trait OwnedQLocks<F: Locked>: QLockLayer<F> {
+pub trait OwnedQLocks<F: Locked>: ThreadLayer<QLockLaw<F>> {
     ghost use Rattle.event_log.specs.declared.ids.BufId.{BufId};
     ghost use Rattle.event_log.specs.declared.ids.CpuId.{CpuId};
     ghost use Rattle.event_log.specs.declared.ids.LockId.TheVariants.{Buffer, Pending};

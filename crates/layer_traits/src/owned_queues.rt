@@ -4,13 +4,14 @@
 
 ghost use Rattle.std.specs.Prelude.{◌≡◌, List, Option, Some, IsSome, option_map};
 
+use crate::layers::Layer;
 use crate::moves::Moves;
-use crate::queues::QueueLayer;
+use crate::queues::QueueLaw;
 use event_log::{BufId, CpuId, Tid};
 
 /// A layer of shared queues whose machine tells of the blocks that are at home, and whose parts
 /// tell of those in their CPU's hands.
-pub trait OwnedQueues<E: Moves>: QueueLayer<E> {
+pub trait OwnedQueues<E: Moves>: Layer<QueueLaw<E>> {
     ghost use Rattle.event_log.specs.declared.ids.BufId.{BufId};
     ghost use Rattle.event_log.specs.declared.ids.CpuId.{CpuId};
     ghost use Rattle.event_log.specs.declared.ids.LockId.TheVariants.{Buffer, Pending};

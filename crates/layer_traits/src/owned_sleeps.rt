@@ -5,13 +5,14 @@
 ghost use Rattle.std.specs.Prelude.{◌≡◌, List, Option, Some, IsSome, option_and_then, option_map};
 
 use crate::moves::WaitList;
-use crate::sleep_layers::SleepLayer;
+use crate::sleep_layers::SleepLaw;
 use crate::sleeps::Sleeps;
+use crate::threads::ThreadLayer;
 use event_log::{BufId, CpuId, Tid};
 
 /// A layer of sections that put threads to sleep, whose machine tells of the blocks that are at
 /// home, and whose parts tell of those in their CPU's hands.
-pub trait OwnedSleeps<E: Sleeps>: SleepLayer<E> {
+pub trait OwnedSleeps<E: Sleeps>: ThreadLayer<SleepLaw<E>> {
     ghost use Rattle.event_log.specs.declared.ids.BufId.{BufId};
     ghost use Rattle.event_log.specs.declared.ids.CpuId.{CpuId};
     ghost use Rattle.event_log.specs.declared.ids.LockId.TheVariants.{Buffer, Pending};

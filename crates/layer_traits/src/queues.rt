@@ -2,7 +2,7 @@
 //!
 //! No call takes memory, and none waits.
 
-ghost use Rattle.std.specs.Prelude.{IsSome, map};
+ghost use Rattle.std.specs.Prelude.{◌≡◌, IsSome, map};
 
 use crate::layers::{Law, Layer};
 use crate::moves::Moves;
@@ -54,6 +54,7 @@ impl<E: Moves> Law for QueueLaw<E> {
     ghost use Rattle.event_log.specs.Sections.{sections_in};
     ghost use Rattle.layer_traits.specs.Payloads.{call_carried, queue_brought};
     ghost use Rattle.layer_traits.specs.Plans.{table_of};
+    ghost use Rattle.layer_traits.specs.Polls.{until_answered};
     ghost use Rattle.layer_traits.specs.QueueBlocks.{StartsWell};
     ghost use Rattle.layer_traits.specs.QueueRules.{AreProper, queue_rules};
     ghost use Rattle.layer_traits.specs.Queues.{MayQueue, QueueAllowed, QueuePolled, cpu_of_queue_event, event, event_of, kernel, lock_of, queue_plan};
@@ -90,7 +91,9 @@ impl<E: Moves> Law for QueueLaw<E> {
 
     ghost brought = { queue_brought E.brought };
 
-    ghost Polled = { λ opening ActsFor cpu call result old new own own'. QueuePolled (kernel E.rules E.moves opening) ActsFor (event cpu call) result old new };
+    ghost LeavesBegun = { λ cpu call result begun. begun ≡ until_answered result (event cpu call) };
+
+    ghost Polled = { λ opening ActsFor cpu call result old new own own' begun. QueuePolled (kernel E.rules E.moves opening) ActsFor (event cpu call) result old new };
 
     ghost table = { table_of (queue_rules E.rules E.moves) };
 

@@ -1,6 +1,6 @@
 //! The layer of schedulers.
 
-ghost use Rattle.std.specs.Prelude.{◌≡◌, ◌≢◌, ◌≤◌, true, false, length, [], Option, IsSome, map};
+ghost use Rattle.std.specs.Prelude.{◌≡◌, ◌≢◌, ◌≤◌, true, false, length, [], IsSome, map};
 
 use crate::layers::{Law, Layer};
 use crate::moves::Moves;
@@ -58,6 +58,7 @@ impl<E: Moves> Law for SchedLaw<E> {
     ghost use Rattle.layer_traits.specs.Payloads.{sched_brought, sched_carried};
     ghost use Rattle.layer_traits.specs.Places.{Stands, at_boot};
     ghost use Rattle.layer_traits.specs.Plans.{table_of};
+    ghost use Rattle.layer_traits.specs.Polls.{until_answered};
     ghost use Rattle.layer_traits.specs.QueueBlocks.{StartsWell, homes_in};
     ghost use Rattle.layer_traits.specs.QueueRules.{AreProper, queue_rules};
     ghost use Rattle.layer_traits.specs.Queues.{QueueAllowed, cpu_of_queue_event, event_of, kernel, moves_in};
@@ -87,7 +88,7 @@ impl<E: Moves> Law for SchedLaw<E> {
 
     ghost IsThere = { BufferIsThere };
 
-    ghost IsLocal = { IsLocal };
+    ghost IsLocal = { λ own call. IsLocal call };
 
     ghost AreHomes = { λ homes. length homes ≤ THREADS };
 
@@ -101,7 +102,9 @@ impl<E: Moves> Law for SchedLaw<E> {
 
     ghost brought = { sched_brought E.brought };
 
-    ghost Polled = { λ opening ActsFor cpu call result old new own own'. SchedPolled (kernel E.rules E.moves opening) ActsFor cpu call result old new own own' };
+    ghost LeavesBegun = { λ cpu call result begun. begun ≡ until_answered result call };
+
+    ghost Polled = { λ opening ActsFor cpu call result old new own own' begun. SchedPolled (kernel E.rules E.moves opening) ActsFor cpu call result old new own own' };
 
     ghost table = { table_of (queue_rules E.rules E.moves) };
 

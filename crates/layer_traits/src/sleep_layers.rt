@@ -2,246 +2,169 @@
 //!
 //! No call takes memory, and none waits.
 
-ghost use Rattle.std.specs.Prelude.{◌≡◌, ◌≢◌, ℕ, ◌<◌, ◌≤◌, Bool, true, false, List, [], length};
-ghost use Rattle.std.specs.Prelude.{map, Option, Some, None, IsSome, IfSome, OnSome, is_some, if◌then◌else◌};
+ghost use Rattle.std.specs.Prelude.{◌≡◌, ◌≤◌, [], IsSome, None, length, map};
 
-use crate::passes::Pass;
-use crate::payloads::Payload;
+use crate::layers::Law;
+use crate::queue_edits::{QueueBlock, QueueEdit};
+use crate::queues::{QueueAnswer, QueueEvent};
 use crate::scheds::SchedCall;
 use crate::sleeps::{Outcome, Sleeps};
-use event_log::{BufId, CpuId, Tid};
+use crate::threads::{ThreadLaw, ThreadLayer};
+use event_log::BufId;
+use std::marker::{Model, PhantomData};
 
-/// One CPU's part of a layer whose sections put threads to sleep and wake them (Gu et al., PLDI
-/// 2018). Each buffer's lock has three waiting lists; a section does one edit, by which its caller
-/// may join one of them, and one thread may leave one. To the layers above a section is one event.
+/// A section at the lock of a buffer: one edit of what that lock guards.
+#[derive(Drop)]
+pub struct BufferCall<E> {
+    /// The buffer.
+    pub buffer: BufId,
+    /// The edit.
+    pub edit: E,
+}
+
+/// Stands in clauses for the block of a lock with its waiting lists.
+pub struct SleepStateOf<B> {
+    above: B,
+}
+
+impl<B> Model for SleepStateOf<B> {
+    ghost use Rattle.std.specs.Prelude.{[]};
+    ghost use Rattle.layer_traits.specs.Sleeping.{SleepState};
+
+    ghost Value = { SleepState B };
+
+    ghost view = { λ s. record { sleepers = []; receivers = []; senders = []; above = s.above } };
+}
+
+/// Stands in clauses for the threads of a CPU, and the outcome that is still to be given.
+pub struct SleepingOf<O> {
+    outcomes: PhantomData<O>,
+}
+
+impl<O> Model for SleepingOf<O> {
+    ghost use Rattle.std.specs.Prelude.{[], None};
+    ghost use Rattle.layer_traits.specs.Places.{at_boot};
+    ghost use Rattle.layer_traits.specs.SleepLaw.{Sleeping};
+
+    ghost Value = { Sleeping O };
+
+    ghost view = { λ _. record { threads = at_boot [] (record { 0 = 0 }); deferred = None } };
+}
+
+/// The law of sections that put threads to sleep and wake them (Gu et al., PLDI 2018). Each buffer's
+/// lock has three waiting lists. A section does one edit, by which its caller may join one of them,
+/// and one thread may leave one.
 ///
-/// A section that wakes a thread of another CPU leaves it in its CPU's hand. Where the caller goes
-/// on, its own call then sends that thread home, and only then answers; a caller that fell asleep
-/// is answered at once, and the scheduler's next call sends the thread home.
+/// A section that wakes a thread of another CPU leaves it in its CPU's hand. If the caller goes on,
+/// its own call then sends that thread home, and only then answers. A caller that fell asleep is
+/// answered at once, and the scheduler's next call sends the thread home.
 ///
-/// No call takes memory.
-pub trait SleepLayer<E: Sleeps> {
-    ghost use Rattle.event_log.specs.declared.ids.BufId.{BufId};
-    ghost use Rattle.event_log.specs.declared.ids.CpuId.{CpuId};
-    ghost use Rattle.event_log.specs.declared.ids.LockId.{LockId};
+/// A call may come if its caller runs here, no woken thread is in hand, and the edits' protocol
+/// allows it and stays so.
+pub struct SleepLaw<E> {
+    edits: PhantomData<E>,
+}
+
+impl<E: Sleeps> Law for SleepLaw<E> {
     ghost use Rattle.event_log.specs.declared.ids.LockId.TheVariants.{Buffer, Pending};
     ghost use Rattle.event_log.specs.declared.ids.TheConstants.{THREADS};
-    ghost use Rattle.event_log.specs.History.{Grows, IsLawful};
-    ghost use Rattle.event_log.specs.Actions.{Action, AreLegal, phase};
     ghost use Rattle.event_log.specs.Sections.{sections_in};
-    ghost use Rattle.layer_traits.specs.declared.queue_edits.QueueBlock.{QueueBlock};
-    ghost use Rattle.layer_traits.specs.declared.queue_edits.QueueEdit.{QueueEdit};
-    ghost use Rattle.layer_traits.specs.declared.queues.QueueEvent.{QueueEvent};
-    ghost use Rattle.layer_traits.specs.declared.scheds.SchedCall.{SchedCall};
     ghost use Rattle.layer_traits.specs.declared.scheds.SchedCall.TheVariants as sched;
-    ghost use Rattle.layer_traits.specs.Framed.{Framed};
-    ghost use Rattle.layer_traits.specs.Looks.{Tries};
-    ghost use Rattle.layer_traits.specs.ListsAgree.{ListsAgree};
-    ghost use Rattle.layer_traits.specs.Passes.{IsLocalPass, MayPass};
-    ghost use Rattle.layer_traits.specs.Places.{AreMoves, Stands, at_boot};
-    ghost use Rattle.layer_traits.specs.Plans.{Follows, is_in_section, table_of};
+    ghost use Rattle.layer_traits.specs.ListsAgree.{SleepAgrees};
+    ghost use Rattle.layer_traits.specs.Places.{AreMoves, at_boot};
+    ghost use Rattle.layer_traits.specs.Plans.{table_of};
+    ghost use Rattle.layer_traits.specs.Polls.{until_answered};
     ghost use Rattle.layer_traits.specs.QueueBlocks.{StartsWell, homes_in, inner};
     ghost use Rattle.layer_traits.specs.QueueRules.{AreProper, queue_rules};
-    ghost use Rattle.layer_traits.specs.Queues.{IsKnownEvent, QueueAllowed, cpu_of_queue_event, event_of, moves_in};
-    ghost use Rattle.layer_traits.specs.Scheds.{SchedPolled};
-    ghost use Rattle.layer_traits.specs.SleepLaw.{MayCall, MaySleep, MustSend, SleepPolled, Sleeping, done_if, pass_plan, sleep_kernel, sleep_plan};
-    ghost use Rattle.layer_traits.specs.Sleeping.{NobodySleeps, SleepState, sleep_moves, sleep_rules};
-    ghost use Rattle.thread_blocks.specs.Queues.{is_in};
+    ghost use Rattle.layer_traits.specs.Queues.{QueueAllowed, cpu_of_queue_event, event_of, moves_in};
+    ghost use Rattle.layer_traits.specs.SleepLaw.{MayCall, MaySleep, MustSend, SleepPolled, sleep_kernel, sleep_plan};
+    ghost use Rattle.layer_traits.specs.Sleeping.{NobodySleeps, sleep_moves, sleep_rules};
 
-    /// What lies beneath.
-    type Machine;
+    type Call = BufferCall<E>;
 
-    /// The opening block of each lock; None where there is no such lock.
-    ghost opening: { Self.Machine → LockId → Option (QueueBlock (SleepState E.Block)) };
+    type Answer = Outcome<E::Out>;
 
-    /// The events that the holder of the machine has seen, newest first: those of the pending
-    /// queues, and each section of a buffer as one event.
-    ghost seen: { Self.Machine → List (QueueEvent E) };
+    type Block = QueueBlock<SleepStateOf<E::Block>>;
 
-    /// For which CPUs the holder of the machine acts. It carries that the machine is sound.
-    ghost ActsFor: { Self.Machine → CpuId → Type 0 };
+    type Name = QueueEdit<E>;
 
-    /// For how many more events there is room.
-    ghost room: { Self.Machine → ℕ };
+    type Reply = QueueAnswer<Outcome<E::Out>>;
 
-    /// Which machine it is, as numbers; a machine that nobody has to know again needs none. No poll
-    /// changes it.
-    ghost site: { Self.Machine → List ℕ } = { λ _. [] };
+    type Event = QueueEvent<E>;
 
-    /// No section of this CPU is under way.
-    ghost IsOutside: { Self.Machine → CpuId → Type 0 };
+    type Begun = SchedCall<E>;
 
-    /// This CPU may hold a lock, as far as the machine tells.
-    ghost MayHold: { Self.Machine → CpuId → Type 0 };
+    type State = SleepingOf<E::Out>;
 
-    /// Whose part it is.
-    ghost cpu_of: { Self → CpuId };
+    ghost cpu_of_event = { cpu_of_queue_event };
 
-    /// The part's own state: the threads at this CPU, and the outcome that is still to be given.
-    ghost own: { Self → Sleeping E.Out };
+    ghost begun = { λ cpu call. sched.OnBuffer call.buffer call.edit };
 
-    /// The call that has begun and has not ended.
-    ghost under_way: { Self → Option (SchedCall E) };
+    ghost allowed = { λ opening. QueueAllowed (sleep_kernel E.rules opening) };
 
-    /// Whether the CPU waits at a lock or holds one.
-    ghost is_inside: { Self → Bool };
+    ghost IsThere = { λ opening call. IsSome (opening (Buffer call.buffer)) };
 
-    /// The part and the machine agree.
-    ghost Fits: { Self → Self.Machine → Type 0 };
+    ghost AreHomes = { λ homes. length homes ≤ THREADS };
 
-    /// Whether one poll is one action, as in the tower.
-    ghost IsStepwise: { Type 0 };
+    ghost at_boot = { λ homes cpu. record { threads = at_boot homes cpu; deferred = None } };
 
-    /// Whether one poll is one call: each poll answers or leaves its thread to wait. A lock that lets
-    /// polls pass without an action is neither.
-    ghost IsWhole: { Type 0 };
+    ghost Boots = { λ opening seen homes cpu. (seen ≡ []) × (homes_in opening ≡ homes) × IsSome (opening (Pending cpu)) × NobodySleeps (inner opening) };
 
-    /// The actions on the locks, newest first, each Give under its section's edit.
-    ghost acts: { Self.Machine → List (Action (QueueEdit E)) };
+    ghost MayPoll = { λ opening cpu seen own under_way call. MayCall under_way (sched.OnBuffer call.buffer call.edit)
+        (MaySleep (sleep_kernel E.rules opening) cpu seen own.threads call.buffer call.edit) };
 
-    /// The part of `cpu` at boot, with no call under way. `homes` holds the home of each thread,
-    /// and `buffers` is the number of buffers; layers above use it.
-    ///
-    /// Requires: there are at most `THREADS` homes.
-    fn part(cpu: CpuId, homes: &[CpuId], buffers: u8) -> Self
-        requires { length homes.now ≤ THREADS }
-        ensures cpu { cpu_of result ≡ cpu }
-        ensures own { own result ≡ record { threads = at_boot homes.now cpu; deferred = None } }
-        ensures call { under_way result ≡ None }
-        ensures fits { (m : Self.Machine) → ActsFor m cpu → IsOutside m cpu → seen m ≡ [] → homes_in (opening m) ≡ homes.now
-            → IsSome (opening m (Pending cpu)) → NobodySleeps (inner (opening m)) → Fits result m };
+    ghost carried = { λ call payload. E.carried call.edit payload.message };
 
-    /// Whether the CPU waits at a lock or holds one.
-    fn is_busy(&self) -> bool
-        ensures { result ≡ is_inside self.now };
+    ghost brought = { λ outcome payload. E.brought outcome.out payload.message };
 
-    /// The thread that runs on this CPU.
-    fn current(&self) -> Option<Tid>
-        ensures { result ≡ (own self.now).threads.current };
+    ghost LeavesBegun = { λ cpu call result begun. begun ≡ until_answered result (sched.OnBuffer call.buffer call.edit) };
 
-    /// The thread in this CPU's hand: woken here, and still to be sent to its home.
-    fn hand(&self) -> Option<Tid>
-        ensures { result ≡ (own self.now).threads.hand };
+    ghost Polled = { λ opening ActsFor cpu call result old new own own' begun. SleepPolled (sleep_kernel E.rules opening) ActsFor cpu call.buffer call.edit
+        old new own (record { own = own'; answer = result }) };
 
-    /// Whether a thread is ready on this CPU.
-    fn has_ready(&self) -> bool
-        ensures some { result ≡ true → (own self.now).threads.ready ≢ [] }
-        ensures none { result ≡ false → (own self.now).threads.ready ≡ [] };
+    ghost IsPrompt = { λ call result own own'. result ≡ None → MustSend own own' };
 
-    /// Whether this thread is ready on this CPU.
-    fn is_ready(&self, t: Tid) -> bool
-        ensures { result ≡ is_in t (own self.now).threads.ready };
+    ghost table = { table_of (queue_rules (sleep_rules E.rules) (sleep_moves E.rules)) };
 
-    /// Whether this thread has ended on this CPU.
-    fn has_ended(&self, t: Tid) -> bool
-        ensures { result ≡ is_in t (own self.now).threads.ended };
+    ghost plan = { λ opening cpu call own. sleep_plan (sleep_moves E.rules) (homes_in opening) cpu call.buffer call.edit own };
 
-    /// Looks again for a section that waits at its lock, and tells whether it did: a poll that ends
-    /// nothing, so it needs no call and has no answer. Where it tells `false` nothing has changed,
-    /// and the call is to be polled; a layer may always tell that.
-    ///
-    /// Requires: part and machine agree, and there is room for an event.
-    fn look(&mut self, m: &mut Self::Machine) -> bool
-        requires fits { Fits self.old m.old }
-        requires room { 0 < room m.old }
-        ensures still { result ≡ false → (self.new ≡ self.old) × (m.new ≡ m.old) }
-        ensures waits { result ≡ true → is_inside self.old ≡ true }
-        ensures framed { Framed Fits cpu_of opening site room ActsFor MayHold self.old self.new m.old m.new }
-        ensures own { own self.new ≡ own self.old }
-        ensures call { under_way self.new ≡ under_way self.old }
-        ensures inside { is_inside self.new ≡ is_inside self.old }
-        ensures seen { Grows (ActsFor m.old) cpu_of_queue_event (seen m.old) (seen m.new) }
-        ensures tries { IsStepwise → result ≡ true → Tries (ActsFor m.old) (cpu_of self.old) (acts m.old) (acts m.new) };
+    ghost events_in = { λ acts. map event_of (sections_in acts) };
 
-    /// Does at most one action of the section of `edit` at the lock of `buffer`, or of sending home
-    /// the thread that it woke. Gives the section's outcome once that is done, and `None` while the
-    /// same call is to be polled again.
-    ///
-    /// Requires: part and machine agree, the buffer is there, there is room for an event, the call
-    /// is one that may come now (while one is under way, the same call), and the payload holds what
-    /// it puts. A call may come if its caller runs here, no woken thread is in hand, and the edits'
-    /// protocol allows it and stays so.
-    fn poll(
-        &mut self,
-        m: &mut Self::Machine,
-        buffer: BufId,
-        edit: E,
-        payload: &mut Payload,
-    ) -> Option<Outcome<E::Out>>
-        requires fits { Fits self.old m.old }
-        requires buffer { IsSome (opening m.old (Buffer buffer)) }
-        requires room { 0 < room m.old }
-        requires call { MayCall (under_way self.old) (sched.OnBuffer buffer edit)
-            (MaySleep (sleep_kernel E.rules (opening m.old)) (cpu_of self.old) (seen m.old) (own self.old).threads buffer edit) }
-        requires carried { E.carried edit payload.old.message }
-        ensures framed { Framed Fits cpu_of opening site room ActsFor MayHold self.old self.new m.old m.new }
-        ensures call { under_way self.new ≡ (if is_some result then None else Some (sched.OnBuffer buffer edit)) }
-        ensures seen { SleepPolled (sleep_kernel E.rules (opening m.old)) (ActsFor m.old) (cpu_of self.old) buffer edit (seen m.old) (seen m.new)
-            (own self.old) (record { own = own self.new; answer = result }) }
-        ensures outside { OnSome result (IsOutside m.new (cpu_of self.old)) }
-        ensures brought { IfSome result (λ outcome. E.brought outcome.out payload.new.message) }
-        ensures prompt { IsWhole → result ≡ None → MustSend (own self.old) (own self.new) }
-        ensures follows { IsStepwise → Follows (ActsFor m.old) (table_of (queue_rules (sleep_rules E.rules) (sleep_moves E.rules))) (opening m.old)
-            (cpu_of self.old)
-            (sleep_plan (sleep_moves E.rules) (homes_in (opening m.old)) (cpu_of self.old) buffer edit (own self.old))
-            (acts m.old) (acts m.new) (record { own = own self.new; answer = result }) };
+    ghost Inside = { λ _ _. Unit {0} };
 
-    /// Does at most one action of a call on the scheduler, which goes through unchanged. Answers
-    /// once the call has ended, and gives `None` while the same call is to be polled again.
-    ///
-    /// Requires: part and machine agree, there is room for an event, and the pass is one that may
-    /// come now (while a call is under way, the same call).
-    fn pass(&mut self, m: &mut Self::Machine, call: Pass, payload: &mut Payload) -> Option<()>
-        requires fits { Fits self.old m.old }
-        requires room { 0 < room m.old }
-        requires call { MayCall (under_way self.old) (sched.Pass call) (MayPass call (own self.old).threads) }
-        ensures framed { Framed Fits cpu_of opening site room ActsFor MayHold self.old self.new m.old m.new }
-        ensures call { under_way self.new ≡ (if is_some result then None else Some (sched.Pass call)) }
-        ensures seen { SchedPolled (sleep_kernel E.rules (opening m.old)) (ActsFor m.old) (cpu_of self.old) (sched.Pass call) (done_if result)
-            (seen m.old) (seen m.new) (own self.old).threads (own self.new).threads }
-        ensures deferred { (own self.new).deferred ≡ (own self.old).deferred }
-        ensures still { IsLocalPass call → m.new ≡ m.old }
-        ensures outside { OnSome result ((IsLocalPass call → ⊥) → IsOutside m.new (cpu_of self.old)) }
-        ensures prompt { IsWhole → IsSome result }
-        ensures follows { IsStepwise → Follows (ActsFor m.old) (table_of (queue_rules (sleep_rules E.rules) (sleep_moves E.rules))) (opening m.old)
-            (cpu_of self.old)
-            (pass_plan (sleep_moves E.rules) (homes_in (opening m.old)) (cpu_of self.old) call (own self.old))
-            (acts m.old) (acts m.new) (record { own = own self.new; answer = result }) };
+    ghost Starts = { StartsWell };
 
-    /// Law: a part that agrees with a machine is of a CPU for which the machine's holder acts.
-    ghost own_cpu: { (p : Self) (m : Self.Machine) → Fits p m → ActsFor m (cpu_of p) };
+    ghost AreProper = { λ acts. AreProper (sections_in acts) };
 
-    /// Law: the part holds the threads that stand at its CPU, each once, and no other.
-    ghost stands: { (p : Self) (m : Self.Machine) → Fits p m
-        → Stands (homes_in (opening m)) (cpu_of p) (moves_in (sleep_kernel E.rules (opening m)) (seen m)) (own p).threads };
+    ghost MovesAreLegal = { λ opening seen. AreMoves (homes_in opening) (moves_in (sleep_kernel E.rules opening) seen) };
 
-    /// Law: the waiting lists of the locks agree with the places of the threads, by count.
-    ghost lists: { (p : Self) (m : Self.Machine) → Fits p m → ListsAgree E.rules (opening m) (seen m) };
-
-    /// Law: the blocks with which the machine opened are those of a boot.
-    ghost opens: { (m : Self.Machine) (c : CpuId) → ActsFor m c → StartsWell (opening m) };
-
-    /// Law: each event that was seen keeps the protocol.
-    ghost lawful: { (m : Self.Machine) (c : CpuId) → ActsFor m c → IsLawful (QueueAllowed (sleep_kernel E.rules (opening m))) (seen m) };
-
-    /// Law: each thread moves from where it stands.
-    ghost moves_legal: { (m : Self.Machine) (c : CpuId) → ActsFor m c → AreMoves (homes_in (opening m)) (moves_in (sleep_kernel E.rules (opening m)) (seen m)) };
-
-    /// Law: each event that was seen is of a CPU that a machine may have.
-    ghost known: { (m : Self.Machine) (c : CpuId) → ActsFor m c → IsLawful IsKnownEvent (seen m) };
-
-    /// Law: the actions are legal.
-    ghost legal: { (m : Self.Machine) (c : CpuId) → ActsFor m c → AreLegal (acts m) };
-
-    /// Law: where a poll is one action, the events that were seen are those of the actions.
-    ghost seen_is: { IsStepwise → (m : Self.Machine) → seen m ≡ map event_of (sections_in (acts m)) };
-
-    /// Law: where a poll is one action, each section of the actions edits a block of its kind.
-    ghost proper: { IsStepwise → (m : Self.Machine) (c : CpuId) → ActsFor m c → AreProper (sections_in (acts m)) };
-
-    /// Law: where a poll is one action, a CPU is inside exactly while it waits at a lock or holds one.
-    ghost busy: { (p : Self) (m : Self.Machine) → Fits p m → IsStepwise → is_inside p ≡ is_in_section (phase (cpu_of p) (acts m)) };
-
-    /// Law: while no call is under way no lock is waited for or held.
-    ghost idle: { (p : Self) (m : Self.Machine) → Fits p m → under_way p ≡ None → is_inside p ≡ false };
+    ghost Agrees = { λ opening cpu seen own. SleepAgrees E.rules opening cpu seen own.threads };
 }
+
+impl<E: Sleeps> ThreadLaw for SleepLaw<E> {
+    ghost use Rattle.std.specs.Prelude.{false};
+    ghost use Rattle.layer_traits.specs.declared.scheds.SchedCall.TheVariants as sched;
+    ghost use Rattle.layer_traits.specs.QueueBlocks.{homes_in};
+    ghost use Rattle.layer_traits.specs.Scheds.{SchedPolled};
+    ghost use Rattle.layer_traits.specs.SleepLaw.{done_if, pass_plan, sleep_kernel};
+    ghost use Rattle.layer_traits.specs.Sleeping.{sleep_moves};
+
+    ghost threads_of = { λ own. own.threads };
+
+    ghost at_once = { λ _. false };
+
+    ghost pass_begun = { sched.Pass };
+
+    ghost Passed = { λ opening ActsFor cpu call result old new own own'. SchedPolled (sleep_kernel E.rules opening) ActsFor cpu (sched.Pass call)
+        (done_if result) old new own own' };
+
+    ghost KeepsRest = { λ own own'. own'.deferred ≡ own.deferred };
+
+    ghost pass_plan = { λ opening cpu call own. pass_plan (sleep_moves E.rules) (homes_in opening) cpu call own };
+}
+
+/// One CPU's part of a layer whose sections put threads to sleep and wake them. To the layers above a
+/// section is one event.
+pub trait SleepLayer<E: Sleeps>: ThreadLayer<SleepLaw<E>> {}
+
+impl<E: Sleeps, X: ThreadLayer<SleepLaw<E>>> SleepLayer<E> for X {}

@@ -1,5 +1,8 @@
 //! The locks that a plan or a count may name, each over an owned machine. A further lock is one more
 //! impl here, and an arm where a lock is chosen by its kind: `over_lock` and `count_plain`.
+//!
+//! A climb takes the memory that its work takes, and a count takes that of its machine and parts. No
+//! call waits.
 
 ghost use Rattle.std.specs.Prelude.{◌≡◌, ◌*◌, ◌≤◌, IfOk};
 ghost use Rattle.event_log.specs.declared.ids.TheConstants.{CPUS};

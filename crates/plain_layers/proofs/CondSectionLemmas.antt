@@ -122,10 +122,12 @@ module _ {G B O : Type 0} (monitor_rules : MonitorRules G B O) (opening : LockId
         (told : Option (Outcome (QOut (CvOut O)))) → After (cv_rules monitor_rules) opening ActsFor c b call past lock under told
         → AfterLeft past under (left_waiting (lock_caller (cv_rules monitor_rules) call) b own.waits lock told)
     by_answer past lock under None (inl may) = inl (record {
-      runs = may.runs;
-      may = goes_on (slept_for own.waits (lock_caller (cv_rules monitor_rules) call)) under
-          (MayGo (slept_for lock.slept (lock_caller (cv_rules monitor_rules) call)) under b call (lock_caller (cv_rules monitor_rules) call)
-          (MayLock (cv_rules monitor_rules) (lock_kernel (cv_rules monitor_rules) opening) c past lock.sleep.threads.hand b call)) goes may.may;
+      may = record {
+        runs = may.may.runs;
+        may = goes_on (slept_for own.waits (lock_caller (cv_rules monitor_rules) call)) under
+            (MayGo (slept_for lock.slept (lock_caller (cv_rules monitor_rules) call)) under b call (lock_caller (cv_rules monitor_rules) call)
+            (MayLock (cv_rules monitor_rules) (lock_kernel (cv_rules monitor_rules) opening) c past lock.sleep.threads.hand b call)) goes may.may.may;
+      };
       apart = nowhere (slept_for own.waits (lock_caller (cv_rules monitor_rules) call)) goes;
       ready = record { small = small; steady = may.steady };
     })
@@ -145,7 +147,7 @@ module _ {G B O : Type 0} (monitor_rules : MonitorRules G B O) (opening : LockId
       (by_answer own is may.ready.small new polled.left.own under polled.left.answer
       (after_polled (cv_rules monitor_rules) opening ActsFor c b call (slept_for own.lock.slept (lock_caller
       (cv_rules monitor_rules) call)) old new own.lock under
-      polled.left refl may.runs may.ready.steady polled.polled same))
+      polled.left refl may.may.runs may.ready.steady polled.polled same))
   after_call (Some at) old new own before under got is may polled same =
       after_over old new own under got (may.apart (subst (λ o. IsSome o) (sym is) refl)) may.ready polled
 
@@ -167,7 +169,7 @@ module _ {G B O : Type 0} (monitor_rules : MonitorRules G B O) (opening : LockId
       → WaitsAt monitor_rules own under (lock_caller (cv_rules monitor_rules) call) b
   waits_after past own under (Some outcome) current after none is missing other = absurd cc
   waits_after past own under None current (inl may) none is missing other =
-      let clash : true ≡ false = ap is_some (sym (is ∙ may.runs)) ∙ missing in
+      let clash : true ≡ false = ap is_some (sym (is ∙ may.may.runs)) ∙ missing in
       absurd cc
   waits_after past own under None current (inr sleeps) none is missing other = by_call sleeps.1
     where
@@ -210,9 +212,11 @@ pub may_begin : {G B O : Type 0} (monitor_rules : MonitorRules G B O) (k : Kerne
     → MayLock (cv_rules monitor_rules) k c past own.lock.sleep.threads.hand b call
     → MayPollCondSection monitor_rules k c past own under b call
 may_begin monitor_rules k c past own under b call runs ended lock = record {
-  runs = runs;
-  may = subst (λ o. MayWait o under b call t (MayGo (slept_for own.lock.slept t) under b call t Duty)) (sym ended.goes)
-      (subst (λ o. MayGo o under b call t Duty) (sym ended.awake) (subst (λ u. MayCall u (OnBuffer b call) Duty) (sym ended.none) lock));
+  may = record {
+    runs = runs;
+    may = subst (λ o. MayWait o under b call t (MayGo (slept_for own.lock.slept t) under b call t Duty)) (sym ended.goes)
+        (subst (λ o. MayGo o under b call t Duty) (sym ended.awake) (subst (λ u. MayCall u (OnBuffer b call) Duty) (sym ended.none) lock));
+  };
   apart = λ some. ended.awake;
   ready = ended.ready;
 }

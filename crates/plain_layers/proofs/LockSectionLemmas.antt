@@ -166,9 +166,11 @@ module _ {F R B O : Type 0} (rules : LockRules F R B O) (opening : LockId → Op
     deferred_here : (past : List (QueueEvent (QEdit F R))) (outcome : Outcome (QOut O)) (threads : Threads) → threads.current ≡ Some (lock_caller rules e)
         → wait_list_slept rules outcome.out ≡ None → Here past (record { own = record { threads = threads; deferred = Some outcome }; answer = None })
     deferred_here past outcome threads runs line = inl (record {
-      runs = runs;
-      may = goes_on (slept_for own.slept (lock_caller rules e))
-          (MayLock rules (lock_kernel rules opening) c past threads.hand b e) awake;
+      may = record {
+        runs = runs;
+        may = goes_on (slept_for own.slept (lock_caller rules e))
+            (MayLock rules (lock_kernel rules opening) c past threads.hand b e) awake;
+      };
       steady = record {
         small = steady.small;
         awake = λ o deferred. let one : outcome ≡ o = cc in subst (λ x. wait_list_slept rules x.out ≡ None) one line;
@@ -271,9 +273,11 @@ module _ {F R B O : Type 0} (rules : LockRules F R B O) (opening : LockId → Op
           → (IsAcquire e → own.sleep.deferred ≡ None)
           → Here (seen_with (lock_kernel rules opening) c b e poll_result past) (left_with (lock_kernel rules opening) c b e poll_result own.sleep)
       result_here Waits past may asks = inl (record {
-        runs = runs;
-        may = goes_on (slept_for own.slept (lock_caller rules e))
-            (MayLock rules (lock_kernel rules opening) c past own.sleep.threads.hand b e) awake;
+        may = record {
+          runs = runs;
+          may = goes_on (slept_for own.slept (lock_caller rules e))
+              (MayLock rules (lock_kernel rules opening) c past own.sleep.threads.hand b e) awake;
+        };
         steady = steady;
       })
       result_here (Does outcome) past may asks = does_here past outcome may
@@ -315,7 +319,7 @@ module _ {F R B O : Type 0} (rules : LockRules F R B O) (opening : LockId → Op
       → SleepsFor rules own under (lock_caller rules e) b
   sleeps_after past own under (Some outcome) current after none is missing = absurd cc
   sleeps_after past own under None current (inl may) none is missing =
-      let clash : true ≡ false = ap is_some (sym (is ∙ may.runs)) ∙ missing in
+      let clash : true ≡ false = ap is_some (sym (is ∙ may.may.runs)) ∙ missing in
       absurd cc
   sleeps_after past own under None current (inr sleeps) none is missing = sleeps.2
 
@@ -346,8 +350,10 @@ pub may_begin : {F R B O : Type 0} (rules : LockRules F R B O) (k : Kernel (QEdi
     → own.sleep.threads.current ≡ Some (lock_caller rules e) → LockHasEnded rules own under (lock_caller rules e)
     → MayLock rules k c past own.sleep.threads.hand b e → MayPollLockSection rules k c past own under b e
 may_begin rules k c past own under b e runs ended lock = record {
-  runs = runs;
-  may = subst (λ o. MayGo o under b e t Duty) (sym ended.awake) (subst (λ u. MayCall u (call.OnBuffer b e) Duty) (sym ended.none) lock);
+  may = record {
+    runs = runs;
+    may = subst (λ o. MayGo o under b e t Duty) (sym ended.awake) (subst (λ u. MayCall u (call.OnBuffer b e) Duty) (sym ended.none) lock);
+  };
   steady = ended.steady;
 }
   where

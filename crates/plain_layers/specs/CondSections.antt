@@ -9,9 +9,9 @@ use Rattle.layer_traits.specs.declared.queues.QueueEvent.{QueueEvent}
 use Rattle.layer_traits.specs.declared.scheds.SchedCall.{SchedCall}
 use Rattle.layer_traits.specs.declared.sleeps.Outcome.{Outcome}
 use Rattle.layer_traits.specs.Conditions.{CvCall, MonitorRules, cv_rules}
-use Rattle.layer_traits.specs.CvLaw.{MayWait, Waiting}
+use Rattle.layer_traits.specs.CvLaw.{MayCallCond, Waiting}
 use Rattle.layer_traits.specs.Locking.{LockState, lock_caller}
-use Rattle.layer_traits.specs.LockLaw.{MayGo, MayLock, slept_for}
+use Rattle.layer_traits.specs.LockLaw.{slept_for}
 use Rattle.layer_traits.specs.Queues.{Kernel}
 use Rattle.plain_layers.specs.LockSections.{IsSteady}
 
@@ -23,10 +23,7 @@ pub record IsCondReady {G B O : Type 0} (monitor_rules : MonitorRules G B O) (ow
 -- the thread runs here, and may poll this call; who waits sleeps for no lock besides
 pub record MayPollCondSection {G B O : Type 0} (monitor_rules : MonitorRules G B O) (k : Kernel (CvCall G) (LockState B) (Outcome (QOut (CvOut O)))) (c : CpuId)
     (past : List (QueueEvent (CvCall G))) (own : Waiting O) (under_way : Option (SchedCall (CvCall G))) (b : BufId) (call : CvCall G) : Type 0 where
-  pub runs : own.lock.sleep.threads.current ≡ Some (lock_caller (cv_rules monitor_rules) call)
-  pub may : MayWait (slept_for own.waits (lock_caller (cv_rules monitor_rules) call)) under_way b call (lock_caller (cv_rules monitor_rules) call)
-      (MayGo (slept_for own.lock.slept (lock_caller (cv_rules monitor_rules) call)) under_way b call (lock_caller (cv_rules monitor_rules) call)
-      (MayLock (cv_rules monitor_rules) k c past own.lock.sleep.threads.hand b call))
+  pub may : MayCallCond monitor_rules k c past own under_way b call
   pub apart : IsSome (slept_for own.waits (lock_caller (cv_rules monitor_rules) call))
       → slept_for own.lock.slept (lock_caller (cv_rules monitor_rules) call) ≡ None
   pub ready : IsCondReady monitor_rules own (lock_caller (cv_rules monitor_rules) call)

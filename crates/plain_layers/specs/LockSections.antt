@@ -9,7 +9,7 @@ use Rattle.layer_traits.specs.declared.queues.QueueEvent.{QueueEvent}
 use Rattle.layer_traits.specs.declared.scheds.SchedCall.{SchedCall}
 use Rattle.layer_traits.specs.declared.sleeps.Outcome.{Outcome}
 use Rattle.layer_traits.specs.Locking.{LockRules, LockState, wait_list_slept, lock_caller}
-use Rattle.layer_traits.specs.LockLaw.{Locking, MayGo, MayLock, slept_for}
+use Rattle.layer_traits.specs.LockLaw.{Locking, MayCallLock, slept_for}
 use Rattle.layer_traits.specs.Queues.{Kernel}
 
 -- the part has a place for the thread, and keeps no outcome of a call by which its caller fell asleep
@@ -20,9 +20,7 @@ pub record IsSteady {F R B O : Type 0} (rules : LockRules F R B O) (own : Lockin
 -- the thread runs here, and may poll this call
 pub record MayPollLockSection {F R B O : Type 0} (rules : LockRules F R B O) (k : Kernel (QEdit F R) (LockState B) (Outcome (QOut O))) (c : CpuId)
     (past : List (QueueEvent (QEdit F R))) (own : Locking O) (under_way : Option (SchedCall (QEdit F R))) (b : BufId) (e : QEdit F R) : Type 0 where
-  pub runs : own.sleep.threads.current ≡ Some (lock_caller rules e)
-  pub may : MayGo (slept_for own.slept (lock_caller rules e)) under_way b e (lock_caller rules e)
-      (MayLock rules k c past own.sleep.threads.hand b e)
+  pub may : MayCallLock rules k c past own under_way b e
   pub steady : IsSteady rules own (lock_caller rules e)
 
 -- no call is under way, and the thread sleeps for no lock

@@ -8,7 +8,7 @@ ghost use Rattle.std.specs.Prelude.{◌≡◌, [], IfOk};
 ghost use Rattle.event_log.specs.declared.ids.TheConstants.{CPUS};
 
 use event_log::{CpuId, LockId, NoMemory};
-use layer_traits::{Edit, Layer, LockCall, LockLaw, LockLayer, OwnedLocks, Payload};
+use layer_traits::{Edit, Layer, LockCall, LockLaw, OwnedLocks, Payload};
 use std::alloc::Global;
 
 /// The most polls that a CPU rests between two tries.
@@ -24,7 +24,7 @@ pub struct Backoff<L> {
     next: u8,
 }
 
-impl<E: Edit, L: LockLayer<E>> Layer<LockLaw<E>> for Backoff<L> {
+impl<E: Edit, L: Layer<LockLaw<E>>> Layer<LockLaw<E>> for Backoff<L> {
     type Machine = L::Machine;
 
     ghost opening = { λ m. L.opening m };
@@ -93,6 +93,8 @@ impl<E: Edit, L: LockLayer<E>> Layer<LockLaw<E>> for Backoff<L> {
     ghost lawful = { λ m c acts. L.lawful m c acts };
 
     ghost known = { λ m c acts. L.known m c acts };
+
+    ghost moves_legal = { λ m c acts. tt };
 
     ghost opens = { λ m c acts. tt };
 

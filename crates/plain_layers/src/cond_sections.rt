@@ -13,7 +13,8 @@ ghost use Rattle.plain_layers.specs.CondSections.{CondHasEnded, MayPollCondSecti
 
 use event_log::{BufId, Tid};
 use layer_traits::{
-    CvEdit, CvLayer, CvLeave, CvOut, Guarded, Outcome, OwnedConds, Pass, Payload, QEdit, QOut, Side,
+    BufferCall, CvEdit, CvLaw, CvLeave, CvOut, Guarded, Outcome, OwnedConds, Pass, Payload, QEdit,
+    QOut, Side, ThreadLayer,
 };
 
 /// How a call stands after a poll.
@@ -41,7 +42,7 @@ fn caller_of<G: Guarded>(call: &QEdit<CvEdit<G>, CvLeave>) -> Tid
 }
 
 /// One poll of a call of the thread that runs.
-pub fn one_section_poll<G: Guarded, C: CvLayer<G>>(
+pub fn one_section_poll<G: Guarded, C: ThreadLayer<CvLaw<G>>>(
     part: &mut C,
     m: &mut C::Machine,
     buffer: BufId,
@@ -68,7 +69,7 @@ pub fn one_section_poll<G: Guarded, C: CvLayer<G>>(
         → owner_of (cv_rules G.monitor_rules) (inner (C.opening m.new)) (buffer_sections (C.seen m.new)) (Buffer buffer)
         ≡ Some (lock_caller (cv_rules G.monitor_rules) call) }
 {
-    match part.poll(m, buffer, call, &mut Payload::new()) {
+    match part.poll(m, BufferCall { buffer, edit: call }, &mut Payload::new()) {
         Some(outcome) => PollSection::Answered(outcome),
         None => {
             if part.current().is_some() {
@@ -94,7 +95,7 @@ fn again<G: Copy>(call: &QEdit<CvEdit<G>, CvLeave>) -> QEdit<CvEdit<G>, CvLeave>
 }
 
 /// So many polls of a call of the thread that runs; `None` if it ends or sleeps sooner.
-pub fn section_polls<G: Guarded + Copy, C: CvLayer<G>>(
+pub fn section_polls<G: Guarded + Copy, C: ThreadLayer<CvLaw<G>>>(
     part: &mut C,
     m: &mut C::Machine,
     buffer: BufId,
@@ -181,7 +182,7 @@ pub fn calls<G: Guarded + Copy, C: OwnedConds<G>>(
 }
 
 /// The poll of the Wait of a thread that waits, once it runs again.
-pub fn is_woken<G: Guarded, C: CvLayer<G>>(
+pub fn is_woken<G: Guarded, C: ThreadLayer<CvLaw<G>>>(
     part: &mut C,
     m: &mut C::Machine,
     buffer: BufId,
@@ -200,7 +201,7 @@ pub fn is_woken<G: Guarded, C: CvLayer<G>>(
 }
 
 /// The next ready thread runs, if nobody does and nobody stands in the hand.
-pub fn switches<G: Guarded, C: CvLayer<G>>(part: &mut C, m: &mut C::Machine) -> bool
+pub fn switches<G: Guarded, C: ThreadLayer<CvLaw<G>>>(part: &mut C, m: &mut C::Machine) -> bool
     requires fits { C.Fits part.old m.old }
     requires room { 0 < C.room m.old }
     requires idle { C.under_way part.old ≡ None }
@@ -219,7 +220,11 @@ pub fn switches<G: Guarded, C: CvLayer<G>>(part: &mut C, m: &mut C::Machine) -> 
 }
 
 /// Takes in so many polls who is pending, if nobody runs, stands in the hand or is ready.
-pub fn drains<G: Guarded, C: CvLayer<G>>(part: &mut C, m: &mut C::Machine, polls: usize) -> bool
+pub fn drains<G: Guarded, C: ThreadLayer<CvLaw<G>>>(
+    part: &mut C,
+    m: &mut C::Machine,
+    polls: usize,
+) -> bool
     requires fits { C.Fits part.old m.old }
     requires room { polls ≤ C.room m.old }
     requires idle { C.under_way part.old ≡ None }

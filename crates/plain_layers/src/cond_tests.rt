@@ -19,8 +19,8 @@ use crate::openings::{Opens, SchedLaws};
 use condvar::Cond;
 use event_log::{BufId, CPUS, CpuId, NoMemory, THREADS, Tid};
 use layer_traits::{
-    CvEdit, CvLayer, CvLeave, CvOut, Guarded, OwnedConds, OwnedLocks, Payload, QEdit, QOut,
-    QueueEdit, Side, WaitList,
+    CvEdit, CvLaw, CvLeave, CvOut, Guarded, OwnedConds, OwnedLocks, Payload, QEdit, QOut,
+    QueueEdit, Side, ThreadLayer, WaitList,
 };
 use plain_machine::Plain;
 use queuing_lock::{QLock, QLockEdit, lock_blocks};
@@ -162,7 +162,11 @@ fn signals_and_leaves<G: Guarded + Copy, C: OwnedConds<G>>(
 }
 
 /// Thread 0's wait is over once it runs again.
-fn is_over<G: Guarded, C: CvLayer<G>>(zero: &mut C, m: &mut C::Machine, section: usize) -> bool
+fn is_over<G: Guarded, C: ThreadLayer<CvLaw<G>>>(
+    zero: &mut C,
+    m: &mut C::Machine,
+    section: usize,
+) -> bool
     requires fits { C.Fits zero.old m.old }
     requires buffer { IsSome (C.opening m.old (Buffer (record { 0 = 0 }))) }
     requires room { section < C.room m.old }
@@ -281,7 +285,7 @@ fn machine<S: Opens<Edits>>(alloc: Global) -> Result<S::Machine, NoMemory>
 }
 
 /// The part of a CPU at boot.
-fn part<G: Guarded, C: CvLayer<G>>(m: &C::Machine, cpu: CpuId) -> C
+fn part<G: Guarded, C: ThreadLayer<CvLaw<G>>>(m: &C::Machine, cpu: CpuId) -> C
     requires acts { C.ActsFor m.now cpu }
     requires outside { C.IsOutside m.now cpu }
     requires seen { C.seen m.now ≡ [] }

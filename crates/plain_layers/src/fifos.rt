@@ -11,7 +11,7 @@ use arrayvec::ArrayVec;
 use event_log::{BufId, CAPACITY, CpuId, Kind, Msg, THREADS, Tid};
 use layer_traits::{
     BufferLayer, Call, CallState, Effect, Outcome, OwnedBuffers, OwnedSleeps, Pass, Payload, Reply,
-    SleepLayer, Stage, WaitList,
+    SleepLaw, Stage, ThreadLayer, WaitList,
 };
 
 /// One CPU's part of first-in first-out blocking buffers as they are meant, over a part `S` of sleep
@@ -101,7 +101,7 @@ fn reply(call: &Call, effect: &Option<Effect>) -> Option<Reply>
     }
 }
 
-impl<S: SleepLayer<Attempt>> BufferLayer for PlainFifo<S> {
+impl<S: ThreadLayer<SleepLaw<Attempt>>> BufferLayer for PlainFifo<S> {
     ghost use Rattle.std.specs.Prelude.{◌/◌, length, refl};
     ghost use Rattle.layer_traits.specs.IpcLaw.{WaitListsAgree};
     ghost use Rattle.plain_layers.specs.FifoLaws.{plain_wait_lists};
@@ -219,14 +219,14 @@ impl<S: SleepLayer<Attempt>> BufferLayer for PlainFifo<S> {
     ghost lawful = { λ m c acts. plain_lawful (inner (S.opening m)) (caps_in (inner (S.opening m))) (buffer_sections (S.seen m)) acts.2.fresh };
 
     ghost stands = { λ p m fits. subst (λ h. Stands h (S.cpu_of p.lower) (moves_in (sleep_kernel attempts (S.opening m)) (S.seen m)) (S.own p.lower).threads)
-        (sym (homes_viewed shown (S.opening m))) (S.stands p.lower m fits.0) };
+        (sym (homes_viewed shown (S.opening m))) (S.stands p.lower m fits.0).stands };
 
     ghost moves_legal = { λ m c acts. subst (λ h. AreMoves h (moves_in (sleep_kernel attempts (S.opening m)) (S.seen m)))
         (sym (homes_viewed shown (S.opening m))) (S.moves_legal m c acts.0) };
 
     ghost lists = { λ p m fits. subst (λ h. WaitListsAgree (length (caps_in (inner (S.opening m)))) h (moves_in (sleep_kernel attempts (S.opening m)) (S.seen m))
         (wait_lists_in (inner (S.opening m)) (buffer_sections (S.seen m)))) (sym (homes_viewed shown (S.opening m)))
-        (plain_wait_lists (S.opening m) (S.seen m) fits.2.fresh (S.lists p.lower m fits.0)) };
+        (plain_wait_lists (S.opening m) (S.seen m) fits.2.fresh (S.stands p.lower m fits.0).lists) };
 
     ghost opens = { λ m c acts. starts_viewed shown (S.opening m) (S.opens m c acts.0) };
 

@@ -12,7 +12,9 @@ ghost use Rattle.plain_layers.specs.declared.lock_sections.PollSection.TheVarian
 ghost use Rattle.plain_layers.specs.LockSections.{LockHasEnded, MayPollLockSection, SleepsFor};
 
 use event_log::{BufId, Tid};
-use layer_traits::{Locked, Outcome, OwnedQLocks, Pass, Payload, QEdit, QLockLayer, QOut};
+use layer_traits::{
+    BufferCall, Locked, Outcome, OwnedQLocks, Pass, Payload, QEdit, QLockLaw, QOut, ThreadLayer,
+};
 
 /// How a call stands after a poll.
 #[derive(Drop)]
@@ -26,7 +28,7 @@ pub enum PollSection<O> {
 }
 
 /// One poll of a call of the thread that runs.
-pub fn one_section_poll<F: Locked, Q: QLockLayer<F>>(
+pub fn one_section_poll<F: Locked, Q: ThreadLayer<QLockLaw<F>>>(
     part: &mut Q,
     m: &mut Q::Machine,
     buffer: BufId,
@@ -50,7 +52,7 @@ pub fn one_section_poll<F: Locked, Q: QLockLayer<F>>(
     ensures owns { (outcome : _) → result ≡ Answered outcome → IsAcquire call
         → owner_of F.rules (inner (Q.opening m.new)) (buffer_sections (Q.seen m.new)) (Buffer buffer) ≡ Some (lock_caller F.rules call) }
 {
-    match part.poll(m, buffer, call, &mut Payload::new()) {
+    match part.poll(m, BufferCall { buffer, edit: call }, &mut Payload::new()) {
         Some(outcome) => PollSection::Answered(outcome),
         None => {
             if part.current().is_some() {
@@ -73,7 +75,7 @@ fn again<F: Copy, R: Copy>(call: &QEdit<F, R>) -> QEdit<F, R>
 }
 
 /// So many polls of a call of the thread that runs; `None` if it ends or sleeps sooner.
-pub fn section_polls<F: Locked + Copy, Q: QLockLayer<F>>(
+pub fn section_polls<F: Locked + Copy, Q: ThreadLayer<QLockLaw<F>>>(
     part: &mut Q,
     m: &mut Q::Machine,
     buffer: BufId,
@@ -175,7 +177,7 @@ pub fn releases<F: Locked + Copy, Q: OwnedQLocks<F>>(
 }
 
 /// The poll of the Acquire of a thread that slept for the lock, once it runs again.
-pub fn is_handed<F: Locked, Q: QLockLayer<F>>(
+pub fn is_handed<F: Locked, Q: ThreadLayer<QLockLaw<F>>>(
     part: &mut Q,
     m: &mut Q::Machine,
     buffer: BufId,
@@ -195,7 +197,7 @@ pub fn is_handed<F: Locked, Q: QLockLayer<F>>(
 }
 
 /// The next ready thread runs, if nobody does and nobody stands in the hand.
-pub fn switches<F: Locked, Q: QLockLayer<F>>(part: &mut Q, m: &mut Q::Machine) -> bool
+pub fn switches<F: Locked, Q: ThreadLayer<QLockLaw<F>>>(part: &mut Q, m: &mut Q::Machine) -> bool
     requires fits { Q.Fits part.old m.old }
     requires room { 0 < Q.room m.old }
     requires idle { Q.under_way part.old ≡ None }
@@ -213,7 +215,11 @@ pub fn switches<F: Locked, Q: QLockLayer<F>>(part: &mut Q, m: &mut Q::Machine) -
 }
 
 /// Takes in so many polls who is pending, if nobody runs, stands in the hand or is ready.
-pub fn drains<F: Locked, Q: QLockLayer<F>>(part: &mut Q, m: &mut Q::Machine, polls: usize) -> bool
+pub fn drains<F: Locked, Q: ThreadLayer<QLockLaw<F>>>(
+    part: &mut Q,
+    m: &mut Q::Machine,
+    polls: usize,
+) -> bool
     requires fits { Q.Fits part.old m.old }
     requires room { polls ≤ Q.room m.old }
     requires idle { Q.under_way part.old ≡ None }

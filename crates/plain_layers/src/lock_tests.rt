@@ -19,8 +19,8 @@ use crate::lock_sections::{
 use crate::openings::{Opens, SchedLaws};
 use event_log::{BufId, CPUS, CpuId, NoMemory, THREADS, Tid};
 use layer_traits::{
-    Locked, OwnedLocks, OwnedQLocks, Payload, QEdit, QLockLayer, QOut, QueueEdit, Side, WaitList,
-    WakeWaiter,
+    Locked, OwnedLocks, OwnedQLocks, Payload, QEdit, QLockLaw, QOut, QueueEdit, Side, ThreadLayer,
+    WaitList, WakeWaiter,
 };
 use plain_machine::Plain;
 use queuing_lock::{QBlock, QLock, QLockEdit, lock_blocks};
@@ -282,7 +282,7 @@ fn machine<S: Opens<Edits>>(alloc: Global) -> Result<S::Machine, NoMemory>
 }
 
 /// The part of a CPU at boot.
-fn part<F: Locked, Q: QLockLayer<F>>(m: &Q::Machine, cpu: CpuId) -> Q
+fn part<F: Locked, Q: ThreadLayer<QLockLaw<F>>>(m: &Q::Machine, cpu: CpuId) -> Q
     requires acts { Q.ActsFor m.now cpu }
     requires outside { Q.IsOutside m.now cpu }
     requires seen { Q.seen m.now ≡ [] }

@@ -81,6 +81,8 @@ impl<E: Edit> Layer<LockLaw<E>> for PlainLock<E> {
 
     ghost known = { λ m c acts. acts.1.known };
 
+    ghost moves_legal = { λ m c acts. tt };
+
     ghost opens = { λ m c acts. tt };
 
     ghost stands = { λ p m fits. tt };

@@ -76,6 +76,8 @@ impl<E: Moves> Layer<QueueLaw<E>> for PlainQueues<E> {
 
     ghost own_cpu = { λ p m fits. fits };
 
+    ghost moves_legal = { λ m c acts. tt };
+
     ghost opens = { λ m c acts. acts.1.starts };
 
     ghost lawful = { λ m c acts. acts.1.lawful };

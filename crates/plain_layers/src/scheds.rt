@@ -95,6 +95,8 @@ impl<E: Moves> Layer<SchedLaw<E>> for PlainSched<E> {
 
     ghost own_cpu = { λ p m fits. (fits.0, fits.1) };
 
+    ghost moves_legal = { λ m c acts. tt };
+
     ghost opens = { λ m c acts. acts.1.starts };
 
     ghost lawful = { λ m c acts. acts.1.lawful };

@@ -14,7 +14,8 @@ use crate::PlainSched;
 use crate::openings::{Opens, SchedLaws};
 use event_log::{BufId, CPUS, CpuId, NoMemory, Tid};
 use layer_traits::{
-    Outcome, OwnedLocks, OwnedSleeps, Pass, Payload, QueueEdit, SleepLayer, Sleeps, WaitList, Wake,
+    BufferCall, Outcome, OwnedLocks, OwnedSleeps, Pass, Payload, QueueEdit, SleepLaw, Sleeps,
+    ThreadLayer, WaitList, Wake,
 };
 use plain_machine::Plain;
 use scheduler::Sched;
@@ -93,7 +94,7 @@ fn wake(caller: Tid, other: Tid) -> Nap {
 }
 
 /// The next ready thread runs, if nobody does and nobody stands in the hand.
-fn switches<S: SleepLayer<Nap>>(part: &mut S, m: &mut S::Machine) -> bool
+fn switches<S: ThreadLayer<SleepLaw<Nap>>>(part: &mut S, m: &mut S::Machine) -> bool
     requires fits { S.Fits part.old m.old }
     requires idle { S.under_way part.old ≡ None }
     requires room { 0 < S.room m.old }
@@ -112,7 +113,7 @@ fn switches<S: SleepLayer<Nap>>(part: &mut S, m: &mut S::Machine) -> bool
 
 /// Polls a section, if its caller runs and nobody stands in the hand, until it answers, at most three
 /// times, and tells at which poll it did; `None` where it may not call or none of them answered.
-fn ends_at<S: SleepLayer<Nap>>(
+fn ends_at<S: ThreadLayer<SleepLaw<Nap>>>(
     part: &mut S,
     m: &mut S::Machine,
     nap: Nap,
@@ -131,14 +132,15 @@ fn ends_at<S: SleepLayer<Nap>>(
     if part.current() != Some(nap.caller) || part.hand().is_some() {
         return None;
     }
+    let buffer = BufId(0);
     let mut payload = Payload::new();
-    if let Some(outcome) = part.poll(m, BufId(0), nap, &mut payload) {
+    if let Some(outcome) = part.poll(m, BufferCall { buffer, edit: nap }, &mut payload) {
         return Some((1, outcome));
     }
-    if let Some(outcome) = part.poll(m, BufId(0), nap, &mut payload) {
+    if let Some(outcome) = part.poll(m, BufferCall { buffer, edit: nap }, &mut payload) {
         return Some((2, outcome));
     }
-    match part.poll(m, BufId(0), nap, &mut payload) {
+    match part.poll(m, BufferCall { buffer, edit: nap }, &mut payload) {
         None => None,
         Some(outcome) => Some((3, outcome)),
     }
@@ -146,7 +148,7 @@ fn ends_at<S: SleepLayer<Nap>>(
 
 /// Polls a section that wakes a thread of another CPU until that thread stands in the hand, at most
 /// three times, and tells at which poll it did; 0 where it may not call, or where it answers sooner.
-fn takes_in_hand_at<S: SleepLayer<Nap>>(part: &mut S, m: &mut S::Machine, nap: Nap) -> u8
+fn takes_in_hand_at<S: ThreadLayer<SleepLaw<Nap>>>(part: &mut S, m: &mut S::Machine, nap: Nap) -> u8
     requires fits { S.Fits part.old m.old }
     requires idle { S.under_way part.old ≡ None }
     requires buffer { IsSome (S.opening m.old (Buffer (record { 0 = 0 }))) }
@@ -161,27 +163,37 @@ fn takes_in_hand_at<S: SleepLayer<Nap>>(part: &mut S, m: &mut S::Machine, nap: N
     if part.current() != Some(nap.caller) || part.hand().is_some() {
         return 0;
     }
+    let buffer = BufId(0);
     let mut payload = Payload::new();
-    if part.poll(m, BufId(0), nap, &mut payload).is_some() {
+    if part
+        .poll(m, BufferCall { buffer, edit: nap }, &mut payload)
+        .is_some()
+    {
         return 0;
     }
     if part.hand().is_some() {
         return 1;
     }
-    if part.poll(m, BufId(0), nap, &mut payload).is_some() {
+    if part
+        .poll(m, BufferCall { buffer, edit: nap }, &mut payload)
+        .is_some()
+    {
         return 0;
     }
     if part.hand().is_some() {
         return 2;
     }
-    if part.poll(m, BufId(0), nap, &mut payload).is_some() {
+    if part
+        .poll(m, BufferCall { buffer, edit: nap }, &mut payload)
+        .is_some()
+    {
         return 0;
     }
     if part.hand().is_some() { 3 } else { 0 }
 }
 
 /// Polls a section under way until it answers, at most three times, and tells at which poll it did.
-fn sends_at<S: SleepLayer<Nap>>(
+fn sends_at<S: ThreadLayer<SleepLaw<Nap>>>(
     part: &mut S,
     m: &mut S::Machine,
     nap: Nap,
@@ -197,14 +209,15 @@ fn sends_at<S: SleepLayer<Nap>>(
     ensures idle { is_some result ≡ true → S.under_way part.new ≡ None }
     ensures others { (p : S) → S.cpu_of p ≢ S.cpu_of part.old → S.Fits p m.old → S.Fits p m.new }
 {
+    let buffer = BufId(0);
     let mut payload = Payload::new();
-    if let Some(outcome) = part.poll(m, BufId(0), nap, &mut payload) {
+    if let Some(outcome) = part.poll(m, BufferCall { buffer, edit: nap }, &mut payload) {
         return Some((1, outcome));
     }
-    if let Some(outcome) = part.poll(m, BufId(0), nap, &mut payload) {
+    if let Some(outcome) = part.poll(m, BufferCall { buffer, edit: nap }, &mut payload) {
         return Some((2, outcome));
     }
-    match part.poll(m, BufId(0), nap, &mut payload) {
+    match part.poll(m, BufferCall { buffer, edit: nap }, &mut payload) {
         None => None,
         Some(outcome) => Some((3, outcome)),
     }
@@ -213,7 +226,12 @@ fn sends_at<S: SleepLayer<Nap>>(
 /// Thread 0 falls asleep as a waiting receiver in the polls of a section, and its CPU has no current
 /// thread; then thread 1 of another CPU wakes it in as many, after which it stands in that CPU's hand
 /// alone, and sends it home in as many more.
-fn across<S: SleepLayer<Nap>>(home: &mut S, away: &mut S, m: &mut S::Machine, polls: u8) -> bool
+fn across<S: ThreadLayer<SleepLaw<Nap>>>(
+    home: &mut S,
+    away: &mut S,
+    m: &mut S::Machine,
+    polls: u8,
+) -> bool
     requires home { S.Fits home.old m.old }
     requires away { S.Fits away.old m.old }
     requires apart { S.cpu_of home.old ≢ S.cpu_of away.old }
@@ -247,7 +265,7 @@ fn across<S: SleepLayer<Nap>>(home: &mut S, away: &mut S, m: &mut S::Machine, po
 
 /// Thread 0 falls asleep, and thread 2 of the same CPU wakes it: it is ready there after that same
 /// poll, and thread 2 may end.
-fn at_home<S: SleepLayer<Nap>>(home: &mut S, m: &mut S::Machine, polls: u8) -> bool
+fn at_home<S: ThreadLayer<SleepLaw<Nap>>>(home: &mut S, m: &mut S::Machine, polls: u8) -> bool
     requires fits { S.Fits home.old m.old }
     requires idle { S.under_way home.old ≡ None }
     requires buffer { IsSome (S.opening m.old (Buffer (record { 0 = 0 }))) }
@@ -322,7 +340,7 @@ fn machine<S: Opens<SleepEdit<Nap>>>(alloc: Global) -> Result<S::Machine, NoMemo
 }
 
 /// The part of a CPU at boot.
-fn part<S: SleepLayer<Nap>>(m: &S::Machine, cpu: CpuId) -> S
+fn part<S: ThreadLayer<SleepLaw<Nap>>>(m: &S::Machine, cpu: CpuId) -> S
     requires acts { S.ActsFor m.now cpu }
     requires outside { S.IsOutside m.now cpu }
     requires seen { S.seen m.now ≡ [] }

@@ -9,7 +9,9 @@ ghost use Rattle.plain_layers.specs.Wholes.{IsCoarse};
 
 use crate::scheds::PlainSched;
 use condvar::Cond;
-use layer_traits::{CvEdit, CvLayer, CvLeave, Guarded, Locked, QLockLayer, SleepLayer, Sleeps};
+use layer_traits::{
+    CvEdit, CvLaw, CvLeave, Guarded, Locked, QLockLaw, SleepLaw, Sleeps, ThreadLayer,
+};
 use queuing_lock::{QLock, QLockEdit};
 use sleep_wakeup::{SleepEdit, Sleeper};
 
@@ -26,15 +28,15 @@ pub type PlainCond<G> = Cond<PlainQLock<CvEdit<G>, CvLeave>>;
 
 /// Law: each poll of one-step sleep and wakeup is one call, and not one action.
 pub fn sleep_is_whole<E: Sleeps>()
-    ensures { IsCoarse ⟦<PlainSleep<E> as SleepLayer<E>>⟧.IsWhole ⟦<PlainSleep<E> as SleepLayer<E>>⟧.IsStepwise }
+    ensures { IsCoarse ⟦<PlainSleep<E> as ThreadLayer<SleepLaw<E>>>⟧.IsWhole ⟦<PlainSleep<E> as ThreadLayer<SleepLaw<E>>>⟧.IsStepwise }
 {}
 
 /// Law: the same of one-step queuing locks.
 pub fn lock_is_whole<F: Locked>()
-    ensures { IsCoarse ⟦<PlainQLock<F, F::Release> as QLockLayer<F>>⟧.IsWhole ⟦<PlainQLock<F, F::Release> as QLockLayer<F>>⟧.IsStepwise }
+    ensures { IsCoarse ⟦<PlainQLock<F, F::Release> as ThreadLayer<QLockLaw<F>>>⟧.IsWhole ⟦<PlainQLock<F, F::Release> as ThreadLayer<QLockLaw<F>>>⟧.IsStepwise }
 {}
 
 /// Law: the same of one-step conditions.
 pub fn cond_is_whole<G: Guarded>()
-    ensures { IsCoarse ⟦<PlainCond<G> as CvLayer<G>>⟧.IsWhole ⟦<PlainCond<G> as CvLayer<G>>⟧.IsStepwise }
+    ensures { IsCoarse ⟦<PlainCond<G> as ThreadLayer<CvLaw<G>>>⟧.IsWhole ⟦<PlainCond<G> as ThreadLayer<CvLaw<G>>>⟧.IsStepwise }
 {}

@@ -8,12 +8,12 @@ ghost use Rattle.layer_traits.specs.SleepLaw.{MaySleep, sleep_kernel};
 ghost use Rattle.plain_layers.specs.Wholes.{IsDoneWhole, asked};
 
 use event_log::BufId;
-use layer_traits::{Outcome, Payload, SleepLayer, Sleeps};
+use layer_traits::{BufferCall, Outcome, Payload, SleepLaw, Sleeps, ThreadLayer};
 
 /// Does the whole section of `edit` at the lock of `buffer`, where the holder of the machine acts
 /// for every CPU: one poll, or two where the section wakes a thread of another CPU and its caller
 /// goes on.
-pub fn whole<E: Sleeps + Copy, S: SleepLayer<E>>(
+pub fn whole<E: Sleeps + Copy, S: ThreadLayer<SleepLaw<E>>>(
     part: &mut S,
     m: &mut S::Machine,
     buffer: BufId,
@@ -43,12 +43,12 @@ pub fn whole<E: Sleeps + Copy, S: SleepLayer<E>>(
     ensures holders { (c : CpuId) → c ≢ S.cpu_of part.old → S.ActsFor m.old c → S.MayHold m.new c → S.MayHold m.old c }
 {
     let message = payload.message;
-    match part.poll(m, buffer, edit, payload) {
+    match part.poll(m, BufferCall { buffer, edit }, payload) {
         Some(outcome) => outcome,
         None => {
             // The section may have put its answer's message in the place of the edit's.
             payload.message = message;
-            part.poll(m, buffer, edit, payload).unwrap()
+            part.poll(m, BufferCall { buffer, edit }, payload).unwrap()
         }
     }
 }

@@ -4,8 +4,8 @@ use crate::edits::QLockEdit;
 use crate::slept::Slept;
 use event_log::{BufId, CpuId, Tid};
 use layer_traits::{
-    Locked, Outcome, OwnedQLocks, OwnedSleeps, Pass, Payload, QEdit, QLockLayer, QOut, SleepLayer,
-    Sleeps, WaitList,
+    BufferCall, Locked, Outcome, OwnedQLocks, OwnedSleeps, Pass, Payload, QEdit, QLockLaw, QOut,
+    SleepLaw, Sleeps, ThreadLayer, WaitList,
 };
 
 /// One CPU's part of queuing locks over a part `S` of a layer that lets threads sleep: it keeps of
@@ -16,22 +16,13 @@ pub struct QLock<S> {
     slept: Slept,
 }
 
-impl<F: Locked, S: SleepLayer<QLockEdit<F, F::Release>>> QLockLayer<F> for QLock<S> {
-    ghost use Rattle.std.proofs.Common.{◌≡◌, ◌<◌, Some, None, IsSome, IfSome, map, option_map, ap, ◌∙◌};
-    ghost use Rattle.event_log.specs.declared.ids.CpuId.{CpuId};
-    ghost use Rattle.event_log.specs.declared.ids.LockId.TheVariants.{Buffer};
+impl<F: Locked, S: ThreadLayer<SleepLaw<QLockEdit<F, F::Release>>>> ThreadLayer<QLockLaw<F>>
+    for QLock<S> {
+    ghost use Rattle.std.proofs.Common.{map, option_map, ap, ◌∙◌};
     ghost use Rattle.event_log.specs.Actions.{renamed};
     ghost use Rattle.event_log.proofs.Renaming.{legal_renamed};
-    ghost use Rattle.layer_traits.specs.Framed.{Framed};
-    ghost use Rattle.layer_traits.specs.LockLaw.{LockPolled, MayGo, MayLock, MustWait, lock_kernel, lock_plan, locking, slept_for};
-    ghost use Rattle.layer_traits.specs.Locking.{lock_caller, lock_moves, lock_rules};
-    ghost use Rattle.layer_traits.specs.Plans.{Follows, table_of};
-    ghost use Rattle.layer_traits.specs.QueueBlocks.{homes_in};
-    ghost use Rattle.layer_traits.specs.QueueRules.{queue_rules};
     ghost use Rattle.layer_traits.specs.Renaming.{renamed_edit, renamed_events, renamed_sched, viewed};
-    ghost use Rattle.layer_traits.specs.Payloads.{lock_brought, lock_carried};
     ghost use Rattle.layer_traits.proofs.KernelRenaming.{known_renamed, proper_renamed, seen_renamed, starts_viewed};
-    ghost use Rattle.queuing_lock.specs.declared.qlock.QLock.{QLock};
     ghost use Rattle.queuing_lock.specs.Nested.{edit_in, nested_lock_of};
     ghost use Rattle.queuing_lock.specs.NestedLaws.{locks_busy, locks_lawful, locks_lists, locks_moves_legal, locks_stand, none_beneath};
     ghost use Rattle.queuing_lock.specs.Parts.{DeferredFits, SleptFits};
@@ -120,48 +111,14 @@ impl<F: Locked, S: SleepLayer<QLockEdit<F, F::Release>>> QLockLayer<F> for QLock
         self.lower.look(m)
     }
 
-    // The trait's clauses in this layer's terms: the check hands none down to a method that takes a
-    // type over the trait's own parameter by value.
     #[inline(always)]
     fn poll(
         &mut self,
         m: &mut S::Machine,
-        buffer: BufId,
-        edit: QEdit<F, F::Release>,
+        call: BufferCall<QEdit<F, F::Release>>,
         payload: &mut Payload,
-    ) -> Option<Outcome<QOut<F::Out>>>
-        requires fits { S.Fits self.old.lower m.old
-            × SleptFits F.rules (viewed nested_lock_of (S.opening m.old)) (S.cpu_of self.old.lower) (renamed_events edit_in (S.seen m.old)) self.old.slept.buffers
-            × DeferredFits (option_map (renamed_sched edit_in) (S.under_way self.old.lower)) (S.own self.old.lower).deferred (S.own self.old.lower).threads.hand }
-        requires buffer { IsSome (viewed nested_lock_of (S.opening m.old) (Buffer buffer)) }
-        requires room { 0 < S.room m.old }
-        requires caller { (S.own self.old.lower).threads.current ≡ Some (lock_caller F.rules edit) }
-        requires call { MayGo (slept_for self.old.slept.buffers (lock_caller F.rules edit))
-            (option_map (renamed_sched edit_in) (S.under_way self.old.lower)) buffer edit (lock_caller F.rules edit)
-            (MayLock F.rules (lock_kernel F.rules (viewed nested_lock_of (S.opening m.old))) (S.cpu_of self.old.lower) (renamed_events edit_in (S.seen m.old))
-            (S.own self.old.lower).threads.hand buffer edit) }
-        requires carried { lock_carried F.carried edit payload.old.message }
-        ensures framed { Framed (λ (p : QLock S) k. S.Fits p.lower k
-            × SleptFits F.rules (viewed nested_lock_of (S.opening k)) (S.cpu_of p.lower) (renamed_events edit_in (S.seen k)) p.slept.buffers
-            × DeferredFits (option_map (renamed_sched edit_in) (S.under_way p.lower)) (S.own p.lower).deferred (S.own p.lower).threads.hand)
-            (λ p. S.cpu_of p.lower) (λ k. viewed nested_lock_of (S.opening k)) S.site S.room (λ k c. S.ActsFor k c) (λ k c. S.MayHold k c)
-            self.old self.new m.old m.new }
-        ensures seen { LockPolled F.rules (lock_kernel F.rules (viewed nested_lock_of (S.opening m.old))) (λ c. S.ActsFor m.old c) (S.cpu_of self.old.lower) buffer edit
-            (slept_for self.old.slept.buffers (lock_caller F.rules edit)) (renamed_events edit_in (S.seen m.old)) (renamed_events edit_in (S.seen m.new))
-            (record { sleep = S.own self.old.lower; slept = self.old.slept.buffers }) (option_map (renamed_sched edit_in) (S.under_way self.new.lower))
-            (locking (S.own self.new.lower) self.new.slept.buffers result) }
-        ensures still { IsSome (slept_for self.old.slept.buffers (lock_caller F.rules edit)) → m.new ≡ m.old }
-        ensures brought { IfSome result (λ outcome. lock_brought F.brought outcome.out payload.new.message) }
-        ensures prompt { S.IsWhole → result ≡ None → MustWait (lock_caller F.rules edit) buffer
-            (record { sleep = S.own self.old.lower; slept = self.old.slept.buffers })
-            (record { sleep = S.own self.new.lower; slept = self.new.slept.buffers }) }
-        ensures follows { S.IsStepwise → Follows (λ c. S.ActsFor m.old c) (table_of (queue_rules (lock_rules F.rules) (lock_moves F.rules)))
-            (viewed nested_lock_of (S.opening m.old)) (S.cpu_of self.old.lower)
-            (lock_plan (lock_moves F.rules) (homes_in (viewed nested_lock_of (S.opening m.old))) (S.cpu_of self.old.lower) buffer edit
-            (record { sleep = S.own self.old.lower; slept = self.old.slept.buffers }))
-            (map (renamed (renamed_edit edit_in)) (S.acts m.old)) (map (renamed (renamed_edit edit_in)) (S.acts m.new))
-            (locking (S.own self.new.lower) self.new.slept.buffers result) }
-    {
+    ) -> Option<Outcome<QOut<F::Out>>> {
+        let BufferCall { buffer, edit } = call;
         let section = QLockEdit { edit };
         let t = section.caller();
         if self.slept.has(t) {
@@ -172,7 +129,11 @@ impl<F: Locked, S: SleepLayer<QLockEdit<F, F::Release>>> QLockLayer<F> for QLock
                 woke: None,
             });
         }
-        match self.lower.poll(m, buffer, section, payload) {
+        let call = BufferCall {
+            buffer,
+            edit: section,
+        };
+        match self.lower.poll(m, call, payload) {
             None => None,
             Some(outcome) => self.slept.complete(t, buffer, outcome),
         }
@@ -185,11 +146,13 @@ impl<F: Locked, S: SleepLayer<QLockEdit<F, F::Release>>> QLockLayer<F> for QLock
 
     ghost own_cpu = { λ p m fits. S.own_cpu p.lower m fits.0 };
 
-    ghost stands = { λ p m fits. locks_stand F.rules (S.opening m) (S.cpu_of p.lower) (S.seen m) (S.own p.lower).threads (S.stands p.lower m fits.0) };
+    ghost stands = { λ p m fits. record {
+      stands = locks_stand F.rules (S.opening m) (S.cpu_of p.lower) (S.seen m) (S.own p.lower).threads (S.stands p.lower m fits.0).stands;
+      lists = locks_lists F.rules (S.opening m) (S.seen m) (S.stands p.lower m fits.0).lists;
+      awaits = λ t b slept. (fits.1 t b slept).awaits;
+    } };
 
-    ghost lists = { λ p m fits. locks_lists F.rules (S.opening m) (S.seen m) (S.lists p.lower m fits.0) };
-
-    ghost awaits = { λ p m fits t b slept. (fits.1 t b slept).awaits };
+    ghost inside = { λ p. tt };
 
     ghost opens = { λ m c acts. starts_viewed nested_lock_of (S.opening m) (S.opens m c acts) };
 

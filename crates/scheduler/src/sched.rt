@@ -7,7 +7,7 @@ use crate::owns::OwnThreads;
 use arrayvec::ArrayVec;
 use event_log::{BufId, CpuId, THREADS, Tid};
 use layer_traits::{
-    Layer, Moves, OwnedQueues, OwnedScheds, Payload, QueueLayer, SchedAnswer, SchedCall, SchedLaw,
+    Layer, Moves, OwnedQueues, OwnedScheds, Payload, QueueLaw, SchedAnswer, SchedCall, SchedLaw,
     SchedLayer, kept_homes,
 };
 
@@ -22,7 +22,7 @@ pub struct Sched<Q> {
     own: OwnThreads,
 }
 
-impl<E: Moves, Q: QueueLayer<E>> Layer<SchedLaw<E>> for Sched<Q> {
+impl<E: Moves, Q: Layer<QueueLaw<E>>> Layer<SchedLaw<E>> for Sched<Q> {
     ghost use Rattle.std.proofs.Common.{◌∙◌, subst, sym};
     ghost use Rattle.scheduler.specs.Parts.{PartFits, busy_under, none_under, sched_under, under_is_some};
 
@@ -100,6 +100,8 @@ impl<E: Moves, Q: QueueLayer<E>> Layer<SchedLaw<E>> for Sched<Q> {
 
     ghost own_cpu = { λ p m fits. subst (λ c. Q.ActsFor m c) fits.1.cpu (Q.own_cpu p.lower m fits.0) };
 
+    ghost moves_legal = { λ m c acts. tt };
+
     ghost opens = { λ m c acts. Q.opens m c acts };
 
     ghost lawful = { λ m c acts. Q.lawful m c acts };
@@ -121,7 +123,7 @@ impl<E: Moves, Q: QueueLayer<E>> Layer<SchedLaw<E>> for Sched<Q> {
     ghost idle = { λ p m fits none. Q.idle p.lower m fits.0 (none_under (Q.under_way p.lower) p.own.current none) };
 }
 
-impl<E: Moves, Q: QueueLayer<E>> SchedLayer<E> for Sched<Q> {
+impl<E: Moves, Q: Layer<QueueLaw<E>>> SchedLayer<E> for Sched<Q> {
     #[inline(always)]
     fn current(&self) -> Option<Tid> {
         self.own.current()

@@ -7,7 +7,7 @@ ghost use Rattle.layer_traits.specs.Queues.{lock_of, edit_of};
 
 use event_log::{BufId, CpuId, LockId, Tid};
 use layer_traits::{
-    Layer, LockCall, LockLayer, Moves, OwnedLocks, OwnedQueues, Payload, QueueAnswer, QueueBlock,
+    Layer, LockCall, LockLaw, Moves, OwnedLocks, OwnedQueues, Payload, QueueAnswer, QueueBlock,
     QueueCall, QueueEdit, QueueLaw,
 };
 
@@ -32,7 +32,7 @@ pub struct SharedQueues<L> {
     lower: L,
 }
 
-impl<E: Moves, L: LockLayer<QueueEdit<E>>> Layer<QueueLaw<E>> for SharedQueues<L> {
+impl<E: Moves, L: Layer<LockLaw<QueueEdit<E>>>> Layer<QueueLaw<E>> for SharedQueues<L> {
     ghost use Rattle.std.specs.Prelude.{map, option_map};
     ghost use Rattle.std.proofs.Common.{ap, ◌∙◌, subst, sym};
     ghost use Rattle.layer_traits.specs.QueueBlocks.{StartsWell};
@@ -100,6 +100,8 @@ impl<E: Moves, L: LockLayer<QueueEdit<E>>> Layer<QueueLaw<E>> for SharedQueues<L
     }
 
     ghost own_cpu = { λ p m fits. (L.own_cpu p.lower m fits.0, fits.1) };
+
+    ghost moves_legal = { λ m c acts. tt };
 
     ghost opens = { λ m c acts. acts.1 };
 

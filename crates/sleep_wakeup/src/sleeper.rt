@@ -4,8 +4,8 @@ use crate::deferred::{DeferredOutcome, complete, done, section};
 use crate::edits::{SleepEdit, wait_list_in_block};
 use event_log::{BufId, CpuId, Tid};
 use layer_traits::{
-    Ghost, Layer, Outcome, OwnedScheds, OwnedSleeps, Pass, Payload, SchedCall, SchedLayer,
-    SleepLayer, Sleeps, WaitList,
+    BufferCall, Ghost, Layer, Outcome, OwnedScheds, OwnedSleeps, Pass, Payload, SchedCall,
+    SchedLayer, SleepLaw, Sleeps, ThreadLayer, WaitList,
 };
 
 /// One CPU's part of sleep and wakeup over a part of a scheduler (Gu et al., PLDI 2018): the
@@ -17,7 +17,7 @@ pub struct Sleeper<E: Sleeps, S> {
     deferred: Option<DeferredOutcome<E, E::Out>>,
 }
 
-impl<E: Sleeps, S: SchedLayer<SleepEdit<E>>> SleepLayer<E> for Sleeper<E, S> {
+impl<E: Sleeps, S: SchedLayer<SleepEdit<E>>> ThreadLayer<SleepLaw<E>> for Sleeper<E, S> {
     ghost use Rattle.std.proofs.Common.{map, ap, ◌∙◌};
     ghost use Rattle.event_log.specs.Actions.{renamed};
     ghost use Rattle.event_log.proofs.Renaming.{legal_renamed};
@@ -100,6 +100,11 @@ impl<E: Sleeps, S: SchedLayer<SleepEdit<E>>> SleepLayer<E> for Sleeper<E, S> {
     }
 
     #[inline(always)]
+    fn at_once(&self) -> bool {
+        false
+    }
+
+    #[inline(always)]
     fn look(&mut self, m: &mut S::Machine) -> bool {
         self.lower.look(m)
     }
@@ -108,10 +113,10 @@ impl<E: Sleeps, S: SchedLayer<SleepEdit<E>>> SleepLayer<E> for Sleeper<E, S> {
     fn poll(
         &mut self,
         m: &mut S::Machine,
-        buffer: BufId,
-        edit: E,
+        call: BufferCall<E>,
         payload: &mut Payload,
     ) -> Option<Outcome<E::Out>> {
+        let BufferCall { buffer, edit } = call;
         // Two arms in full, as one that polls either call would copy the edit with the other's bytes.
         match self.lower.hand() {
             None => {
@@ -148,9 +153,12 @@ impl<E: Sleeps, S: SchedLayer<SleepEdit<E>>> SleepLayer<E> for Sleeper<E, S> {
 
     ghost own_cpu = { λ p m fits. S.own_cpu p.lower m fits.0 };
 
-    ghost stands = { λ p m fits. nested_stands E.rules (S.opening m) (S.cpu_of p.lower) (S.seen m) (S.own p.lower) (S.stands p.lower m fits.0) };
+    ghost stands = { λ p m fits. record {
+      stands = nested_stands E.rules (S.opening m) (S.cpu_of p.lower) (S.seen m) (S.own p.lower) (S.stands p.lower m fits.0);
+      lists = nested_lists E.rules (S.opening m) (S.seen m) (S.lawful m (S.cpu_of p.lower) (S.own_cpu p.lower m fits.0)) fits.1;
+    } };
 
-    ghost lists = { λ p m fits. nested_lists E.rules (S.opening m) (S.seen m) (S.lawful m (S.cpu_of p.lower) (S.own_cpu p.lower m fits.0)) fits.1 };
+    ghost inside = { λ p. tt };
 
     ghost opens = { λ m c acts. starts_viewed state_of (S.opening m) (S.opens m c acts) };
 

@@ -141,6 +141,8 @@ impl<M: FairLock<LockProtocol>, LockProtocol> Layer<LockLaw<M::Edit>>
 
     ghost known = { λ m c acts. sections_known (M.acts m) (M.legal m c acts) };
 
+    ghost moves_legal = { λ m c acts. tt };
+
     ghost opens = { λ m c acts. tt };
 
     ghost stands = { λ p m fits. tt };

@@ -12,13 +12,13 @@ use Rattle.plain_layers.proofs.cond_sections.calls.Goals as goal
 pub section_polls-requires-clause-poll_section : goal.section_polls-requires-clause-poll_section
 section_polls-requires-clause-poll_section g c =
     let monitor_rules = g.G.Guarded.monitor_rules in
-    let C = g.C.CvLayer in
+    let C = g.C.ThreadLayer in
     let m = c.args.m.now in
     let part = c.args.part.now in
     let call = c.args.call.now in
     let runs : (C.own part).lock.sleep.threads.current ≡ Some (lock_caller (cv_rules monitor_rules) call) = search rules in
     let empty : (C.own part).lock.sleep.threads.hand ≡ None = search rules in
-    let shown = g.met.C.OwnedConds.shown m (C.cpu_of part) c.args.buffer (g.met.C.CvLayer.own_cpu part m c.requires.fits) c.requires.buffer in
+    let shown = g.met.C.OwnedConds.shown m (C.cpu_of part) c.args.buffer (g.met.C.ThreadLayer.own_cpu part m c.requires.fits) c.requires.buffer in
     let told = owner_told (g.C.OwnedConds.lock_at m c.args.buffer)
     (lock_after (cv_rules monitor_rules) (inner (C.opening m)) (Buffer c.args.buffer) (buffer_sections (C.seen m))) c.in-Some.owner shown.by_machine
     (sym c.owner_in.ensures ∙ c.in-Some.is) in

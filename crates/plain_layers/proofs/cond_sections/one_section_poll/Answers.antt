@@ -1,4 +1,4 @@
-use Rattle.std.proofs.Common.{◌≡◌, Some, ap, sym, ◌∙◌, subst, refl}
+use Rattle.std.proofs.Common.{◌≡◌, Some, ap, sym, ◌∙◌, inr, subst, refl}
 use Rattle.event_log.specs.declared.ids.LockId.TheVariants.{Buffer}
 use Rattle.layer_traits.specs.Conditions.{cv_rules}
 use Rattle.layer_traits.specs.LockLaw.{lock_kernel, slept_for}
@@ -12,7 +12,7 @@ use Rattle.plain_layers.proofs.cond_sections.one_section_poll.Goals as goal
 pub returns-then-is_some-clause-goes : goal.returns-then-is_some-clause-goes
 returns-then-is_some-clause-goes g c =
     let monitor_rules = g.G.Guarded.monitor_rules in
-    let C = g.C.CvLayer in
+    let C = g.C.ThreadLayer in
     let opening = C.opening c.args.m.now in
     let e = c.args.call in
     let b = c.args.buffer in
@@ -22,7 +22,7 @@ returns-then-is_some-clause-goes g c =
     let after = after_call monitor_rules opening (C.ActsFor c.args.m.now) (C.cpu_of c.args.part.now) b e
     (slept_for (C.own c.args.part.now).waits (lock_caller (cv_rules monitor_rules) e))
     (C.seen c.args.m.now) seen (C.own c.args.part.now) (C.under_way c.args.part.now) under (record { own = own; answer = c.poll.result })
-    refl c.requires.poll_section c.poll.ensures.seen (λ some. ap C.seen (c.poll.ensures.handed some)) in
+    refl c.requires.poll_section c.poll.ensures.seen (λ some. ap C.seen (c.poll.ensures.still (inr some))) in
     λ same. subst (λ o. MayPollCondSection monitor_rules (lock_kernel (cv_rules monitor_rules) o) (C.cpu_of c.poll.new.self) seen own under b e)
     (sym c.poll.ensures.framed.stays.opening)
     (subst (λ d. MayPollCondSection monitor_rules (lock_kernel (cv_rules monitor_rules) opening) d seen own under b e) (sym c.poll.ensures.framed.cpu)
@@ -32,7 +32,7 @@ returns-then-is_some-clause-goes g c =
 pub returns-in-Some-clause-ended : goal.returns-in-Some-clause-ended
 returns-in-Some-clause-ended g c =
     let monitor_rules = g.G.Guarded.monitor_rules in
-    let C = g.C.CvLayer in
+    let C = g.C.ThreadLayer in
     let e = c.args.call in
     let own = C.own c.poll.new.self in
     let under = C.under_way c.poll.new.self in
@@ -40,14 +40,14 @@ returns-in-Some-clause-ended g c =
     let after = after_call monitor_rules (C.opening c.args.m.now) (C.ActsFor c.args.m.now) (C.cpu_of c.args.part.now) c.args.buffer e
     (slept_for (C.own c.args.part.now).waits (lock_caller (cv_rules monitor_rules) e))
     (C.seen c.args.m.now) seen (C.own c.args.part.now) (C.under_way c.args.part.now) under (record { own = own; answer = c.poll.result })
-    refl c.requires.poll_section c.poll.ensures.seen (λ some. ap C.seen (c.poll.ensures.handed some)) in
+    refl c.requires.poll_section c.poll.ensures.seen (λ some. ap C.seen (c.poll.ensures.still (inr some))) in
     λ outcome same. (ended_after monitor_rules (C.opening c.args.m.now) (C.ActsFor c.args.m.now) (C.cpu_of c.args.part.now) c.args.buffer e seen own under
     c.poll.result c.in-Some.outcome after c.in-Some.is).0
 
 pub returns-in-Some-clause-owns : goal.returns-in-Some-clause-owns
 returns-in-Some-clause-owns g c =
     let monitor_rules = g.G.Guarded.monitor_rules in
-    let C = g.C.CvLayer in
+    let C = g.C.ThreadLayer in
     let e = c.args.call in
     let own = C.own c.poll.new.self in
     let under = C.under_way c.poll.new.self in
@@ -55,7 +55,7 @@ returns-in-Some-clause-owns g c =
     let after = after_call monitor_rules (C.opening c.args.m.now) (C.ActsFor c.args.m.now) (C.cpu_of c.args.part.now) c.args.buffer e
     (slept_for (C.own c.args.part.now).waits (lock_caller (cv_rules monitor_rules) e))
     (C.seen c.args.m.now) seen (C.own c.args.part.now) (C.under_way c.args.part.now) under (record { own = own; answer = c.poll.result })
-    refl c.requires.poll_section c.poll.ensures.seen (λ some. ap C.seen (c.poll.ensures.handed some)) in
+    refl c.requires.poll_section c.poll.ensures.seen (λ some. ap C.seen (c.poll.ensures.still (inr some))) in
     λ outcome same asks.
     subst (λ o. owner_of (cv_rules monitor_rules) (inner o) (buffer_sections seen) (Buffer c.args.buffer) ≡ Some (lock_caller (cv_rules monitor_rules) e))
     (sym c.poll.ensures.framed.stays.opening)
@@ -65,7 +65,7 @@ returns-in-Some-clause-owns g c =
 pub returns-else-is_some-clause-waits : goal.returns-else-is_some-clause-waits
 returns-else-is_some-clause-waits g c =
     let monitor_rules = g.G.Guarded.monitor_rules in
-    let C = g.C.CvLayer in
+    let C = g.C.ThreadLayer in
     let e = c.args.call in
     let own = C.own c.poll.new.self in
     let under = C.under_way c.poll.new.self in
@@ -73,7 +73,7 @@ returns-else-is_some-clause-waits g c =
     let after = after_call monitor_rules (C.opening c.args.m.now) (C.ActsFor c.args.m.now) (C.cpu_of c.args.part.now) c.args.buffer e
     (slept_for (C.own c.args.part.now).waits (lock_caller (cv_rules monitor_rules) e))
     (C.seen c.args.m.now) seen (C.own c.args.part.now) (C.under_way c.args.part.now) under (record { own = own; answer = c.poll.result })
-    refl c.requires.poll_section c.poll.ensures.seen (λ some. ap C.seen (c.poll.ensures.handed some)) in
+    refl c.requires.poll_section c.poll.ensures.seen (λ some. ap C.seen (c.poll.ensures.still (inr some))) in
     λ same other. waits_after monitor_rules (C.opening c.args.m.now) (C.ActsFor c.args.m.now) (C.cpu_of c.args.part.now) c.args.buffer e seen own under
     c.poll.result c.current.result after c.in-None.is c.current.ensures (sym c.is_some.ensures ∙ c.if-is_some.false) other
 

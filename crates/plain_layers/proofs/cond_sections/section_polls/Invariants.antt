@@ -10,17 +10,17 @@ use Rattle.plain_layers.proofs.cond_sections.section_polls.Given as goal
 -- so many polls as section polls of the loop are done, and the last left the call so
 abbrev pub invariant-loop : goal.invariant-loop
 invariant-loop g l = record {
-  fits : g.C.CvLayer.Fits l.part l.m;
-  cpu : g.C.CvLayer.cpu_of l.part ≡ g.C.CvLayer.cpu_of l.fn.part;
-  opening : g.C.CvLayer.opening l.m ≡ g.C.CvLayer.opening l.fn.m;
-  buffer : IsSome (g.C.CvLayer.opening l.m (Buffer l.buffer));
-  room : g.C.CvLayer.room l.fn.m ≤ g.C.CvLayer.room l.m + l.counter;
-  others : (p : _) → g.C.CvLayer.cpu_of p ≢ g.C.CvLayer.cpu_of l.fn.part → g.C.CvLayer.Fits p l.fn.m → g.C.CvLayer.Fits p l.m;
-  goes : l.last ≡ GoesOn → MayPollCondSection g.G.Guarded.monitor_rules (lock_kernel (cv_rules g.G.Guarded.monitor_rules) (g.C.CvLayer.opening l.m))
-      (g.C.CvLayer.cpu_of l.part)
-      (g.C.CvLayer.seen l.m) (g.C.CvLayer.own l.part) (g.C.CvLayer.under_way l.part) l.buffer l.call;
-  waits : l.last ≡ Sleeps → (IsAcquire l.call → ⊥) → WaitsAt g.G.Guarded.monitor_rules (g.C.CvLayer.own l.part) (g.C.CvLayer.under_way l.part)
+  fits : g.C.ThreadLayer.Fits l.part l.m;
+  cpu : g.C.ThreadLayer.cpu_of l.part ≡ g.C.ThreadLayer.cpu_of l.fn.part;
+  opening : g.C.ThreadLayer.opening l.m ≡ g.C.ThreadLayer.opening l.fn.m;
+  buffer : IsSome (g.C.ThreadLayer.opening l.m (Buffer l.buffer));
+  room : g.C.ThreadLayer.room l.fn.m ≤ g.C.ThreadLayer.room l.m + l.counter;
+  others : (p : _) → g.C.ThreadLayer.cpu_of p ≢ g.C.ThreadLayer.cpu_of l.fn.part → g.C.ThreadLayer.Fits p l.fn.m → g.C.ThreadLayer.Fits p l.m;
+  goes : l.last ≡ GoesOn → MayPollCondSection g.G.Guarded.monitor_rules (lock_kernel (cv_rules g.G.Guarded.monitor_rules) (g.C.ThreadLayer.opening l.m))
+      (g.C.ThreadLayer.cpu_of l.part)
+      (g.C.ThreadLayer.seen l.m) (g.C.ThreadLayer.own l.part) (g.C.ThreadLayer.under_way l.part) l.buffer l.call;
+  waits : l.last ≡ Sleeps → (IsAcquire l.call → ⊥) → WaitsAt g.G.Guarded.monitor_rules (g.C.ThreadLayer.own l.part) (g.C.ThreadLayer.under_way l.part)
       (lock_caller (cv_rules g.G.Guarded.monitor_rules) l.call) l.buffer;
-  ended : (outcome : _) → l.last ≡ Answered outcome → CondHasEnded g.G.Guarded.monitor_rules (g.C.CvLayer.own l.part) (g.C.CvLayer.under_way l.part)
+  ended : (outcome : _) → l.last ≡ Answered outcome → CondHasEnded g.G.Guarded.monitor_rules (g.C.ThreadLayer.own l.part) (g.C.ThreadLayer.under_way l.part)
       (lock_caller (cv_rules g.G.Guarded.monitor_rules) l.call);
 }

@@ -13,13 +13,13 @@ use Rattle.plain_layers.proofs.lock_sections.acquires.Goals as goal
 pub section_polls-requires-clause-poll_section : goal.section_polls-requires-clause-poll_section
 section_polls-requires-clause-poll_section g c =
     let lock_rules = g.F.Locked.rules in
-    let Q = g.Q.QLockLayer in
+    let Q = g.Q.ThreadLayer in
     let m = c.args.m.now in
     let part = c.args.part.now in
     let runs : (Q.own part).sleep.threads.current ≡ Some c.args.t = search rules in
     let empty : (Q.own part).sleep.threads.hand ≡ None = search rules in
     let owned : c.in-Some.owner ≢ Some c.args.t = search rules in
-    let shown = g.met.Q.OwnedQLocks.shown m (Q.cpu_of part) c.args.buffer (g.met.Q.QLockLayer.own_cpu part m c.requires.fits) c.requires.buffer in
+    let shown = g.met.Q.OwnedQLocks.shown m (Q.cpu_of part) c.args.buffer (g.met.Q.ThreadLayer.own_cpu part m c.requires.fits) c.requires.buffer in
     let told = owner_told (g.Q.OwnedQLocks.lock_at m c.args.buffer)
     (lock_after lock_rules (inner (Q.opening m)) (Buffer c.args.buffer) (buffer_sections (Q.seen m))) c.in-Some.owner shown.by_machine
     (sym c.owner_in.ensures ∙ c.in-Some.is) in

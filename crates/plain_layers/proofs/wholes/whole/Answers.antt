@@ -7,19 +7,19 @@ use Rattle.plain_layers.proofs.wholes.whole.Goals as goal
 -- one poll did it all
 pub returns-in-Some-clause-done : goal.returns-in-Some-clause-done
 returns-in-Some-clause-done g c =
-    let S = g.S.SleepLayer in
+    let S = g.S.ThreadLayer in
     let part = c.args.part.now in
     let m = c.args.m.now in
     let n = c.poll.new.m in
     let said = c.in-Some.ensures in
-    let known = g.met.S.SleepLayer.known n (S.cpu_of part) (said.framed.stays.acts (S.cpu_of part) (g.met.S.SleepLayer.own_cpu part m c.requires.fits)) in
+    let known = g.met.S.ThreadLayer.known n (S.cpu_of part) (said.framed.stays.acts (S.cpu_of part) (g.met.S.ThreadLayer.own_cpu part m c.requires.fits)) in
     inl (first_answers (asked (sleep_kernel g.E.Sleeps.rules (S.opening m)) (S.cpu_of part) c.args.buffer c.args.edit) (λ d. S.ActsFor m d) c.requires.all
     (S.seen m) (S.seen n) (S.own part) (S.own c.poll.new.self) c.in-Some.outcome c.requires.deferred known said.seen)
 
 -- the second sent the woken thread home
 pub returns-in-None-clause-done : goal.returns-in-None-clause-done
 returns-in-None-clause-done g c =
-    let S = g.S.SleepLayer in
+    let S = g.S.ThreadLayer in
     let part = c.args.part.now in
     let m = c.args.m.now in
     let n = c.poll.new.m in
@@ -28,14 +28,14 @@ returns-in-None-clause-done g c =
     let more = c.poll-in-None.ensures in
     let k = sleep_kernel g.E.Sleeps.rules (S.opening m) in
     let section = asked k (S.cpu_of part) c.args.buffer c.args.edit in
-    let acts = said.framed.stays.acts (S.cpu_of part) (g.met.S.SleepLayer.own_cpu part m c.requires.fits) in
-    let known = g.met.S.SleepLayer.known n (S.cpu_of part) acts in
+    let acts = said.framed.stays.acts (S.cpu_of part) (g.met.S.ThreadLayer.own_cpu part m c.requires.fits) in
+    let known = g.met.S.ThreadLayer.known n (S.cpu_of part) acts in
     let keeps = (said.prompt c.requires.whole refl).after in
     let begun = first_sends section (λ d. S.ActsFor m d) c.requires.all (S.seen m) (S.seen n)
     (S.own part) (S.own p) c.requires.deferred keeps known said.seen in
     let n' = c.poll-in-None.new.m in
     let p' = c.poll-in-None.new.self in
-    let now_known = g.met.S.SleepLayer.known n' (S.cpu_of part) (more.framed.stays.acts (S.cpu_of part) acts) in
+    let now_known = g.met.S.ThreadLayer.known n' (S.cpu_of part) (more.framed.stays.acts (S.cpu_of part) acts) in
     let kernels = subst (λ o. SleepPolled (sleep_kernel g.E.Sleeps.rules o) (λ d. S.ActsFor n d) (S.cpu_of p) c.args.buffer c.args.edit (S.seen n) (S.seen n')
     (S.own p) (record { own = S.own p'; answer = c.poll-in-None.result })) said.framed.stays.opening more.seen in
     let cpus = subst (λ d. SleepPolled k (λ d. S.ActsFor n d) d c.args.buffer c.args.edit (S.seen n) (S.seen n') (S.own p)

@@ -1,4 +1,4 @@
-use Rattle.std.proofs.Common.{◌≡◌, ◌∙◌, ap, arith}
+use Rattle.std.proofs.Common.{◌≡◌, ◌∙◌, ap, arith, inl, inr}
 use Rattle.std.proofs.lemmas.List.{get_or-set_same}
 use Rattle.event_log.specs.declared.ids.LockId.TheVariants.{Buffer}
 use Rattle.layer_traits.specs.declared.moves.WaitList.TheVariants as wait_list
@@ -20,27 +20,24 @@ use Rattle.fifo_buffer.proofs.fifo.Fifo.poll_section.Goals as goal
 
 pub poll-answer-requires-clause-call : goal.poll-answer-requires-clause-call
 poll-answer-requires-clause-call g c =
-    let C = g.C.CvLayer in
-    let law = g.met.C.CvLayer in
+    let C = g.C.ThreadLayer in
+    let law = g.met.C.ThreadLayer in
     let m = c.args.m.now in
     let p = c.args.self.now.lower in
     let cpu = C.cpu_of p in
     let acts = law.own_cpu p m c.requires.fits in
     let home = runs_home (C.opening m) cpu (C.seen m) (C.own p).lock.sleep.threads c.args.t (law.moves_legal m cpu acts)
-    (law.stands p m c.requires.fits) c.requires.may.current in
+    (law.stands p m c.requires.fits).stands c.requires.may.current in
     let edit_is = c.section-edit.ensures ∙ ap (section_at c.args.t c.args.call.now) c.requires.stage in
-    rw (edit_is, c.buffer_in.ensures)
+    rw (edit_is, c.buffer_in-buffer.ensures)
     (may_poll_section (C.opening m) cpu c.args.t home c.args.call.now (going
     (call_state_of c.args.self.now.call_states.call_states c.args.t) c.args.call.now) (C.seen m)
-    (C.own p) (C.under_way p) c.requires.may
-    (lock_caller (cv_rules buffer_monitor_rules) (section_at c.args.t c.args.call.now
-    (going (call_state_of c.args.self.now.call_states.call_states c.args.t) c.args.call.now).stage))
-    (caller_is c.args.t c.args.call.now (going (call_state_of c.args.self.now.call_states.call_states c.args.t) c.args.call.now).stage))
+    (C.own p) (C.under_way p) c.requires.may)
 
 pub returns-clause-section_polled : goal.returns-clause-section_polled
 returns-clause-section_polled g c =
-    let C = g.C.CvLayer in
-    let law = g.met.C.CvLayer in
+    let C = g.C.ThreadLayer in
+    let law = g.met.C.ThreadLayer in
     let m = c.args.m.now in
     let p = c.args.self.now.lower in
     let cpu = C.cpu_of p in
@@ -49,10 +46,11 @@ returns-clause-section_polled g c =
     let call_state = going (call_state_of c.args.self.now.call_states.call_states t) call in
     let acts = law.own_cpu p m c.requires.fits in
     let legal = law.moves_legal m cpu acts in
-    let stands = law.stands p m c.requires.fits in
+    let agree = law.stands p m c.requires.fits in
+    let stands = agree.stands in
     let home = runs_home (C.opening m) cpu (C.seen m) (C.own p).lock.sleep.threads t legal stands c.requires.may.current in
     let awake = runs_awake (C.opening m) cpu (C.seen m) (C.own p).lock.sleep.threads t legal stands c.requires.may.current
-    (law.lists p m c.requires.fits) (Buffer (buffer_of call)) wait_list.Sleepers in
+    agree.lists (Buffer (buffer_of call)) wait_list.Sleepers in
     let lawful = rw c.poll-answer.ensures.framed.stays.opening at (law.lawful c.poll-answer.new.m cpu (c.poll-answer.ensures.framed.stays.acts cpu acts)) in
     let small = c.requires.known in
     let size = c.requires.sizes.call_states_are in
@@ -60,9 +58,8 @@ returns-clause-section_polled g c =
     = ap (λ call_states. call_state_of call_states t) c.record_answer.ensures.call_states ∙ get_or-set_same c.args.self.now.call_states.call_states t.0
     (recorded_if call_state call_state.stage c.poll-answer.result) no_call (omega (arith, small, size)) in
     let edit_is = c.section-edit.ensures ∙ ap (section_at t call) c.requires.stage in
-    let seen = rw (edit_is, c.buffer_in.ensures) at c.poll-answer.ensures.seen in
-    let woken = rw edit_is at c.poll-answer.ensures.woken in
-    let handed = rw edit_is at c.poll-answer.ensures.handed in
+    let seen = rw (edit_is, c.buffer_in-buffer.ensures) at c.poll-answer.ensures.seen in
+    let still = rw edit_is at c.poll-answer.ensures.still in
     let caller : Caller = record {
       opening = C.opening m;
       ActsFor = λ d. C.ActsFor m d;
@@ -81,12 +78,13 @@ returns-clause-section_polled g c =
     let poll_section = polled_section caller (C.seen c.poll-answer.new.m) call_state (C.under_way p) (C.under_way c.poll-answer.new.self) c.requires.may.called
     c.requires.may.goes
     lawful awake (lock_caller (cv_rules buffer_monitor_rules) (section_at t call call_state.stage)) (caller_is t call call_state.stage)
-    (record { own = C.own c.poll-answer.new.self; answer = c.poll-answer.result }) seen (λ some. ap C.seen (woken some)) (λ some. ap C.seen (handed some)) in
+    (record { own = C.own c.poll-answer.new.self; answer = c.poll-answer.result }) seen (λ some. ap C.seen (still (inl some)))
+    (λ some. ap C.seen (still (inr some))) in
     rw (c.record_answer.ensures.done, later) poll_section
 
 pub returns-clause-follows : goal.returns-clause-follows
 returns-clause-follows g c stepwise =
-    let C = g.C.CvLayer in
+    let C = g.C.ThreadLayer in
     let m = c.args.m.now in
     let p = c.args.self.now.lower in
     let cpu = C.cpu_of p in
@@ -95,7 +93,7 @@ returns-clause-follows g c stepwise =
     let call_state = going (call_state_of c.args.self.now.call_states.call_states t) call in
     let call_states = c.args.self.now.call_states.call_states in
     let edit_is = c.section-edit.ensures ∙ ap (section_at t call) c.requires.stage in
-    let follows = rw (edit_is, c.buffer_in.ensures) at (c.poll-answer.ensures.follows stepwise) in
+    let follows = rw (edit_is, c.buffer_in-buffer.ensures) at (c.poll-answer.ensures.follows stepwise) in
     rw (← recorded_left t call call_state call_states c.record_answer.new.self.call_states call_state.stage
     (C.own c.poll-answer.new.self) c.poll-answer.result c.record_answer.result
     c.record_answer.ensures.done c.record_answer.ensures.call_states)

@@ -5,7 +5,7 @@ use Rattle.fifo_buffer.proofs.fifo.FifoBufferLayer.look.Goals as goal
 
 pub returns-clause-seen : goal.returns-clause-seen
 returns-clause-seen g c =
-    let C = g.C.CvLayer in
+    let C = g.C.ThreadLayer in
     let m = c.args.m.now in
     let grown = c.look.ensures.seen in
     rw c.look.ensures.framed.stays.opening
@@ -13,7 +13,7 @@ returns-clause-seen g c =
 
 pub returns-clause-moves : goal.returns-clause-moves
 returns-clause-moves g c =
-    let C = g.C.CvLayer in
+    let C = g.C.ThreadLayer in
     let m = c.args.m.now in
     let grown = c.look.ensures.seen in
     rw c.look.ensures.framed.stays.opening
@@ -22,8 +22,8 @@ returns-clause-moves g c =
 
 pub returns-clause-framed : goal.returns-clause-framed
 returns-clause-framed g c =
-    let C = g.C.CvLayer in
-    let law = g.met.C.CvLayer in
+    let C = g.C.ThreadLayer in
+    let law = g.met.C.ThreadLayer in
     let m = c.args.m.now in
     let p = c.args.self.now in
     let cpu = C.cpu_of p.lower in

@@ -7,22 +7,22 @@ use Rattle.fifo_buffer.proofs.fifo.FifoBufferLayer.pass.Goals as goal
 
 pub returns-clause-seen : goal.returns-clause-seen
 returns-clause-seen g c =
-    let C = g.C.CvLayer in
+    let C = g.C.ThreadLayer in
     let m = c.args.m.now in
     rw c.pass.ensures.framed.stays.opening
     (pass_seen (pass_done (C.opening m) c.args.call c.pass.result c.pass.ensures.seen) _ (λ d both. both.0))
 
 pub returns-clause-passed : goal.returns-clause-passed
 returns-clause-passed g c =
-    let C = g.C.CvLayer in
+    let C = g.C.ThreadLayer in
     let m = c.args.m.now in
     rw c.pass.ensures.framed.stays.opening
     (pass_moved (pass_done (C.opening m) c.args.call c.pass.result c.pass.ensures.seen) _ (λ d both. both.0))
 
 pub returns-clause-framed : goal.returns-clause-framed
 returns-clause-framed g c =
-    let C = g.C.CvLayer in
-    let law = g.met.C.CvLayer in
+    let C = g.C.ThreadLayer in
+    let law = g.met.C.ThreadLayer in
     let m = c.args.m.now in
     let p = c.args.self.now in
     let cpu = C.cpu_of p.lower in
@@ -42,7 +42,7 @@ returns-clause-framed g c =
         rw (c.pass.ensures.framed.stays.opening, c.pass.ensures.framed.cpu, c.pass.ensures.call)
             (passed_own (C.opening m) cpu (C.seen c.pass.new.m) (C.own p.lower) (C.own c.pass.new.self) p.call_states.call_states
             (C.under_way p.lower) p.calling c.args.call (is_some c.pass.result)
-            c.requires.goes_on c.pass.ensures.deferred c.pass.ensures.slept c.pass.ensures.waits on),
+            c.requires.goes_on c.pass.ensures.rest on),
       );
       cpu = c.pass.ensures.framed.cpu;
       stays = record {

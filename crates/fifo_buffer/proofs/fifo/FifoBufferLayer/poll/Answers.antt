@@ -27,17 +27,17 @@ use Rattle.fifo_buffer.proofs.fifo.FifoBufferLayer.poll.Goals as goal
 
 pub poll_section-done-requires-clause-buffer : goal.poll_section-done-requires-clause-buffer
 poll_section-done-requires-clause-buffer g c =
-    block_there (g.C.CvLayer.opening c.args.m.now) c.requires.fits.1.boots (buffer_of c.args.call.now) c.requires.buffer
+    block_there (g.C.ThreadLayer.opening c.args.m.now) c.requires.fits.1.boots (buffer_of c.args.call.now) c.requires.buffer
 
 pub poll_section-last-requires-clause-buffer : goal.poll_section-last-requires-clause-buffer
 poll_section-last-requires-clause-buffer g c =
-    rw c.poll_section-done.ensures.framed.stays.opening (block_there (g.C.CvLayer.opening c.args.m.now) c.requires.fits.1.boots
+    rw c.poll_section-done.ensures.framed.stays.opening (block_there (g.C.ThreadLayer.opening c.args.m.now) c.requires.fits.1.boots
     (buffer_of c.args.call.now) c.requires.buffer)
 
 pub poll_section-done-requires-clause-may : goal.poll_section-done-requires-clause-may
 poll_section-done-requires-clause-may g c =
-    let C = g.C.CvLayer in
-    let law = g.met.C.CvLayer in
+    let C = g.C.ThreadLayer in
+    let law = g.met.C.ThreadLayer in
     let m = c.args.m.now in
     let p = c.args.self.now in
     let cpu = C.cpu_of p.lower in
@@ -49,7 +49,7 @@ poll_section-done-requires-clause-may g c =
     let homes = homes_in (C.opening m) in
     let acts = law.own_cpu p.lower m c.requires.fits.0 in
     let home = runs_home (C.opening m) cpu (C.seen m) own.lock.sleep.threads t (law.moves_legal m cpu acts)
-    (law.stands p.lower m c.requires.fits.0) c.requires.runs in
+    (law.stands p.lower m c.requires.fits.0).stands c.requires.runs in
     let first = first_may homes cpu O (buffer_sections (C.seen m)) own call_states (C.under_way p.lower) p.calling t call home c.requires.fits.1.calls
     c.requires.runs c.requires.hand c.requires.same c.requires.goes_on in
     let may = first.0 in
@@ -57,8 +57,8 @@ poll_section-done-requires-clause-may g c =
 
 pub poll_section-last-requires-clause-may : goal.poll_section-last-requires-clause-may
 poll_section-last-requires-clause-may g c =
-    let C = g.C.CvLayer in
-    let law = g.met.C.CvLayer in
+    let C = g.C.ThreadLayer in
+    let law = g.met.C.ThreadLayer in
     let m = c.args.m.now in
     let p = c.args.self.now in
     let cpu = C.cpu_of p.lower in
@@ -70,7 +70,7 @@ poll_section-last-requires-clause-may g c =
     let homes = homes_in (C.opening m) in
     let acts = law.own_cpu p.lower m c.requires.fits.0 in
     let home = runs_home (C.opening m) cpu (C.seen m) own.lock.sleep.threads t (law.moves_legal m cpu acts)
-    (law.stands p.lower m c.requires.fits.0) c.requires.runs in
+    (law.stands p.lower m c.requires.fits.0).stands c.requires.runs in
     let first = first_may homes cpu O (buffer_sections (C.seen m)) own call_states (C.under_way p.lower) p.calling t call home c.requires.fits.1.calls
     c.requires.runs c.requires.hand c.requires.same c.requires.goes_on in
     let may = first.0 in
@@ -105,7 +105,7 @@ returns-clause-under_way g c =
 
 pub returns-clause-moves : goal.returns-clause-moves
 returns-clause-moves g c =
-    let C = g.C.CvLayer in
+    let C = g.C.ThreadLayer in
     let m = c.args.m.now in
     let p = c.args.self.now in
     let cpu = C.cpu_of p.lower in
@@ -118,8 +118,8 @@ returns-clause-moves g c =
 
 pub returns-clause-framed : goal.returns-clause-framed
 returns-clause-framed g c =
-    let C = g.C.CvLayer in
-    let law = g.met.C.CvLayer in
+    let C = g.C.ThreadLayer in
+    let law = g.met.C.ThreadLayer in
     let m = c.args.m.now in
     let p = c.args.self.now in
     let cpu = C.cpu_of p.lower in
@@ -131,7 +131,7 @@ returns-clause-framed g c =
     let homes = homes_in (C.opening m) in
     let acts = law.own_cpu p.lower m c.requires.fits.0 in
     let home = runs_home (C.opening m) cpu (C.seen m) own.lock.sleep.threads t (law.moves_legal m cpu acts)
-    (law.stands p.lower m c.requires.fits.0) c.requires.runs in
+    (law.stands p.lower m c.requires.fits.0).stands c.requires.runs in
     let first = first_may homes cpu O (buffer_sections (C.seen m)) own call_states (C.under_way p.lower) p.calling t call home c.requires.fits.1.calls
     c.requires.runs c.requires.hand c.requires.same c.requires.goes_on in
     let may = first.0 in
@@ -179,8 +179,8 @@ returns-clause-framed g c =
 
 pub returns-clause-called : goal.returns-clause-called
 returns-clause-called g c =
-    let C = g.C.CvLayer in
-    let law = g.met.C.CvLayer in
+    let C = g.C.ThreadLayer in
+    let law = g.met.C.ThreadLayer in
     let m = c.args.m.now in
     let p = c.args.self.now in
     let cpu = C.cpu_of p.lower in
@@ -192,7 +192,7 @@ returns-clause-called g c =
     let homes = homes_in (C.opening m) in
     let acts = law.own_cpu p.lower m c.requires.fits.0 in
     let home = runs_home (C.opening m) cpu (C.seen m) own.lock.sleep.threads t (law.moves_legal m cpu acts)
-    (law.stands p.lower m c.requires.fits.0) c.requires.runs in
+    (law.stands p.lower m c.requires.fits.0).stands c.requires.runs in
     let first = first_may homes cpu O (buffer_sections (C.seen m)) own call_states (C.under_way p.lower) p.calling t call home c.requires.fits.1.calls
     c.requires.runs c.requires.hand c.requires.same c.requires.goes_on in
     let call_state = going (call_state_of call_states t) call in
@@ -233,8 +233,8 @@ returns-then-at_once-clause-under_way g c =
 
 pub returns-then-at_once-clause-moves : goal.returns-then-at_once-clause-moves
 returns-then-at_once-clause-moves g c =
-    let C = g.C.CvLayer in
-    let law = g.met.C.CvLayer in
+    let C = g.C.ThreadLayer in
+    let law = g.met.C.ThreadLayer in
     let m = c.args.m.now in
     let p = c.args.self.now in
     let cpu = C.cpu_of p.lower in
@@ -246,7 +246,7 @@ returns-then-at_once-clause-moves g c =
     let homes = homes_in (C.opening m) in
     let acts = law.own_cpu p.lower m c.requires.fits.0 in
     let home = runs_home (C.opening m) cpu (C.seen m) own.lock.sleep.threads t (law.moves_legal m cpu acts)
-    (law.stands p.lower m c.requires.fits.0) c.requires.runs in
+    (law.stands p.lower m c.requires.fits.0).stands c.requires.runs in
     let first = first_may homes cpu O (buffer_sections (C.seen m)) own call_states (C.under_way p.lower) p.calling t call home c.requires.fits.1.calls
     c.requires.runs c.requires.hand c.requires.same c.requires.goes_on in
     let may = first.0 in
@@ -268,8 +268,8 @@ returns-then-at_once-clause-moves g c =
 
 pub returns-then-at_once-clause-framed : goal.returns-then-at_once-clause-framed
 returns-then-at_once-clause-framed g c =
-    let C = g.C.CvLayer in
-    let law = g.met.C.CvLayer in
+    let C = g.C.ThreadLayer in
+    let law = g.met.C.ThreadLayer in
     let m = c.args.m.now in
     let p = c.args.self.now in
     let cpu = C.cpu_of p.lower in
@@ -281,7 +281,7 @@ returns-then-at_once-clause-framed g c =
     let homes = homes_in (C.opening m) in
     let acts = law.own_cpu p.lower m c.requires.fits.0 in
     let home = runs_home (C.opening m) cpu (C.seen m) own.lock.sleep.threads t (law.moves_legal m cpu acts)
-    (law.stands p.lower m c.requires.fits.0) c.requires.runs in
+    (law.stands p.lower m c.requires.fits.0).stands c.requires.runs in
     let first = first_may homes cpu O (buffer_sections (C.seen m)) own call_states (C.under_way p.lower) p.calling t call home c.requires.fits.1.calls
     c.requires.runs c.requires.hand c.requires.same c.requires.goes_on in
     let may = first.0 in
@@ -356,8 +356,8 @@ returns-then-at_once-clause-framed g c =
 
 pub returns-then-at_once-clause-called : goal.returns-then-at_once-clause-called
 returns-then-at_once-clause-called g c =
-    let C = g.C.CvLayer in
-    let law = g.met.C.CvLayer in
+    let C = g.C.ThreadLayer in
+    let law = g.met.C.ThreadLayer in
     let m = c.args.m.now in
     let p = c.args.self.now in
     let cpu = C.cpu_of p.lower in
@@ -369,7 +369,7 @@ returns-then-at_once-clause-called g c =
     let homes = homes_in (C.opening m) in
     let acts = law.own_cpu p.lower m c.requires.fits.0 in
     let home = runs_home (C.opening m) cpu (C.seen m) own.lock.sleep.threads t (law.moves_legal m cpu acts)
-    (law.stands p.lower m c.requires.fits.0) c.requires.runs in
+    (law.stands p.lower m c.requires.fits.0).stands c.requires.runs in
     let first = first_may homes cpu O (buffer_sections (C.seen m)) own call_states (C.under_way p.lower) p.calling t call home c.requires.fits.1.calls
     c.requires.runs c.requires.hand c.requires.same c.requires.goes_on in
     let may = first.0 in
@@ -414,8 +414,8 @@ returns-then-at_once-clause-called g c =
 
 pub returns-clause-follows : goal.returns-clause-follows
 returns-clause-follows g c stepwise =
-    let C = g.C.CvLayer in
-    let law = g.met.C.CvLayer in
+    let C = g.C.ThreadLayer in
+    let law = g.met.C.ThreadLayer in
     let m = c.args.m.now in
     let p = c.args.self.now in
     let cpu = C.cpu_of p.lower in
@@ -427,7 +427,7 @@ returns-clause-follows g c stepwise =
     let homes = homes_in (C.opening m) in
     let acts = law.own_cpu p.lower m c.requires.fits.0 in
     let home = runs_home (C.opening m) cpu (C.seen m) own.lock.sleep.threads t (law.moves_legal m cpu acts)
-    (law.stands p.lower m c.requires.fits.0) c.requires.runs in
+    (law.stands p.lower m c.requires.fits.0).stands c.requires.runs in
     let first = first_may homes cpu O (buffer_sections (C.seen m)) own call_states (C.under_way p.lower) p.calling t call home c.requires.fits.1.calls
     c.requires.runs c.requires.hand c.requires.same c.requires.goes_on in
     let call_state = going (call_state_of call_states t) call in
@@ -458,8 +458,8 @@ returns-clause-follows g c stepwise =
 
 pub returns-then-at_once-clause-follows : goal.returns-then-at_once-clause-follows
 returns-then-at_once-clause-follows g c stepwise =
-    let C = g.C.CvLayer in
-    let law = g.met.C.CvLayer in
+    let C = g.C.ThreadLayer in
+    let law = g.met.C.ThreadLayer in
     let m = c.args.m.now in
     let p = c.args.self.now in
     let cpu = C.cpu_of p.lower in
@@ -471,7 +471,7 @@ returns-then-at_once-clause-follows g c stepwise =
     let homes = homes_in (C.opening m) in
     let acts = law.own_cpu p.lower m c.requires.fits.0 in
     let home = runs_home (C.opening m) cpu (C.seen m) own.lock.sleep.threads t (law.moves_legal m cpu acts)
-    (law.stands p.lower m c.requires.fits.0) c.requires.runs in
+    (law.stands p.lower m c.requires.fits.0).stands c.requires.runs in
     let first = first_may homes cpu O (buffer_sections (C.seen m)) own call_states (C.under_way p.lower) p.calling t call home c.requires.fits.1.calls
     c.requires.runs c.requires.hand c.requires.same c.requires.goes_on in
     let call_state = going (call_state_of call_states t) call in

@@ -13,10 +13,13 @@ use Rattle.plain_layers.proofs.fifos.PlainFifoBufferLayer.part.Goals as goal
 
 pub returns-clause-fits : goal.returns-clause-fits
 returns-clause-fits g c = λ m acts outside seen still homes pending boots.
-    let S = g.S.SleepLayer in (
-      c.part.ensures.fits m acts.0 outside (no_events (sleep_kernel attempts (S.opening m)) (S.seen m) still)
-          (sym (homes_viewed shown (S.opening m)) ∙ homes)
-          (there_viewed shown (S.opening m) (Pending c.args.cpu) pending) (nobody_waits _ acts.2.fresh),
+    let S = g.S.ThreadLayer in (
+      c.part.ensures.fits m acts.0 outside (
+        no_events (sleep_kernel attempts (S.opening m)) (S.seen m) still,
+        sym (homes_viewed shown (S.opening m)) ∙ homes,
+        there_viewed shown (S.opening m) (Pending c.args.cpu) pending,
+        nobody_waits _ acts.2.fresh,
+      ),
       acts.1,
       acts.2,
       record {

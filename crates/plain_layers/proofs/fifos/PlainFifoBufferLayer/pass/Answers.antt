@@ -17,7 +17,7 @@ half_of_one n k less = omega (arith, less)
 
 pub returns-clause-framed : goal.returns-clause-framed
 returns-clause-framed g c =
-    let S = g.S.SleepLayer in
+    let S = g.S.ThreadLayer in
     let m = c.args.m.now in
     let n = c.pass.new.m in
     let fits = c.requires.fits in
@@ -29,7 +29,7 @@ returns-clause-framed g c =
         owned_after (λ e. S.ActsFor m e) (λ e. S.ActsFor n e) (S.opening m) (S.opening n) said.framed.stays.opening said.framed.stays.acts fits.2,
         record {
           none = nothing_under c.pass.result (S.under_way c.pass.new.self) _ (said.prompt fits.1) said.call;
-          deferred = said.deferred ∙ fits.3.deferred;
+          deferred = said.rest ∙ fits.3.deferred;
           waits = fits.3.waits;
           slots = fits.3.slots;
         },
@@ -56,14 +56,14 @@ returns-clause-framed g c =
 
 pub returns-clause-seen : goal.returns-clause-seen
 returns-clause-seen g c =
-    let S = g.S.SleepLayer in
+    let S = g.S.ThreadLayer in
     let m = c.args.m.now in
     let n = c.pass.new.m in
     let lower = c.args.self.now.lower in
     let fits = c.requires.fits in
     let said = c.pass.ensures in
     let Acts = λ (d : CpuId). S.ActsFor m d × S.IsWhole × IsOwned (λ e. S.ActsFor m e) (inner (S.opening m)) in
-    let known = g.met.S.SleepLayer.known n (S.cpu_of lower) (said.framed.stays.acts (S.cpu_of lower) (g.met.S.SleepLayer.own_cpu lower m fits.0)) in
+    let known = g.met.S.ThreadLayer.known n (S.cpu_of lower) (said.framed.stays.acts (S.cpu_of lower) (g.met.S.ThreadLayer.own_cpu lower m fits.0)) in
     subst (λ o. OthersSeen Acts (entries_in (inner (S.opening m)) (buffer_sections (S.seen m))) (entries_in (inner o) (buffer_sections (S.seen n))))
     (sym said.framed.stays.opening)
     (passed_seen (S.opening m) (λ d. S.ActsFor m d) (S.cpu_of lower) c.args.call c.pass.result (S.seen m) (S.seen n)
@@ -71,14 +71,14 @@ returns-clause-seen g c =
 
 pub returns-clause-passed : goal.returns-clause-passed
 returns-clause-passed g c =
-    let S = g.S.SleepLayer in
+    let S = g.S.ThreadLayer in
     let m = c.args.m.now in
     let n = c.pass.new.m in
     let lower = c.args.self.now.lower in
     let fits = c.requires.fits in
     let said = c.pass.ensures in
     let Acts = λ (d : CpuId). S.ActsFor m d × S.IsWhole × IsOwned (λ e. S.ActsFor m e) (inner (S.opening m)) in
-    let known = g.met.S.SleepLayer.known n (S.cpu_of lower) (said.framed.stays.acts (S.cpu_of lower) (g.met.S.SleepLayer.own_cpu lower m fits.0)) in
+    let known = g.met.S.ThreadLayer.known n (S.cpu_of lower) (said.framed.stays.acts (S.cpu_of lower) (g.met.S.ThreadLayer.own_cpu lower m fits.0)) in
     subst₂ (λ h o. PassPolled h Acts (S.cpu_of lower) c.args.call c.pass.result (moves_in (sleep_kernel attempts (S.opening m)) (S.seen m))
     (moves_in (sleep_kernel attempts o) (S.seen n)) (S.own lower).threads (S.own c.pass.new.self).threads)
     (sym (homes_viewed shown (S.opening m))) (sym said.framed.stays.opening)

@@ -22,7 +22,7 @@ half_of_two n k less = omega (arith, less)
 
 pub whole-outcome-requires-clause-buffer : goal.whole-outcome-requires-clause-buffer
 whole-outcome-requires-clause-buffer g c =
-    let S = g.S.SleepLayer in
+    let S = g.S.ThreadLayer in
     let m = c.args.m.now in
     let fits = c.requires.fits in
     buffer_there (S.opening m) c.buffer_in.result fits.2.fresh
@@ -30,15 +30,15 @@ whole-outcome-requires-clause-buffer g c =
 
 pub bounds-self-from : goal.bounds-self-from
 bounds-self-from g c =
-    let S = g.S.SleepLayer in
+    let S = g.S.ThreadLayer in
     let m = c.args.m.now in
     let n = c.whole-outcome.new.m in
     let lower = c.args.self.now.lower in
     let fits = c.requires.fits in
     let said = c.whole-outcome.ensures in
     let small = runs_small (homes_in (S.opening m)) (S.cpu_of lower) (moves_in (sleep_kernel attempts (S.opening m)) (S.seen m)) (S.own lower).threads
-    (g.met.S.SleepLayer.moves_legal m (S.cpu_of lower) (g.met.S.SleepLayer.own_cpu lower m fits.0)) (g.met.S.SleepLayer.stands lower m fits.0)
-    (g.met.S.SleepLayer.opens m (S.cpu_of lower) (g.met.S.SleepLayer.own_cpu lower m fits.0)).room c.args.t c.requires.runs in
+    (g.met.S.ThreadLayer.moves_legal m (S.cpu_of lower) (g.met.S.ThreadLayer.own_cpu lower m fits.0)) (g.met.S.ThreadLayer.stands lower m fits.0).stands
+    (g.met.S.ThreadLayer.opens m (S.cpu_of lower) (g.met.S.ThreadLayer.own_cpu lower m fits.0)).room c.args.t c.requires.runs in
     subst (λ k. k < THREADS) (sym c.from.ensures) small
 
 pub listed : goal.listed
@@ -46,7 +46,7 @@ listed g c = subst (λ n. c.from.result < n) (sym c.requires.fits.3.slots) (boun
 
 pub returns-clause-called : goal.returns-clause-called
 returns-clause-called g c =
-    let S = g.S.SleepLayer in
+    let S = g.S.ThreadLayer in
     let m = c.args.m.now in
     let n = c.whole-outcome.new.m in
     let lower = c.args.self.now.lower in
@@ -54,8 +54,8 @@ returns-clause-called g c =
     let said = c.whole-outcome.ensures in
     let Acts = λ (d : CpuId). S.ActsFor m d × S.IsWhole × IsOwned (λ e. S.ActsFor m e) (inner (S.opening m)) in
     let small = runs_small (homes_in (S.opening m)) (S.cpu_of lower) (moves_in (sleep_kernel attempts (S.opening m)) (S.seen m)) (S.own lower).threads
-    (g.met.S.SleepLayer.moves_legal m (S.cpu_of lower) (g.met.S.SleepLayer.own_cpu lower m fits.0)) (g.met.S.SleepLayer.stands lower m fits.0)
-    (g.met.S.SleepLayer.opens m (S.cpu_of lower) (g.met.S.SleepLayer.own_cpu lower m fits.0)).room c.args.t c.requires.runs in
+    (g.met.S.ThreadLayer.moves_legal m (S.cpu_of lower) (g.met.S.ThreadLayer.own_cpu lower m fits.0)) (g.met.S.ThreadLayer.stands lower m fits.0).stands
+    (g.met.S.ThreadLayer.opens m (S.cpu_of lower) (g.met.S.ThreadLayer.own_cpu lower m fits.0)).room c.args.t c.requires.runs in
     let after : c.next.result ≡ call_state_after c.args.call.now (effect_in c.whole-outcome.result.out)
     = subst (λ (f : Option Effect). c.next.result ≡ call_state_after c.args.call.now f) c.effect-effect.ensures c.next.ensures in
     let set : slice_set c.args.self.now.call_states c.from.result c.next.result
@@ -72,7 +72,7 @@ returns-clause-called g c =
 
 pub returns-clause-moves : goal.returns-clause-moves
 returns-clause-moves g c =
-    let S = g.S.SleepLayer in
+    let S = g.S.ThreadLayer in
     let m = c.args.m.now in
     let n = c.whole-outcome.new.m in
     let lower = c.args.self.now.lower in
@@ -85,15 +85,15 @@ returns-clause-moves g c =
 
 pub returns-clause-framed : goal.returns-clause-framed
 returns-clause-framed g c =
-    let S = g.S.SleepLayer in
+    let S = g.S.ThreadLayer in
     let m = c.args.m.now in
     let n = c.whole-outcome.new.m in
     let lower = c.args.self.now.lower in
     let fits = c.requires.fits in
     let said = c.whole-outcome.ensures in
     let small = runs_small (homes_in (S.opening m)) (S.cpu_of lower) (moves_in (sleep_kernel attempts (S.opening m)) (S.seen m)) (S.own lower).threads
-    (g.met.S.SleepLayer.moves_legal m (S.cpu_of lower) (g.met.S.SleepLayer.own_cpu lower m fits.0)) (g.met.S.SleepLayer.stands lower m fits.0)
-    (g.met.S.SleepLayer.opens m (S.cpu_of lower) (g.met.S.SleepLayer.own_cpu lower m fits.0)).room c.args.t c.requires.runs in
+    (g.met.S.ThreadLayer.moves_legal m (S.cpu_of lower) (g.met.S.ThreadLayer.own_cpu lower m fits.0)) (g.met.S.ThreadLayer.stands lower m fits.0).stands
+    (g.met.S.ThreadLayer.opens m (S.cpu_of lower) (g.met.S.ThreadLayer.own_cpu lower m fits.0)).room c.args.t c.requires.runs in
     let after : c.next.result ≡ call_state_after c.args.call.now (effect_in c.whole-outcome.result.out)
     = subst (λ (f : Option Effect). c.next.result ≡ call_state_after c.args.call.now f) c.effect-effect.ensures c.next.ensures in
     let set : slice_set c.args.self.now.call_states c.from.result c.next.result
@@ -132,7 +132,7 @@ returns-clause-framed g c =
 
 pub returns-clause-prompt : goal.returns-clause-prompt
 returns-clause-prompt g c = λ whole none.
-    let S = g.S.SleepLayer in
+    let S = g.S.ThreadLayer in
     let m = c.args.m.now in
     let n = c.whole-outcome.new.m in
     let lower = c.args.self.now.lower in

@@ -5,4 +5,4 @@ use Rattle.plain_layers.proofs.fifos.PlainFifoOwnedBuffers.wait_list_in.Goals as
 pub wait_list_in-requires-clause-buffer : goal.wait_list_in-requires-clause-buffer
 wait_list_in-requires-clause-buffer g c =
     let acts = c.requires.acts in
-    buffer_there (g.S.SleepLayer.opening c.args.m.now) acts.1.2.fresh c.args.b c.requires.buffer
+    buffer_there (g.S.ThreadLayer.opening c.args.m.now) acts.1.2.fresh c.args.b c.requires.buffer

@@ -12,7 +12,7 @@ use Rattle.plain_layers.proofs.ipcs.PlainFifoOpensBuffers.open.Goals as goal
 -- the machine has the capacities and homes of the plan, and nothing was done in it
 pub returns-clause-opened : goal.returns-clause-opened
 returns-clause-opened g c =
-    let S = g.S.SleepLayer in
+    let S = g.S.ThreadLayer in
     let r = c.open.result in
     let opens = c.open.ensures in
     let caps = c.args.caps.now in
@@ -34,7 +34,7 @@ returns-clause-opened g c =
 -- its locks are those of the capacities that it tells
 pub returns-clause-boot : goal.returns-clause-boot
 returns-clause-boot g c =
-    let S = g.S.SleepLayer in
+    let S = g.S.ThreadLayer in
     let caps = c.args.caps.now in
     let most = c.requires.buffers in
     let few : length caps ≤ 256 = omega (arith, most) in
@@ -44,7 +44,7 @@ returns-clause-boot g c =
 -- and each CPU may act on it
 pub returns-clause-acts : goal.returns-clause-acts
 returns-clause-acts g c =
-    let S = g.S.SleepLayer in
+    let S = g.S.ThreadLayer in
     let r = c.open.result in
     let caps = c.args.caps.now in
     let most = c.requires.buffers in

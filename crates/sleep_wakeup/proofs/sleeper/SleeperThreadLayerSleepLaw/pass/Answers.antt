@@ -1,5 +1,5 @@
 use Rattle.sleep_wakeup.proofs.PollLemmas.{nested_pass_follows, nested_passed}
-use Rattle.sleep_wakeup.proofs.sleeper.SleeperSleepLayer.pass.Goals as goal
+use Rattle.sleep_wakeup.proofs.sleeper.SleeperThreadLayerSleepLaw.pass.Goals as goal
 
 pub returns-clause-seen : goal.returns-clause-seen
 returns-clause-seen g c =

@@ -18,12 +18,12 @@ use Rattle.layer_traits.proofs.FrameLemmas.{viewed_stays}
 use Rattle.queuing_lock.proofs.DeferredLemmas.{deferred_passed}
 use Rattle.queuing_lock.proofs.PartLemmas.{locks_pass_follow, pass_here, pass_is}
 use Rattle.queuing_lock.proofs.PollLemmas.{slept_passed}
-use Rattle.queuing_lock.proofs.qlock.QLockQLockLayer.pass.Goals as goal
+use Rattle.queuing_lock.proofs.qlock.QLockThreadLayerQLockLaw.pass.Goals as goal
 
 pub returns-clause-framed : goal.returns-clause-framed
 returns-clause-framed g c =
-    let S = g.S.SleepLayer in
-    let met = g.met.S.SleepLayer in
+    let S = g.S.ThreadLayer in
+    let met = g.met.S.ThreadLayer in
     let rules = g.F.Locked.rules in
     let self = c.args.self.now in
     let m = c.args.m.now in
@@ -45,7 +45,7 @@ returns-clause-framed g c =
             (pass_here rules (S.opening m) (λ d. S.ActsFor m d) cpu c.args.call (done_if c.pass.result) (S.seen m) (S.seen n) (S.own self.lower).threads
             (S.own part).threads said.seen)
             (locks_lawful rules (S.opening m) (S.seen n) lawful) self.slept.buffers c.requires.fits.1),
-        transport (λ i. DeferredFits (sym (pass_is (S.under_way part) c.pass.result c.args.call said.call) i) (sym said.deferred i) (S.own part).threads.hand)
+        transport (λ i. DeferredFits (sym (pass_is (S.under_way part) c.pass.result c.args.call said.call) i) (sym said.rest i) (S.own part).threads.hand)
             (deferred_passed (option_map (renamed_sched edit_in) (S.under_way self.lower)) (S.own self.lower).deferred (S.own self.lower).threads.hand
             (S.own part).threads.hand c.args.call
             (MayPass c.args.call (S.own self.lower).threads) (is_some c.pass.result) c.requires.fits.2 c.requires.call),
@@ -68,7 +68,7 @@ returns-clause-framed g c =
 
 pub returns-clause-seen : goal.returns-clause-seen
 returns-clause-seen g c =
-    let S = g.S.SleepLayer in
+    let S = g.S.ThreadLayer in
     let self = c.args.self.now in
     let m = c.args.m.now in
     let part = c.pass.new.self in
@@ -77,7 +77,7 @@ returns-clause-seen g c =
 
 pub returns-clause-follows : goal.returns-clause-follows
 returns-clause-follows g c = λ step.
-    let S = g.S.SleepLayer in
+    let S = g.S.ThreadLayer in
     let self = c.args.self.now in
     let m = c.args.m.now in
     let part = c.pass.new.self in

@@ -4,18 +4,18 @@ use Rattle.layer_traits.proofs.KernelRenaming.{homes_viewed, there_viewed}
 use Rattle.sleep_wakeup.specs.Nested.{state_of}
 use Rattle.sleep_wakeup.specs.NestedLaws.{nothing_seen}
 use Rattle.sleep_wakeup.proofs.PollLemmas.{fresh_deferred, nobody_beneath}
-use Rattle.sleep_wakeup.proofs.sleeper.SleeperSleepLayer.part.Goals as goal
+use Rattle.sleep_wakeup.proofs.sleeper.SleeperThreadLayerSleepLaw.part.Goals as goal
 
 pub returns-clause-fits : goal.returns-clause-fits
-returns-clause-fits g c = λ m acts outside none homes queue nobody.
+returns-clause-fits g c = λ m acts outside boots.
     let S = g.S.Layer in
     let part = c.part.result in (
       c.part.ensures.fits m acts outside (
-        nothing_seen (S.seen m) none,
-        sym (homes_viewed state_of (S.opening m)) ∙ homes,
-        there_viewed state_of (S.opening m) (Pending c.args.cpu) queue,
+        nothing_seen (S.seen m) boots.0,
+        sym (homes_viewed state_of (S.opening m)) ∙ boots.1,
+        there_viewed state_of (S.opening m) (Pending c.args.cpu) boots.2,
       ),
-      nobody_beneath (S.opening m) nobody,
+      nobody_beneath (S.opening m) boots.3,
       fresh_deferred g.row.E-Out.Denot (S.under_way part) (S.own part).hand c.part.ensures.call,
       tt,
     )

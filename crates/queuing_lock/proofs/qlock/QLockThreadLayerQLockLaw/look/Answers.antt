@@ -14,12 +14,12 @@ use Rattle.layer_traits.proofs.KernelRenaming.{grows_renamed}
 use Rattle.layer_traits.proofs.LookLemmas.{tries_renamed}
 use Rattle.layer_traits.proofs.FrameLemmas.{viewed_stays}
 use Rattle.queuing_lock.proofs.SleptLemmas.{slept_goes}
-use Rattle.queuing_lock.proofs.qlock.QLockQLockLayer.look.Goals as goal
+use Rattle.queuing_lock.proofs.qlock.QLockThreadLayerQLockLaw.look.Goals as goal
 
 pub returns-clause-framed : goal.returns-clause-framed
 returns-clause-framed g c =
-    let S = g.S.SleepLayer in
-    let met = g.met.S.SleepLayer in
+    let S = g.S.ThreadLayer in
+    let met = g.met.S.ThreadLayer in
     let rules = g.F.Locked.rules in
     let self = c.args.self.now in
     let m = c.args.m.now in
@@ -58,13 +58,13 @@ returns-clause-framed g c =
 
 pub returns-clause-seen : goal.returns-clause-seen
 returns-clause-seen g c =
-    let S = g.S.SleepLayer in
+    let S = g.S.ThreadLayer in
     let m = c.args.m.now in
     grows_renamed edit_in (λ d. S.ActsFor m d) (S.seen m) (S.seen c.look.new.m) c.look.ensures.seen
 
 pub returns-clause-tries : goal.returns-clause-tries
 returns-clause-tries g c = λ step looked.
-    let S = g.S.SleepLayer in
+    let S = g.S.ThreadLayer in
     let m = c.args.m.now in
     tries_renamed (renamed_edit edit_in) (λ d. S.ActsFor m d) (S.cpu_of c.args.self.now.lower) (S.acts m) (S.acts c.look.new.m)
     (c.look.ensures.tries step looked)

@@ -27,13 +27,13 @@ use Rattle.queuing_lock.proofs.PartLemmas.{locks_follow, none, others_after, owe
 use Rattle.queuing_lock.proofs.PartLemmas.{under_is}
 use Rattle.queuing_lock.proofs.PollLemmas.{reported_is}
 use Rattle.queuing_lock.proofs.SleptLemmas.{slept_less}
-use Rattle.queuing_lock.proofs.qlock.QLockQLockLayer.poll.Goals as goal
+use Rattle.queuing_lock.proofs.qlock.QLockThreadLayerQLockLaw.poll.Goals as goal
 
 -- the caller slept for the lock
 
 pub returns-then-has-clause-framed : goal.returns-then-has-clause-framed
 returns-then-has-clause-framed g c =
-    let S = g.S.SleepLayer in
+    let S = g.S.ThreadLayer in
     let rules = g.F.Locked.rules in
     let self = c.args.self.now in
     let m = c.args.m.now in
@@ -53,14 +53,14 @@ returns-then-has-clause-framed g c =
 
 pub returns-then-has-clause-seen : goal.returns-then-has-clause-seen
 returns-then-has-clause-seen g c =
-    let S = g.S.SleepLayer in
-    let met = g.met.S.SleepLayer in
+    let S = g.S.ThreadLayer in
+    let met = g.met.S.ThreadLayer in
     let rules = g.F.Locked.rules in
     let self = c.args.self.now in
     let m = c.args.m.now in
     let cpu = S.cpu_of self.lower in
-    let b = c.args.buffer in
-    let e = c.args.edit in
+    let b = c.args.call.buffer in
+    let e = c.args.call.edit in
     let slept = self.slept.buffers in
     let own = S.own self.lower in
     let under = S.under_way self.lower in
@@ -75,12 +75,12 @@ returns-then-has-clause-seen g c =
       slept = slept;
       starts = met.opens m cpu acts;
       moves_legal = met.moves_legal m cpu acts;
-      stands = met.stands self.lower m c.requires.fits.0;
-      lists = met.lists self.lower m c.requires.fits.0;
+      stands = (met.stands self.lower m c.requires.fits.0).stands;
+      lists = (met.stands self.lower m c.requires.fits.0).lists;
       fits = c.requires.fits.1;
       deferred = c.requires.fits.2;
-      caller = c.requires.caller;
-      may = c.requires.call;
+      caller = c.requires.call.runs;
+      may = c.requires.call.may;
     } in
     let some : is_some (slept_for slept (lock_caller rules e)) ≡ true
     = ap (λ t. is_some (slept_for slept t)) (sym c.caller-t.ensures) ∙ (sym c.has.ensures ∙ c.if-has.true) in
@@ -96,14 +96,14 @@ returns-then-has-clause-seen g c =
 
 pub poll-requires-clause-call : goal.poll-requires-clause-call
 poll-requires-clause-call g c =
-    let S = g.S.SleepLayer in
-    let met = g.met.S.SleepLayer in
+    let S = g.S.ThreadLayer in
+    let met = g.met.S.ThreadLayer in
     let rules = g.F.Locked.rules in
     let self = c.args.self.now in
     let m = c.args.m.now in
     let cpu = S.cpu_of self.lower in
-    let b = c.args.buffer in
-    let e = c.args.edit in
+    let b = c.args.call.buffer in
+    let e = c.args.call.edit in
     let slept = self.slept.buffers in
     let own = S.own self.lower in
     let under = S.under_way self.lower in
@@ -118,12 +118,12 @@ poll-requires-clause-call g c =
       slept = slept;
       starts = met.opens m cpu acts;
       moves_legal = met.moves_legal m cpu acts;
-      stands = met.stands self.lower m c.requires.fits.0;
-      lists = met.lists self.lower m c.requires.fits.0;
+      stands = (met.stands self.lower m c.requires.fits.0).stands;
+      lists = (met.stands self.lower m c.requires.fits.0).lists;
       fits = c.requires.fits.1;
       deferred = c.requires.fits.2;
-      caller = c.requires.caller;
-      may = c.requires.call;
+      caller = c.requires.call.runs;
+      may = c.requires.call.may;
     } in
     let awake : is_some (slept_for slept (lock_caller rules e)) ≡ false
     = ap (λ t. is_some (slept_for slept t)) (sym c.caller-t.ensures) ∙ (sym c.has.ensures ∙ c.if-has.false) in
@@ -131,14 +131,14 @@ poll-requires-clause-call g c =
 
 pub complete-requires : goal.complete-requires
 complete-requires g c =
-    let S = g.S.SleepLayer in
-    let met = g.met.S.SleepLayer in
+    let S = g.S.ThreadLayer in
+    let met = g.met.S.ThreadLayer in
     let rules = g.F.Locked.rules in
     let self = c.args.self.now in
     let m = c.args.m.now in
     let cpu = S.cpu_of self.lower in
-    let b = c.args.buffer in
-    let e = c.args.edit in
+    let b = c.args.call.buffer in
+    let e = c.args.call.edit in
     let slept = self.slept.buffers in
     let own = S.own self.lower in
     let under = S.under_way self.lower in
@@ -153,12 +153,12 @@ complete-requires g c =
       slept = slept;
       starts = met.opens m cpu acts;
       moves_legal = met.moves_legal m cpu acts;
-      stands = met.stands self.lower m c.requires.fits.0;
-      lists = met.lists self.lower m c.requires.fits.0;
+      stands = (met.stands self.lower m c.requires.fits.0).stands;
+      lists = (met.stands self.lower m c.requires.fits.0).lists;
       fits = c.requires.fits.1;
       deferred = c.requires.fits.2;
-      caller = c.requires.caller;
-      may = c.requires.call;
+      caller = c.requires.call.runs;
+      may = c.requires.call.may;
     } in
     subst (λ t. t.0 < THREADS) (sym c.caller-t.ensures) (caller_small rules (S.opening m) before)
 
@@ -166,14 +166,14 @@ complete-requires g c =
 
 pub returns-in-None-clause-framed : goal.returns-in-None-clause-framed
 returns-in-None-clause-framed g c =
-    let S = g.S.SleepLayer in
-    let met = g.met.S.SleepLayer in
+    let S = g.S.ThreadLayer in
+    let met = g.met.S.ThreadLayer in
     let rules = g.F.Locked.rules in
     let self = c.args.self.now in
     let m = c.args.m.now in
     let cpu = S.cpu_of self.lower in
-    let b = c.args.buffer in
-    let e = c.args.edit in
+    let b = c.args.call.buffer in
+    let e = c.args.call.edit in
     let slept = self.slept.buffers in
     let own = S.own self.lower in
     let under = S.under_way self.lower in
@@ -188,12 +188,12 @@ returns-in-None-clause-framed g c =
       slept = slept;
       starts = met.opens m cpu acts;
       moves_legal = met.moves_legal m cpu acts;
-      stands = met.stands self.lower m c.requires.fits.0;
-      lists = met.lists self.lower m c.requires.fits.0;
+      stands = (met.stands self.lower m c.requires.fits.0).stands;
+      lists = (met.stands self.lower m c.requires.fits.0).lists;
       fits = c.requires.fits.1;
       deferred = c.requires.fits.2;
-      caller = c.requires.caller;
-      may = c.requires.call;
+      caller = c.requires.call.runs;
+      may = c.requires.call.may;
     } in
     let awake : is_some (slept_for slept (lock_caller rules e)) ≡ false
     = ap (λ t. is_some (slept_for slept t)) (sym c.caller-t.ensures) ∙ (sym c.has.ensures ∙ c.if-has.false) in
@@ -227,14 +227,14 @@ returns-in-None-clause-framed g c =
 
 pub returns-in-None-clause-seen : goal.returns-in-None-clause-seen
 returns-in-None-clause-seen g c =
-    let S = g.S.SleepLayer in
-    let met = g.met.S.SleepLayer in
+    let S = g.S.ThreadLayer in
+    let met = g.met.S.ThreadLayer in
     let rules = g.F.Locked.rules in
     let self = c.args.self.now in
     let m = c.args.m.now in
     let cpu = S.cpu_of self.lower in
-    let b = c.args.buffer in
-    let e = c.args.edit in
+    let b = c.args.call.buffer in
+    let e = c.args.call.edit in
     let slept = self.slept.buffers in
     let own = S.own self.lower in
     let under = S.under_way self.lower in
@@ -249,12 +249,12 @@ returns-in-None-clause-seen g c =
       slept = slept;
       starts = met.opens m cpu acts;
       moves_legal = met.moves_legal m cpu acts;
-      stands = met.stands self.lower m c.requires.fits.0;
-      lists = met.lists self.lower m c.requires.fits.0;
+      stands = (met.stands self.lower m c.requires.fits.0).stands;
+      lists = (met.stands self.lower m c.requires.fits.0).lists;
       fits = c.requires.fits.1;
       deferred = c.requires.fits.2;
-      caller = c.requires.caller;
-      may = c.requires.call;
+      caller = c.requires.call.runs;
+      may = c.requires.call.may;
     } in
     let awake : is_some (slept_for slept (lock_caller rules e)) ≡ false
     = ap (λ t. is_some (slept_for slept t)) (sym c.caller-t.ensures) ∙ (sym c.has.ensures ∙ c.if-has.false) in
@@ -273,14 +273,14 @@ returns-in-None-clause-seen g c =
 
 pub returns-in-None-clause-follows : goal.returns-in-None-clause-follows
 returns-in-None-clause-follows g c = λ step.
-    let S = g.S.SleepLayer in
-    let met = g.met.S.SleepLayer in
+    let S = g.S.ThreadLayer in
+    let met = g.met.S.ThreadLayer in
     let rules = g.F.Locked.rules in
     let self = c.args.self.now in
     let m = c.args.m.now in
     let cpu = S.cpu_of self.lower in
-    let b = c.args.buffer in
-    let e = c.args.edit in
+    let b = c.args.call.buffer in
+    let e = c.args.call.edit in
     let slept = self.slept.buffers in
     let own = S.own self.lower in
     let under = S.under_way self.lower in
@@ -295,12 +295,12 @@ returns-in-None-clause-follows g c = λ step.
       slept = slept;
       starts = met.opens m cpu acts;
       moves_legal = met.moves_legal m cpu acts;
-      stands = met.stands self.lower m c.requires.fits.0;
-      lists = met.lists self.lower m c.requires.fits.0;
+      stands = (met.stands self.lower m c.requires.fits.0).stands;
+      lists = (met.stands self.lower m c.requires.fits.0).lists;
       fits = c.requires.fits.1;
       deferred = c.requires.fits.2;
-      caller = c.requires.caller;
-      may = c.requires.call;
+      caller = c.requires.call.runs;
+      may = c.requires.call.may;
     } in
     let awake : is_some (slept_for slept (lock_caller rules e)) ≡ false
     = ap (λ t. is_some (slept_for slept t)) (sym c.caller-t.ensures) ∙ (sym c.has.ensures ∙ c.if-has.false) in
@@ -323,14 +323,14 @@ returns-in-None-clause-follows g c = λ step.
 
 pub returns-in-Some-clause-framed : goal.returns-in-Some-clause-framed
 returns-in-Some-clause-framed g c =
-    let S = g.S.SleepLayer in
-    let met = g.met.S.SleepLayer in
+    let S = g.S.ThreadLayer in
+    let met = g.met.S.ThreadLayer in
     let rules = g.F.Locked.rules in
     let self = c.args.self.now in
     let m = c.args.m.now in
     let cpu = S.cpu_of self.lower in
-    let b = c.args.buffer in
-    let e = c.args.edit in
+    let b = c.args.call.buffer in
+    let e = c.args.call.edit in
     let slept = self.slept.buffers in
     let own = S.own self.lower in
     let under = S.under_way self.lower in
@@ -345,12 +345,12 @@ returns-in-Some-clause-framed g c =
       slept = slept;
       starts = met.opens m cpu acts;
       moves_legal = met.moves_legal m cpu acts;
-      stands = met.stands self.lower m c.requires.fits.0;
-      lists = met.lists self.lower m c.requires.fits.0;
+      stands = (met.stands self.lower m c.requires.fits.0).stands;
+      lists = (met.stands self.lower m c.requires.fits.0).lists;
       fits = c.requires.fits.1;
       deferred = c.requires.fits.2;
-      caller = c.requires.caller;
-      may = c.requires.call;
+      caller = c.requires.call.runs;
+      may = c.requires.call.may;
     } in
     let awake : is_some (slept_for slept (lock_caller rules e)) ≡ false
     = ap (λ t. is_some (slept_for slept t)) (sym c.caller-t.ensures) ∙ (sym c.has.ensures ∙ c.if-has.false) in
@@ -389,14 +389,14 @@ returns-in-Some-clause-framed g c =
 
 pub returns-in-Some-clause-seen : goal.returns-in-Some-clause-seen
 returns-in-Some-clause-seen g c =
-    let S = g.S.SleepLayer in
-    let met = g.met.S.SleepLayer in
+    let S = g.S.ThreadLayer in
+    let met = g.met.S.ThreadLayer in
     let rules = g.F.Locked.rules in
     let self = c.args.self.now in
     let m = c.args.m.now in
     let cpu = S.cpu_of self.lower in
-    let b = c.args.buffer in
-    let e = c.args.edit in
+    let b = c.args.call.buffer in
+    let e = c.args.call.edit in
     let slept = self.slept.buffers in
     let own = S.own self.lower in
     let under = S.under_way self.lower in
@@ -411,12 +411,12 @@ returns-in-Some-clause-seen g c =
       slept = slept;
       starts = met.opens m cpu acts;
       moves_legal = met.moves_legal m cpu acts;
-      stands = met.stands self.lower m c.requires.fits.0;
-      lists = met.lists self.lower m c.requires.fits.0;
+      stands = (met.stands self.lower m c.requires.fits.0).stands;
+      lists = (met.stands self.lower m c.requires.fits.0).lists;
       fits = c.requires.fits.1;
       deferred = c.requires.fits.2;
-      caller = c.requires.caller;
-      may = c.requires.call;
+      caller = c.requires.call.runs;
+      may = c.requires.call.may;
     } in
     let awake : is_some (slept_for slept (lock_caller rules e)) ≡ false
     = ap (λ t. is_some (slept_for slept t)) (sym c.caller-t.ensures) ∙ (sym c.has.ensures ∙ c.if-has.false) in
@@ -440,14 +440,14 @@ returns-in-Some-clause-seen g c =
 
 pub returns-in-Some-clause-follows : goal.returns-in-Some-clause-follows
 returns-in-Some-clause-follows g c = λ step.
-    let S = g.S.SleepLayer in
-    let met = g.met.S.SleepLayer in
+    let S = g.S.ThreadLayer in
+    let met = g.met.S.ThreadLayer in
     let rules = g.F.Locked.rules in
     let self = c.args.self.now in
     let m = c.args.m.now in
     let cpu = S.cpu_of self.lower in
-    let b = c.args.buffer in
-    let e = c.args.edit in
+    let b = c.args.call.buffer in
+    let e = c.args.call.edit in
     let slept = self.slept.buffers in
     let own = S.own self.lower in
     let under = S.under_way self.lower in
@@ -462,12 +462,12 @@ returns-in-Some-clause-follows g c = λ step.
       slept = slept;
       starts = met.opens m cpu acts;
       moves_legal = met.moves_legal m cpu acts;
-      stands = met.stands self.lower m c.requires.fits.0;
-      lists = met.lists self.lower m c.requires.fits.0;
+      stands = (met.stands self.lower m c.requires.fits.0).stands;
+      lists = (met.stands self.lower m c.requires.fits.0).lists;
       fits = c.requires.fits.1;
       deferred = c.requires.fits.2;
-      caller = c.requires.caller;
-      may = c.requires.call;
+      caller = c.requires.call.runs;
+      may = c.requires.call.may;
     } in
     let awake : is_some (slept_for slept (lock_caller rules e)) ≡ false
     = ap (λ t. is_some (slept_for slept t)) (sym c.caller-t.ensures) ∙ (sym c.has.ensures ∙ c.if-has.false) in

@@ -7,14 +7,18 @@ use Rattle.queuing_lock.specs.Nested.{edit_in, nested_lock_of}
 use Rattle.queuing_lock.specs.NestedLaws.{nothing_seen}
 use Rattle.queuing_lock.proofs.DeferredLemmas.{fresh_deferred, nobody_beneath}
 use Rattle.queuing_lock.proofs.SleptLemmas.{slept_none}
-use Rattle.queuing_lock.proofs.qlock.QLockQLockLayer.part.Goals as goal
+use Rattle.queuing_lock.proofs.qlock.QLockThreadLayerQLockLaw.part.Goals as goal
 
 pub returns-clause-fits : goal.returns-clause-fits
-returns-clause-fits g c = λ m acts outside none homes queue rest.
-    let S = g.S.SleepLayer in
+returns-clause-fits g c = λ m acts outside boots.
+    let S = g.S.ThreadLayer in
     let part = c.part.result in (
-      c.part.ensures.fits m acts outside (nothing_seen (S.seen m) none) (sym (homes_viewed nested_lock_of (S.opening m)) ∙ homes)
-          (there_viewed nested_lock_of (S.opening m) (Pending c.args.cpu) queue) (nobody_beneath (S.opening m) rest),
+      c.part.ensures.fits m acts outside (
+        nothing_seen (S.seen m) boots.0,
+        sym (homes_viewed nested_lock_of (S.opening m)) ∙ boots.1,
+        there_viewed nested_lock_of (S.opening m) (Pending c.args.cpu) boots.2,
+        nobody_beneath (S.opening m) boots.3,
+      ),
       slept_none g.F.Locked.rules (viewed nested_lock_of (S.opening m)) (S.cpu_of part) (renamed_events edit_in (S.seen m)) c.new.result.buffers THREADS c.new.ensures,
       fresh_deferred (S.under_way part) (S.own part).deferred (S.own part).threads.hand c.part.ensures.call (ap (λ o. o.deferred) c.part.ensures.own),
     )

@@ -13,7 +13,7 @@ use Rattle.sleep_wakeup.specs.Nested.{edit_in, nested_moves, nested_rules, state
 use Rattle.sleep_wakeup.specs.NestedLaws.{beneath, here}
 use Rattle.sleep_wakeup.specs.Parts.{DeferredFits, as_edit, outcome_in, own_of}
 use Rattle.sleep_wakeup.proofs.PollLemmas.{hand_defers, nested_may, nested_sleep_follows, nested_sleeps, reported_is}
-use Rattle.sleep_wakeup.proofs.sleeper.SleeperSleepLayer.poll.Goals as goal
+use Rattle.sleep_wakeup.proofs.sleeper.SleeperThreadLayerSleepLaw.poll.Goals as goal
 
 -- nobody stands in the hand: the section is polled
 pub poll-requires-clause-call : goal.poll-requires-clause-call
@@ -26,8 +26,8 @@ poll-requires-clause-call g c =
     let threads = S.own self.lower in
     let hand = None in
     let is : hand ≡ threads.hand = sym c.in-None.is ∙ c.hand.ensures in
-    let buffer = c.args.buffer in
-    let edit = c.args.edit in
+    let buffer = c.args.call.buffer in
+    let edit = c.args.call.edit in
     let fits : DeferredFits self.deferred (S.under_way self.lower) hand = subst (λ h. DeferredFits self.deferred (S.under_way self.lower) h)
     (sym is) c.requires.fits.2 in
     let met = g.met.S.Layer in
@@ -47,8 +47,8 @@ returns-in-None-poll-clause-seen g c =
     let threads = S.own self.lower in
     let hand = None in
     let is : hand ≡ threads.hand = sym c.in-None.is ∙ c.hand.ensures in
-    let buffer = c.args.buffer in
-    let edit = c.args.edit in
+    let buffer = c.args.call.buffer in
+    let edit = c.args.call.edit in
     let fits : DeferredFits self.deferred (S.under_way self.lower) hand = subst (λ h. DeferredFits self.deferred (S.under_way self.lower) h)
     (sym is) c.requires.fits.2 in
     let keeps : HandDefers hand (outcome_in self.deferred)
@@ -72,8 +72,8 @@ returns-in-None-poll-clause-follows g c = λ step.
     let threads = S.own self.lower in
     let hand = None in
     let is : hand ≡ threads.hand = sym c.in-None.is ∙ c.hand.ensures in
-    let buffer = c.args.buffer in
-    let edit = c.args.edit in
+    let buffer = c.args.call.buffer in
+    let edit = c.args.call.edit in
     let n = c.poll.new.m in
     let after = S.own c.poll.new.self in
     let followed : Follows (λ d. S.ActsFor m d) (table_of (queue_rules (nested_rules rules) (nested_moves rules))) (S.opening m) cpu
@@ -94,8 +94,8 @@ returns-in-None-clause-seen g c =
     let threads = S.own self.lower in
     let hand = None in
     let is : hand ≡ threads.hand = sym c.in-None.is ∙ c.hand.ensures in
-    let buffer = c.args.buffer in
-    let edit = c.args.edit in
+    let buffer = c.args.call.buffer in
+    let edit = c.args.call.edit in
     let fits : DeferredFits self.deferred (S.under_way self.lower) hand = subst (λ h. DeferredFits self.deferred (S.under_way self.lower) h)
     (sym is) c.requires.fits.2 in
     let keeps : HandDefers hand (outcome_in self.deferred)
@@ -125,8 +125,8 @@ returns-in-None-clause-follows g c = λ step.
     let threads = S.own self.lower in
     let hand = None in
     let is : hand ≡ threads.hand = sym c.in-None.is ∙ c.hand.ensures in
-    let buffer = c.args.buffer in
-    let edit = c.args.edit in
+    let buffer = c.args.call.buffer in
+    let edit = c.args.call.edit in
     let n = c.poll.new.m in
     let after = S.own c.poll.new.self in
     let followed : Follows (λ d. S.ActsFor m d) (table_of (queue_rules (nested_rules rules) (nested_moves rules))) (S.opening m) cpu
@@ -154,8 +154,8 @@ poll-requires-in-Some-clause-call g c =
     let threads = S.own self.lower in
     let hand = (Some c.in-Some.t) in
     let is : hand ≡ threads.hand = sym c.in-Some.is ∙ c.hand.ensures in
-    let buffer = c.args.buffer in
-    let edit = c.args.edit in
+    let buffer = c.args.call.buffer in
+    let edit = c.args.call.edit in
     let fits : DeferredFits self.deferred (S.under_way self.lower) hand = subst (λ h. DeferredFits self.deferred (S.under_way self.lower) h)
     (sym is) c.requires.fits.2 in
     let met = g.met.S.Layer in
@@ -174,8 +174,8 @@ returns-in-None-poll-2-clause-seen g c =
     let threads = S.own self.lower in
     let hand = (Some c.in-Some.t) in
     let is : hand ≡ threads.hand = sym c.in-Some.is ∙ c.hand.ensures in
-    let buffer = c.args.buffer in
-    let edit = c.args.edit in
+    let buffer = c.args.call.buffer in
+    let edit = c.args.call.edit in
     let fits : DeferredFits self.deferred (S.under_way self.lower) hand = subst (λ h. DeferredFits self.deferred (S.under_way self.lower) h)
     (sym is) c.requires.fits.2 in
     let keeps : HandDefers hand (outcome_in self.deferred)
@@ -199,8 +199,8 @@ returns-in-None-poll-2-clause-follows g c = λ step.
     let threads = S.own self.lower in
     let hand = (Some c.in-Some.t) in
     let is : hand ≡ threads.hand = sym c.in-Some.is ∙ c.hand.ensures in
-    let buffer = c.args.buffer in
-    let edit = c.args.edit in
+    let buffer = c.args.call.buffer in
+    let edit = c.args.call.edit in
     let n = c.poll-in-Some.new.m in
     let after = S.own c.poll-in-Some.new.self in
     let followed : Follows (λ d. S.ActsFor m d) (table_of (queue_rules (nested_rules rules) (nested_moves rules))) (S.opening m) cpu
@@ -222,8 +222,8 @@ returns-clause-seen g c =
     let threads = S.own self.lower in
     let hand = (Some c.in-Some.t) in
     let is : hand ≡ threads.hand = sym c.in-Some.is ∙ c.hand.ensures in
-    let buffer = c.args.buffer in
-    let edit = c.args.edit in
+    let buffer = c.args.call.buffer in
+    let edit = c.args.call.edit in
     let fits : DeferredFits self.deferred (S.under_way self.lower) hand = subst (λ h. DeferredFits self.deferred (S.under_way self.lower) h)
     (sym is) c.requires.fits.2 in
     let keeps : HandDefers hand (outcome_in self.deferred)
@@ -254,8 +254,8 @@ returns-clause-follows g c = λ step.
     let threads = S.own self.lower in
     let hand = (Some c.in-Some.t) in
     let is : hand ≡ threads.hand = sym c.in-Some.is ∙ c.hand.ensures in
-    let buffer = c.args.buffer in
-    let edit = c.args.edit in
+    let buffer = c.args.call.buffer in
+    let edit = c.args.call.edit in
     let n = c.poll-in-Some.new.m in
     let after = S.own c.poll-in-Some.new.self in
     let followed : Follows (λ d. S.ActsFor m d) (table_of (queue_rules (nested_rules rules) (nested_moves rules))) (S.opening m) cpu

@@ -1,0 +1,41 @@
+-- The tower over a lock opens as the lock does: its buffers, its homes and its queues are those that the locks hold.
+use Rattle.std.proofs.Common.{◌≡◌, ◌≤◌, ℕ, List, length, ◌∙◌, arith}
+use Rattle.std.specs.Prelude.{IsSome, Option}
+use Rattle.event_log.specs.declared.ids.CpuId.{CpuId}
+use Rattle.event_log.specs.declared.ids.LockId.{LockId}
+use Rattle.event_log.specs.declared.ids.LockId.TheVariants.{Pending}
+use Rattle.event_log.specs.declared.ids.TheConstants.{BUFFERS}
+use Rattle.fifo_buffer.specs.FifoFits.{BootsSo, caps_in}
+use Rattle.fifo_buffer.proofs.Opening.{boots_well, caps_are as told_caps}
+use Rattle.layer_traits.specs.BufferEffects.{opening_locks}
+use Rattle.layer_traits.specs.QueueBlocks.{homes_in, inner}
+use Rattle.layer_traits.specs.Renaming.{viewed}
+use Rattle.layer_traits.proofs.KernelRenaming.{homes_viewed, viewed_there}
+use Rattle.queuing_lock.specs.Nested.{nested_lock_of}
+use Rattle.sleep_wakeup.specs.Nested.{state_of}
+use Rattle.cpu.specs.Tower.Views.{TowerBlock}
+use Rattle.cpu_workers.specs.Seating.{Block}
+use Rattle.layer_traits.specs.declared.queue_edits.QueueBlock.{QueueBlock}
+
+-- the locks as buffers see them
+abbrev pub seen_from_top : (LockId → Option Block) → LockId → Option TowerBlock
+seen_from_top opening = viewed nested_lock_of (viewed state_of opening)
+
+-- what buffers and message calls ask of it
+pub record OpensTower (caps : List ℕ) (homes : List CpuId) (c : CpuId) (opening : LockId → Option Block) : Type 0 where
+  pub boots : BootsSo (seen_from_top opening)
+  pub caps_are : caps_in (seen_from_top opening) ≡ caps
+  pub homes_are : homes_in (seen_from_top opening) ≡ homes
+  pub queue : IsSome (seen_from_top opening (Pending c))
+
+pub opens_tower : (caps : List ℕ) (homes : List CpuId) (c : CpuId) (opening : LockId → Option Block) → length caps ≤ BUFFERS → homes_in opening ≡ homes
+    → IsSome (opening (Pending c)) → inner (seen_from_top opening) ≡ opening_locks caps → OpensTower caps homes c opening
+opens_tower caps homes c opening most homes_are queue locks = record {
+  boots = boots_well (seen_from_top opening) caps locks few;
+  caps_are = told_caps (seen_from_top opening) caps locks few;
+  homes_are = homes_viewed nested_lock_of (viewed state_of opening) ∙ (homes_viewed state_of opening ∙ homes_are);
+  queue = viewed_there nested_lock_of (viewed state_of opening) (Pending c) (viewed_there state_of opening (Pending c) queue);
+}
+  where
+    few : length caps ≤ 256
+    few = omega (arith, most)

@@ -1,0 +1,258 @@
+//! One trait for the layers whose calls put threads to sleep, over the law that each of them meets.
+//!
+//! It is `Layer` with the threads: which run, which are ready, and how a CPU passes from one to the
+//! next. A type that stands on another is checked with all traits that its bound brings, so a second
+//! trait beside `Layer` would double each layer above it.
+//!
+//! No call takes memory, and none waits.
+
+ghost use Rattle.std.specs.Prelude.{◌≡◌, ◌≢◌, ℕ, ◌<◌, true, false, Bool, List, [], Option, None, Some, IsSome, IfSome, OnSome, is_some, if◌then◌else◌};
+
+use crate::layers::Law;
+use crate::passes::Pass;
+use crate::payloads::Payload;
+use event_log::{CpuId, LockId, Tid};
+
+/// The law of a layer whose parts hold threads, and that passes calls on to its scheduler.
+pub trait ThreadLaw: Law {
+    ghost use Rattle.event_log.specs.declared.ids.CpuId.{CpuId};
+    ghost use Rattle.event_log.specs.declared.ids.LockId.{LockId};
+    ghost use Rattle.layer_traits.specs.declared.passes.Pass.{Pass};
+    ghost use Rattle.layer_traits.specs.Places.{Threads};
+    ghost use Rattle.layer_traits.specs.Plans.{Plan};
+
+    /// The threads of the part's CPU.
+    ghost threads_of: { Self.State → Threads };
+
+    /// The call of the thread that runs will answer without an action.
+    ghost at_once: { Self.State → Bool };
+
+    /// A pass, once it has begun.
+    ghost pass_begun: { Pass → Self.Begun };
+
+    /// What a poll of a pass adds to the events and makes of the threads.
+    ghost Passed: { (LockId → Option Self.Block) → (CpuId → Type 0) → CpuId → Pass → Option (Unit {0}) → List Self.Event → List Self.Event
+        → Threads → Threads → Type 0 };
+
+    /// What else the part has of its own is as before.
+    ghost KeepsRest: { Self.State → Self.State → Type 0 };
+
+    /// What a poll of a pass is to do.
+    ghost pass_plan: { (LockId → Option Self.Block) → CpuId → Pass → Self.State → Plan Self.Name Self.Reply Self.State (Unit {0}) };
+}
+
+/// One CPU's part of a layer that meets the law `L` and whose calls put threads to sleep. A poll does
+/// at most one atomic action; if it returns `None` the same call is polled again, once its thread
+/// runs. To the layers above a section is one event.
+///
+/// No call takes memory.
+pub trait ThreadLayer<L: ThreadLaw> {
+    ghost use Rattle.event_log.specs.declared.ids.CpuId.{CpuId};
+    ghost use Rattle.event_log.specs.declared.ids.LockId.{LockId};
+    ghost use Rattle.event_log.specs.declared.ids.TheConstants.{CPUS};
+    ghost use Rattle.event_log.specs.Actions.{Action, AreLegal, phase};
+    ghost use Rattle.event_log.specs.History.{IsLawful, Grows};
+    ghost use Rattle.layer_traits.specs.Framed.{Framed};
+    ghost use Rattle.layer_traits.specs.Looks.{Tries};
+    ghost use Rattle.layer_traits.specs.Passes.{IsLocalPass, MayPass};
+    ghost use Rattle.layer_traits.specs.Plans.{Follows, is_in_section};
+    ghost use Rattle.layer_traits.specs.Polls.{until_answered};
+    ghost use Rattle.layer_traits.specs.SleepLaw.{MayCall};
+    ghost use Rattle.thread_blocks.specs.Queues.{is_in};
+
+    /// What lies beneath.
+    type Machine;
+
+    /// The opening block of each lock; None where there is no such lock.
+    ghost opening: { Self.Machine → LockId → Option L.Block };
+
+    /// The events that the holder of the machine has seen, newest first.
+    ghost seen: { Self.Machine → List L.Event };
+
+    /// For which CPUs the holder of the machine acts. It carries that the machine is sound.
+    ghost ActsFor: { Self.Machine → CpuId → Type 0 };
+
+    /// For how many more events there is room.
+    ghost room: { Self.Machine → ℕ };
+
+    /// Which machine it is, as numbers; a machine that nobody has to know again needs none. No poll
+    /// changes it.
+    ghost site: { Self.Machine → List ℕ } = { λ _. [] };
+
+    /// No section of this CPU is under way.
+    ghost IsOutside: { Self.Machine → CpuId → Type 0 };
+
+    /// This CPU may hold a lock, as far as the machine tells.
+    ghost MayHold: { Self.Machine → CpuId → Type 0 };
+
+    /// Whose part it is.
+    ghost cpu_of: { Self → CpuId };
+
+    /// What the part has of its own.
+    ghost own: { Self → L.State };
+
+    /// The call that has begun and has not ended.
+    ghost under_way: { Self → Option L.Begun };
+
+    /// Whether the CPU waits at a lock or holds one.
+    ghost is_inside: { Self → Bool };
+
+    /// The part and the machine agree.
+    ghost Fits: { Self → Self.Machine → Type 0 };
+
+    /// Whether one poll is one action, as in the tower.
+    ghost IsStepwise: { Type 0 };
+
+    /// Whether one poll is one call: each poll answers or leaves its thread to wait. A lock that lets
+    /// polls pass without an action is neither.
+    ghost IsWhole: { Type 0 };
+
+    /// The actions on the locks, newest first, each Give under its section's edit.
+    ghost acts: { Self.Machine → List (Action L.Name) };
+
+    /// The part of `cpu` at boot, with no call under way. `homes` holds the home of each thread,
+    /// and `buffers` is the number of buffers; layers above use it.
+    ///
+    /// Requires: the homes are those of a boot: for a layer with threads, at most `THREADS`.
+    fn part(cpu: CpuId, homes: &[CpuId], buffers: u8) -> Self
+        requires { L.AreHomes homes.now }
+        ensures cpu { cpu_of result ≡ cpu }
+        ensures own { own result ≡ L.at_boot homes.now cpu }
+        ensures call { under_way result ≡ None }
+        ensures fits { (m : Self.Machine) → ActsFor m cpu → IsOutside m cpu → L.Boots (opening m) (seen m) homes.now cpu → Fits result m };
+
+    /// Whether the CPU waits at a lock or holds one.
+    fn is_busy(&self) -> bool
+        ensures { result ≡ is_inside self.now };
+
+    /// The thread that runs; `None` if none does.
+    fn current(&self) -> Option<Tid>
+        ensures { result ≡ (L.threads_of (own self.now)).current };
+
+    /// The thread in this CPU's hand: woken here, and still to be sent to its home. `None` if there
+    /// is none.
+    fn hand(&self) -> Option<Tid>
+        ensures { result ≡ (L.threads_of (own self.now)).hand };
+
+    /// Whether any thread is ready here.
+    fn has_ready(&self) -> bool
+        ensures some { result ≡ true → (L.threads_of (own self.now)).ready ≢ [] }
+        ensures none { result ≡ false → (L.threads_of (own self.now)).ready ≡ [] };
+
+    /// Whether `t` is ready here.
+    fn is_ready(&self, t: Tid) -> bool
+        ensures { result ≡ is_in t (L.threads_of (own self.now)).ready };
+
+    /// Whether `t` has ended here.
+    fn has_ended(&self, t: Tid) -> bool
+        ensures { result ≡ is_in t (L.threads_of (own self.now)).ended };
+
+    /// Whether the call of the thread that runs will answer without an action, since it slept for a
+    /// lock and was handed it.
+    fn at_once(&self) -> bool
+        ensures { result ≡ L.at_once (own self.now) };
+
+    /// Looks again for a section that waits at its lock, and returns whether it did: a poll that ends
+    /// nothing, so it needs no call and has no answer. If it returns `false` nothing has changed,
+    /// and the call is to be polled; a layer may always return that.
+    ///
+    /// Requires: part and machine agree, and there is room for an event.
+    fn look(&mut self, m: &mut Self::Machine) -> bool
+        requires fits { Fits self.old m.old }
+        requires room { 0 < room m.old }
+        ensures still { result ≡ false → (self.new ≡ self.old) × (m.new ≡ m.old) }
+        ensures waits { result ≡ true → is_inside self.old ≡ true }
+        ensures own { own self.new ≡ own self.old }
+        ensures call { under_way self.new ≡ under_way self.old }
+        ensures inside { is_inside self.new ≡ is_inside self.old }
+        ensures seen { Grows (ActsFor m.old) L.cpu_of_event (seen m.old) (seen m.new) }
+        ensures framed { Framed Fits cpu_of opening site room ActsFor MayHold self.old self.new m.old m.new }
+        ensures tries { IsStepwise → result ≡ true
+            → Tries (ActsFor m.old) (cpu_of self.old) (acts m.old) (acts m.new) };
+
+    /// Does at most one action of `call`. Returns its answer once the call has ended, and `None` while
+    /// the same call is to be polled again. A call that touches nothing shared answers at once.
+    ///
+    /// Requires: part and machine agree, the lock of the call is there, there is room for an event,
+    /// the call is one that may come now (while one is under way, the same call), and the payload
+    /// holds what it puts.
+    fn poll(
+        &mut self,
+        m: &mut Self::Machine,
+        call: L::Call,
+        payload: &mut Payload,
+    ) -> Option<L::Answer>
+        requires fits { Fits self.old m.old }
+        requires there { L.IsThere (opening m.old) call }
+        requires room { 0 < room m.old }
+        requires call { L.MayPoll (opening m.old) (cpu_of self.old) (seen m.old) (own self.old) (under_way self.old) call }
+        requires carried { L.carried call payload.old }
+        ensures call { L.LeavesBegun (cpu_of self.old) call result (under_way self.new) }
+        ensures prompt { IsWhole → L.IsPrompt call result (own self.old) (own self.new) }
+        ensures brought { IfSome result (λ answer. L.brought answer payload.new) }
+        ensures seen { L.Polled (opening m.old) (ActsFor m.old) (cpu_of self.old) call result (seen m.old) (seen m.new)
+            (own self.old) (own self.new) (under_way self.new) }
+        ensures still { L.IsLocal (own self.old) call → m.new ≡ m.old }
+        ensures framed { Framed Fits cpu_of opening site room ActsFor MayHold self.old self.new m.old m.new }
+        ensures outside { OnSome result ((L.IsLocal (own self.old) call → ⊥) → IsOutside m.new (cpu_of self.old)) }
+        ensures follows { IsStepwise → Follows (ActsFor m.old) L.table (opening m.old) (cpu_of self.old)
+            (L.plan (opening m.old) (cpu_of self.old) call (own self.old))
+            (acts m.old) (acts m.new) (record { own = own self.new; answer = result }) };
+
+    /// Does at most one action of a pass. Returns `Some` once the pass has ended, and `None` while the
+    /// same pass is to be polled again.
+    ///
+    /// Requires: part and machine agree, there is room for an event, and the pass is one that may
+    /// come now (while a call is under way, the same call).
+    fn pass(&mut self, m: &mut Self::Machine, call: Pass, payload: &mut Payload) -> Option<()>
+        requires fits { Fits self.old m.old }
+        requires room { 0 < room m.old }
+        requires call { MayCall (under_way self.old) (L.pass_begun call) (MayPass call (L.threads_of (own self.old))) }
+        ensures call { under_way self.new ≡ until_answered result (L.pass_begun call) }
+        ensures seen { L.Passed (opening m.old) (ActsFor m.old) (cpu_of self.old) call result (seen m.old) (seen m.new)
+            (L.threads_of (own self.old)) (L.threads_of (own self.new)) }
+        ensures rest { L.KeepsRest (own self.old) (own self.new) }
+        ensures still { IsLocalPass call → m.new ≡ m.old }
+        ensures framed { Framed Fits cpu_of opening site room ActsFor MayHold self.old self.new m.old m.new }
+        ensures outside { OnSome result ((IsLocalPass call → ⊥) → IsOutside m.new (cpu_of self.old)) }
+        ensures prompt { IsWhole → IsSome result }
+        ensures follows { IsStepwise → Follows (ActsFor m.old) L.table (opening m.old) (cpu_of self.old)
+            (L.pass_plan (opening m.old) (cpu_of self.old) call (own self.old))
+            (acts m.old) (acts m.new) (record { own = own self.new; answer = result }) };
+
+    /// Law: a part that agrees with a machine is of a CPU for which the machine's holder acts.
+    ghost own_cpu: { (p : Self) (m : Self.Machine) → Fits p m → ActsFor m (cpu_of p) };
+
+    /// Law: each event that was seen was allowed.
+    ghost lawful: { (m : Self.Machine) (c : CpuId) → ActsFor m c → IsLawful (L.allowed (opening m)) (seen m) };
+
+    /// Law: each event that was seen is of a CPU that a machine may have.
+    ghost known: { (m : Self.Machine) (c : CpuId) → ActsFor m c → IsLawful (λ past e. (L.cpu_of_event e).0 < CPUS) (seen m) };
+
+    /// Law: each thread moves from where it stands.
+    ghost moves_legal: { (m : Self.Machine) (c : CpuId) → ActsFor m c → L.MovesAreLegal (opening m) (seen m) };
+
+    /// Law: the machine opened as one that may start.
+    ghost opens: { (m : Self.Machine) (c : CpuId) → ActsFor m c → L.Starts (opening m) };
+
+    /// Law: what a part has of its own agrees with the events.
+    ghost stands: { (p : Self) (m : Self.Machine) → Fits p m → L.Agrees (opening m) (cpu_of p) (seen m) (own p) };
+
+    /// Law: what a call under way tells of whether a section is.
+    ghost inside: { (p : Self) → L.Inside (under_way p) (is_inside p) };
+
+    /// Law: if no call is under way no lock is waited for or held.
+    ghost idle: { (p : Self) (m : Self.Machine) → Fits p m → under_way p ≡ None → is_inside p ≡ false };
+
+    /// Law: the actions are legal.
+    ghost legal: { (m : Self.Machine) (c : CpuId) → ActsFor m c → AreLegal (acts m) };
+
+    /// Law: if a poll is one action, the events that were seen are those of the actions.
+    ghost seen_is: { IsStepwise → (m : Self.Machine) → seen m ≡ L.events_in (acts m) };
+
+    /// Law: if a poll is one action, each section of the actions edits a block of its kind.
+    ghost proper: { IsStepwise → (m : Self.Machine) (c : CpuId) → ActsFor m c → L.AreProper (acts m) };
+
+    /// Law: if a poll is one action, a CPU is inside exactly while it waits at a lock or holds one.
+    ghost busy: { (p : Self) (m : Self.Machine) → Fits p m → IsStepwise → is_inside p ≡ is_in_section (phase (cpu_of p) (acts m)) };
+}
