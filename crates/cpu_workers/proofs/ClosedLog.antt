@@ -41,18 +41,18 @@ use Rattle.layer_traits.proofs.KernelRenaming.{homes_viewed, proper_renamed, see
 use Rattle.layer_traits.proofs.NestedLemmas.{lawful_events, lawful_proper}
 use Rattle.layer_traits.proofs.PlanRenaming.{block_viewed}
 use Rattle.layer_traits.proofs.Seen.{sections_allowed, words_legal}
+use Rattle.sleep_wakeup.specs.Laws.NestedLaws.{nested_lawful}
 use Rattle.sleep_wakeup.specs.Nested.{nested_edited, nested_moves, nested_rules, state_of}
 use Rattle.sleep_wakeup.specs.Nested as sleep
-use Rattle.sleep_wakeup.specs.NestedLaws.{nested_lawful}
 use Rattle.queuing_lock.specs.declared.edits.QLockEdit.{QLockEdit}
-use Rattle.queuing_lock.specs.Edits as locked
+use Rattle.queuing_lock.specs.Laws.Edits as locked
+use Rattle.queuing_lock.specs.Laws.NestedLaws.{locks_lawful}
 use Rattle.queuing_lock.specs.Nested.{busy_rules, nested_lock_of}
 use Rattle.queuing_lock.specs.Nested as lock
-use Rattle.queuing_lock.specs.NestedLaws.{locks_lawful}
-use Rattle.fifo_buffer.specs.OwnedLaws.{items_acted}
-use Rattle.fifo_buffer.specs.Tallies.{effects_lawful}
+use Rattle.fifo_buffer.specs.Laws.OwnedLaws.{items_acted}
+use Rattle.fifo_buffer.specs.Laws.Tallies.{effects_lawful}
 use Rattle.fifo_buffer.proofs.Opening.{boots_well, caps_are}
-use Rattle.ipc_calls.specs.OpeningLaws.{opens_so}
+use Rattle.ipc_calls.specs.Laws.OpeningLaws.{opens_so}
 use Rattle.table_machine.specs.SeatViews.{TableView}
 use Rattle.cpu.specs.Table.Setups.{Setup, opening as table_opening}
 use Rattle.cpu.specs.Table.Steps.{block_at}

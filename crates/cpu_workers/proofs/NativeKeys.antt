@@ -16,7 +16,7 @@ use Rattle.layer_traits.specs.Renaming.{renamed_edit}
 use Rattle.layer_traits.specs.WordsProtocol.{MayCome, edit_of}
 use Rattle.queuing_lock.specs.Nested.{edit_in as lock_call}
 use Rattle.sleep_wakeup.specs.Nested.{edit_in as slept_edit}
-use Rattle.spinlock.specs.LineLaws.{rests_outside}
+use Rattle.spinlock.specs.Laws.LineLaws.{rests_outside}
 use Rattle.table_machine.specs.SeatViews.{Covers, IsOver, TableView, new_seat_view, new_seat_views, site_of}
 use Rattle.table_machine.proofs.Fresh.{length_new}
 use Rattle.cpu.proofs.ListReads.{shows_at, there_is}

@@ -20,7 +20,7 @@ use Rattle.layer_traits.specs.OnePlace.{cpu_at}
 use Rattle.layer_traits.specs.Protocol.{section}
 use Rattle.layer_traits.specs.Queues.{buffer_at, buffer_sections, event_of}
 use Rattle.layer_traits.proofs.EffectRunLemmas.{effects_are_run}
-use Rattle.fifo_buffer.specs.Tallies.{effect_position}
+use Rattle.fifo_buffer.specs.Laws.Tallies.{effect_position}
 use Rattle.cpu.specs.Cpus.{of_cpu}
 use Rattle.cpu.specs.Tower.Views.{TowerName}
 use Rattle.cpu.proofs.ListReads.{all_reversed}

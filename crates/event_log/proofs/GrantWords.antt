@@ -12,6 +12,7 @@ use Rattle.event_log.specs.WordsLog.{Holding}
 use Rattle.event_log.specs.Grants.{cpu_of_grant, is_ticket, tickets, left_by_grant, grant_lock_phase, ticket_in, after_give, grant_word, MayFollowGrants}
 use Rattle.event_log.specs.Grants.{IsLegalGrants, act_of_grant, acts_of_grants}
 use Rattle.event_log.specs.Actions.{Waits, Holds, phase, left_in, cpu_of_action, spot_of, takes, gives, is_take, MayAct, AreLegal}
+use Rattle.event_log.specs.Grants.{WordFits}
 use Rattle.event_log.proofs.Same.{same_cpu_self, same_lock_self, same_lock_true}
 use Rattle.event_log.proofs.Exclusion.{is_at, is_holding, line_at, one_holds, near}
 use Rattle.event_log.proofs.Observed.{phase_of, phase_either, TicketOf, ticket_either, how_many-map, Simulates, phase_simulated, ticket_simulated, eqb_same}
@@ -58,12 +59,6 @@ pub grant_ticket_at : {M N : Type 0} (name : M → N) (log : List (GrantEvent M)
     → TicketOf (grant_lock_phase c log) (spot_of c (acts_of_grants name log))
 grant_ticket_at name log legal c =
     ticket_simulated cpu_of_grant left_by_grant grant_lock_phase (act_of_grant name) (grants_simulate name) MayFollowGrants (ticket_left name) log legal c
-
--- What a grant word holds after a lock was given on `given` times: the spot k that came to it last is the one that it lets in.
--- Where no spot has come to it yet, it holds 0.
-pub record WordFits (word given held : ℕ) : Type 0 where
-  pub written : word ≤ given → (k : ℕ) × (k ≤ given) × (given < k + CPUS) × (k % CPUS ≡ word) × (held ≡ (k + 1) % 2 ^ 64)
-  pub unwritten : given < word → held ≡ 0
 
 pub fits_at_start : (word : ℕ) → word < CPUS → WordFits word 0 (if word == 0 then 1 else 0)
 fits_at_start word within = go (word == 0) refl

@@ -1,5 +1,5 @@
 -- The log of locks with a grant word for each waiter, newest first, and which such logs are legal.
-use Rattle.std.specs.Prelude.{◌≡◌, ℕ, ◌+◌, ◌%◌, ◌^◌, ◌<◌, Bool, false, List, [], ◌∷◌, ◌==◌, map, if◌then◌else◌}
+use Rattle.std.specs.Prelude.{◌≡◌, ℕ, ◌+◌, ◌%◌, ◌^◌, ◌<◌, ◌≤◌, Bool, false, List, [], ◌∷◌, ◌==◌, map, if◌then◌else◌}
 use Rattle.event_log.specs.declared.ids.CpuId.{CpuId}
 use Rattle.event_log.specs.declared.ids.LockId.{LockId}
 use Rattle.event_log.specs.declared.ids.TheConstants.{CPUS}
@@ -87,3 +87,9 @@ GrantsTellSpots M = (log : List (GrantEvent M)) → IsLegalGrants log → AreLeg
 abbrev pub OneInsideGrants : Type 0 → Type 0
 OneInsideGrants M = (log : List (GrantEvent M)) → IsLegalGrants log → (a b : CpuId) (lock : LockId) (s t : ℕ)
     → grant_lock_phase a log ≡ Holding lock s → grant_lock_phase b log ≡ Holding lock t → a ≡ b
+
+-- What a grant word holds after a lock was given on `given` times: the spot k that came to it last is the one that it lets in.
+-- Where no spot has come to it yet, it holds 0.
+pub record WordFits (word given held : ℕ) : Type 0 where
+  pub written : word ≤ given → (k : ℕ) × (k ≤ given) × (given < k + CPUS) × (k % CPUS ≡ word) × (held ≡ (k + 1) % 2 ^ 64)
+  pub unwritten : given < word → held ≡ 0

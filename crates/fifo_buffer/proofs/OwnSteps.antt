@@ -46,7 +46,7 @@ use Rattle.layer_traits.proofs.CountLemmas.{count_append, not_counted}
 use Rattle.thread_blocks.specs.Queues.{same_tid, is_in, rest}
 use Rattle.thread_blocks.proofs.Members.{same_tid_self}
 use Rattle.thread_blocks.proofs.Distinct.{out_of_rest}
-use Rattle.fifo_buffer.specs.BlockSteps.{kind_counts}
+use Rattle.fifo_buffer.specs.Laws.BlockSteps.{kind_counts}
 use Rattle.fifo_buffer.specs.Stances.{Grip, Holds, InCall, IsFreeOf, Stance, CallStateFits, done_at, recorded_by, line_at, same_side}
 use Rattle.fifo_buffer.specs.Stances.{slept_by, call_state_in, waits_by}
 use Rattle.fifo_buffer.proofs.Apart.{above_asked, line_shut, side_self}

@@ -32,7 +32,7 @@ use Rattle.layer_traits.specs.QueueBlocks.{StartsWell, homes_in, inner}
 use Rattle.layer_traits.specs.Queues.{QueueAllowed, buffer_sections, with_section}
 use Rattle.thread_blocks.specs.Queues.{is_in}
 use Rattle.fifo_buffer.specs.FifoFits.{BootsSo, caps_in}
-use Rattle.fifo_buffer.specs.OwnedLaws.{found}
+use Rattle.fifo_buffer.specs.Laws.OwnedLaws.{found}
 use Rattle.fifo_buffer.specs.Positions.{PositionsAreCounts, enters, entries_of}
 use Rattle.fifo_buffer.specs.Stances.{same_side}
 use Rattle.fifo_buffer.specs.SectionPolls.{BufferEvent}

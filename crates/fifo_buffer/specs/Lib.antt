@@ -3,6 +3,6 @@ pub mod SectionPolls
 pub mod FifoFits
 pub mod BlockSteps
 pub mod Tallies
-pub mod FifoLaws
 pub mod OwnedLaws
 pub mod Positions
+pub mod Laws

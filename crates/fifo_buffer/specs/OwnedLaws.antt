@@ -1,41 +1,17 @@
--- What the conditions beneath tell of their locks, the buffers tell of their items, owners and waiting lists.
-use Rattle.std.proofs.Common.{◌≡◌, ◌<◌, Bool, true, false, List, [], ◌∷◌, ◌++◌, length, map, Option, Some, None, IsSome}
-use Rattle.std.proofs.Common.{option_map, option_to_list, slice_index, if◌then◌else◌, refl, ap, sym, ◌∙◌, subst}
-use Rattle.std.proofs.lemmas.Option.{slice_get-get_or}
-use Rattle.std.specs.List.{AllByRecursion}
-use Rattle.event_log.specs.declared.entries.Entry.{Entry}
+-- What is read off a buffer's lock: its items, whether it is closed, its owner and its waiting lists.
+use Rattle.std.specs.Prelude.{Bool, List, Option, Some}
 use Rattle.event_log.specs.declared.ids.BufId.{BufId}
-use Rattle.event_log.specs.declared.ids.CpuId.{CpuId}
 use Rattle.event_log.specs.declared.ids.LockId.{LockId}
 use Rattle.event_log.specs.declared.ids.LockId.TheVariants.{Buffer}
 use Rattle.event_log.specs.declared.ids.Tid.{Tid}
-use Rattle.event_log.specs.declared.ids.TheConstants.{CPUS}
-use Rattle.event_log.specs.Buffers.{items_of}
-use Rattle.event_log.specs.History.{IsLawful, same_lock}
 use Rattle.event_log.specs.Messages.{Message}
-use Rattle.event_log.specs.Runs.{is_closed}
-use Rattle.event_log.specs.Sections.{sections_in}
-use Rattle.layer_traits.specs.declared.buffer_edits.BufferEdit.{BufferEdit}
 use Rattle.layer_traits.specs.declared.moves.WaitList.{WaitList}
 use Rattle.layer_traits.specs.declared.queue_edits.QueueBlock.{QueueBlock}
-use Rattle.layer_traits.specs.declared.queues.QueueCall.{QueueCall}
-use Rattle.layer_traits.specs.declared.queues.QueueCall.TheVariants.{Push, TakeAll, OnBuffer}
-use Rattle.layer_traits.specs.Acted.{BufferActs, ItemsAre}
-use Rattle.layer_traits.specs.BufferEffects.{contents_of, drawn, effect_of, effects_in, fresh_lock}
-use Rattle.layer_traits.specs.BufferProtocol.{BufferLock, BufferSection, buffer_at, buffer_monitor_rules}
-use Rattle.layer_traits.specs.Conditions.{CvCall, cv_rules}
-use Rattle.layer_traits.specs.LockLaw.{lock_kernel}
-use Rattle.layer_traits.specs.Locking.{wait_list_in, lock_after, lock_edited, owner_in}
-use Rattle.layer_traits.specs.Owned.{IsObserved}
-use Rattle.layer_traits.specs.Protocol.{section}
-use Rattle.layer_traits.specs.QueueBlocks.{StartsWell, above_of, inner}
-use Rattle.layer_traits.specs.QueueRules.{AreProper}
-use Rattle.layer_traits.specs.Queues.{IsKnownEvent, QueueAllowed, buffer_sections, event_of, with_section}
-use Rattle.layer_traits.specs.Observed.{IsObservedAs}
-use Rattle.layer_traits.proofs.ActedLemmas.{lock_is}
-use Rattle.layer_traits.proofs.OwnedLemmas.{shown_under, observed_as, viewed_shown}
-use Rattle.fifo_buffer.specs.FifoFits.{BootsSo, caps_in}
-use Rattle.fifo_buffer.specs.Tallies.{all_tallied, effect_position}
+use Rattle.layer_traits.specs.BufferProtocol.{BufferLock, buffer_monitor_rules}
+use Rattle.layer_traits.specs.Conditions.{cv_rules}
+use Rattle.layer_traits.specs.Locking.{wait_list_in, lock_after}
+use Rattle.layer_traits.specs.QueueBlocks.{inner}
+use Rattle.layer_traits.specs.Queues.{buffer_sections}
 use Rattle.fifo_buffer.specs.SectionPolls.{BufferEvent}
 
 -- the items of a lock's buffer, whether it is closed, its owner, and its waiting lists
@@ -54,123 +30,3 @@ wait_lists_of lock line = wait_list_in line (Some lock)
 -- the lock of a buffer after these events
 abbrev pub buffer_lock_of : (LockId → Option (QueueBlock BufferLock)) → List BufferEvent → BufId → Option BufferLock
 buffer_lock_of opening past b = lock_after (cv_rules buffer_monitor_rules) (inner opening) (Buffer b) (buffer_sections past)
-
--- a lock that was there at the start is there after some sections
-some_after : (s : BufferSection) (x : Option BufferLock) (b : Bool) → IsSome x
-    → IsSome (if b then option_map (lock_edited (cv_rules buffer_monitor_rules) s.edit) x else x)
-some_after s x false some = some
-some_after s None true some = absurd cc
-some_after s (Some lock) true some = refl
-
-stays_there : (O : LockId → Option BufferLock) (past : List BufferSection) (lock : LockId) → IsSome (O lock)
-    → IsSome (lock_after (cv_rules buffer_monitor_rules) O lock past)
-stays_there O [] lock some = some
-stays_there O (s ∷ past) lock some =
-    some_after s (lock_after (cv_rules buffer_monitor_rules) O lock past) (same_lock lock s.lock) (stays_there O past lock some)
-
-module _ (opening : LockId → Option (QueueBlock BufferLock)) (boots : BootsSo opening) (b : BufId) (within : b.0 < length (caps_in opening)) where
-  -- a buffer of the capacities has a lock, at the start
-  inner_there : IsSome (inner opening (Buffer b))
-  inner_there =
-      subst (λ (o : Option BufferLock). IsSome o)
-      (sym (ap (λ locks. locks (Buffer b)) boots ∙ ap (option_map fresh_lock) (slice_get-get_or (caps_in opening) b.0 0 within))) refl
-
-  pub block_there : IsSome (opening (Buffer b))
-  block_there = go (opening (Buffer b)) inner_there
-    where
-      go : (o : Option (QueueBlock BufferLock)) → IsSome (above_of o) → IsSome o
-      go None some = some
-      go (Some block) some = refl
-
-  -- and after any events
-  pub found : (past : List BufferEvent) → (lock : BufferLock) × (buffer_lock_of opening past b ≡ Some lock)
-  found past = go (buffer_lock_of opening past b) refl (stays_there (inner opening) (buffer_sections past) (Buffer b) inner_there)
-    where
-      go : (o : Option BufferLock) → buffer_lock_of opening past b ≡ o → IsSome o → (lock : BufferLock) × (buffer_lock_of opening past b ≡ Some lock)
-      go None is some = absurd cc
-      go (Some lock) is some = (lock, is)
-
-  -- its items are those that the effects leave
-  pub items_read : (past : List BufferEvent) → IsLawful (QueueAllowed (lock_kernel (cv_rules buffer_monitor_rules) opening)) past
-      → option_map items_in (buffer_lock_of opening past b)
-      ≡ Some (items_of (contents_of (caps_in opening) (effects_in (inner opening) (buffer_sections past))) b.0)
-  items_read past lawful =
-      let lock = found past in
-      ap (option_map items_in) lock.1 ∙ ap Some (sym (all_tallied opening (caps_in opening) boots past lawful b lock.0 lock.1).items)
-
-  -- and it is closed where one of them closed it
-  pub closed_read : (past : List BufferEvent) → IsLawful (QueueAllowed (lock_kernel (cv_rules buffer_monitor_rules) opening)) past
-      → option_map closed_of (buffer_lock_of opening past b) ≡ Some (is_closed (effects_in (inner opening) (buffer_sections past)) b.0)
-  closed_read past lawful =
-      let lock = found past in
-      ap (option_map closed_of) lock.1 ∙ ap Some (sym (all_tallied opening (caps_in opening) boots past lawful b lock.0 lock.1).closed)
-
-  -- and where they are those of the actions' sections, they are what these leave in its lock
-  pub items_acted : (past : List BufferEvent) (acts : BufferActs) → StartsWell opening → AreProper (sections_in acts)
-      → past ≡ map event_of (sections_in acts) → IsLawful (QueueAllowed (lock_kernel (cv_rules buffer_monitor_rules) opening)) past
-      → ItemsAre opening acts b (items_of (contents_of (caps_in opening) (effects_in (inner opening) (buffer_sections past))) b.0)
-      (slice_index (caps_in opening) b.0) (is_closed (effects_in (inner opening) (buffer_sections past)) b.0)
-  items_acted past acts starts proper past_is lawful =
-      let lock = found past in
-      let tally = all_tallied opening (caps_in opening) boots past lawful b lock.0 lock.1 in
-      record {
-        lock = lock.0;
-        there = sym (lock_is opening acts starts proper past past_is b) ∙ lock.1;
-        holds = tally.items;
-        may_hold = tally.capacity;
-        shut = tally.closed;
-      }
-
-  pub owner_read : (past : List BufferEvent) → option_map owner_of (buffer_lock_of opening past b) ≡ Some (owner_in (buffer_lock_of opening past b))
-  owner_read past =
-      let lock = found past in
-      ap (option_map owner_of) lock.1 ∙ ap (λ o. Some (owner_in o)) (sym lock.1)
-
-  pub wait_lists_read : (past : List BufferEvent)
-      → option_map wait_lists_of (buffer_lock_of opening past b) ≡ Some (λ (line : WaitList). wait_list_in line (buffer_lock_of opening past b))
-  wait_lists_read past =
-      let lock = found past in
-      ap (option_map wait_lists_of) lock.1 ∙ ap (λ o. Some (λ (line : WaitList). wait_list_in line o)) (sym lock.1)
-
--- what the conditions tell of a lock, the buffers tell of a view of it
-module _ {P Q : Type 0} (below : Q → P) (FitsP : P → Type 0) (FitsQ : Q → Type 0) (cpu_below : P → CpuId)
-    (IsInside : CpuId → Type 0) (fits : (q : Q) → FitsQ q → FitsP (below q)) where
-  pub lock_read : {A : Type 0} (lock : Option BufferLock) (view : BufferLock → A) (tells : P → Option BufferLock) (home : Option BufferLock) (x : A)
-      → option_map view lock ≡ Some x → IsObserved FitsP cpu_below IsInside tells home lock
-      → IsObservedAs FitsQ (λ q. cpu_below (below q)) IsInside (λ q. option_map view (tells (below q))) (option_map view home) x
-  lock_read lock view tells home x is shown =
-      observed_as FitsQ (λ q. cpu_below (below q)) IsInside (λ q. option_map view (tells (below q))) (option_map view home) (option_map view lock) x is
-      (viewed_shown view FitsQ (λ q. cpu_below (below q)) IsInside (λ q. tells (below q)) home lock (option_map view lock) refl
-      (shown_under below FitsP FitsQ cpu_below (λ q. cpu_below (below q)) IsInside IsInside tells home lock fits (λ q fit. refl) (λ c is. is) shown))
-
-  -- and of a pending queue what they tell
-  pub queue_read : (tells : P → Option (List Tid)) (home : Option (List Tid)) (queue : List Tid)
-      → IsObserved FitsP cpu_below IsInside tells home (Some queue)
-      → IsObservedAs FitsQ (λ q. cpu_below (below q)) IsInside (λ q. tells (below q)) home queue
-  queue_read tells home queue shown =
-      observed_as FitsQ (λ q. cpu_below (below q)) IsInside (λ q. tells (below q)) home (Some queue) queue refl
-      (shown_under below FitsP FitsQ cpu_below (λ q. cpu_below (below q)) IsInside IsInside tells home (Some queue) fits (λ q fit. refl) (λ c is. is)
-      shown)
-
--- each effect has its section's CPU, which is one that a machine may have
-pub effects_known : (O : LockId → Option BufferLock) (past : List BufferEvent) → IsLawful IsKnownEvent past
-    → AllByRecursion (λ (e : Entry). e.cpu.0 < CPUS) (effects_in O (buffer_sections past))
-effects_known O [] known = tt
-effects_known O (event ∷ past) known = go event.call (effects_known O past known.1)
-  where
-    more : (o : Option Entry) (es : List Entry) → ((e : Entry) → o ≡ Some e → e.cpu.0 < CPUS) → AllByRecursion (λ (e : Entry). e.cpu.0 < CPUS) es
-        → AllByRecursion (λ (e : Entry). e.cpu.0 < CPUS) (option_to_list o ++ es)
-    more None es of rest = rest
-    more (Some e) es of rest = (of e refl, rest)
-
-    go : (call : QueueCall (CvCall BufferEdit)) → AllByRecursion (λ (e : Entry). e.cpu.0 < CPUS) (effects_in O (buffer_sections past))
-        → AllByRecursion (λ (e : Entry). e.cpu.0 < CPUS) (effects_in O (with_section event.cpu call (buffer_sections past)))
-    go (Push d t) rest = rest
-    go (TakeAll d) rest = rest
-    go (OnBuffer d call) rest =
-        more (effect_of O (buffer_sections past) (section event.cpu (Buffer d) call)) (effects_in O (buffer_sections past))
-        (λ e is. subst (λ (cpu : CpuId). cpu.0 < CPUS)
-        (sym (effect_position event.cpu d call (λ side t. drawn O (Buffer d) side t (buffer_sections past))
-        (buffer_at O (buffer_sections past) (Buffer d)) e is).0)
-        known.0)
-        rest

@@ -114,7 +114,7 @@ impl<C: ThreadLayer<CvLaw<BufferEdit>>> BufferLayer for Fifo<C> {
     ghost use Rattle.layer_traits.specs.QueueBlocks.{inner};
     ghost use Rattle.layer_traits.specs.Queues.{buffer_sections, moves_in};
     ghost use Rattle.fifo_buffer.specs.FifoFits.{BootsSo, PartFits, caps_in};
-    ghost use Rattle.fifo_buffer.specs.FifoLaws.{fifo_lawful, fifo_wait_lists, none_under};
+    ghost use Rattle.fifo_buffer.specs.Laws.FifoLaws.{fifo_lawful, fifo_wait_lists, none_under};
     ghost use Rattle.fifo_buffer.specs.SectionPolls.{under_way_at};
 
     type Machine = C::Machine;
@@ -256,8 +256,9 @@ impl<C: OwnedConds<BufferEdit>> OwnedBuffers for Fifo<C> {
     ghost use Rattle.layer_traits.specs.QueueBlocks.{inner};
     ghost use Rattle.layer_traits.specs.Queues.{buffer_sections, moves_in};
     ghost use Rattle.fifo_buffer.specs.FifoFits.{caps_in};
-    ghost use Rattle.fifo_buffer.specs.OwnedLaws.{block_there, closed_of, closed_read, effects_known, items_acted, items_in, items_read, wait_lists_of};
-    ghost use Rattle.fifo_buffer.specs.OwnedLaws.{wait_lists_read, buffer_lock_of, lock_read, owner_of, owner_read, queue_read};
+    ghost use Rattle.fifo_buffer.specs.Laws.OwnedLaws.{block_there, closed_read, effects_known, items_acted, items_read};
+    ghost use Rattle.fifo_buffer.specs.Laws.OwnedLaws.{wait_lists_read, lock_read, owner_read, queue_read};
+    ghost use Rattle.fifo_buffer.specs.OwnedLaws.{closed_of, items_in, wait_lists_of, buffer_lock_of, owner_of};
 
     ghost owner = { λ m b. owner_in (buffer_lock_of (C.opening m) (C.seen m) b) };
 

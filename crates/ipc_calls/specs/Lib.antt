@@ -1,3 +1,3 @@
 pub mod Parts
-pub mod OpeningLaws
 pub mod PlaceLaws
+pub mod Laws

@@ -73,8 +73,8 @@ pub struct Ipc<B> {
 impl<B: BufferLayer> IpcLayer for Ipc<B> {
     ghost use Rattle.layer_traits.specs.BufferEffects.{opening_locks};
     ghost use Rattle.layer_traits.specs.QueueBlocks.{homes_in, inner};
+    ghost use Rattle.ipc_calls.specs.Laws.OpeningLaws.{opens_so};
     ghost use Rattle.ipc_calls.specs.Parts.{KeepsPlan};
-    ghost use Rattle.ipc_calls.specs.OpeningLaws.{opens_so};
 
     type Machine = B::Machine;
 
@@ -286,8 +286,8 @@ impl<B: OpensBuffers> Owned for Ipc<B> {
     ghost use Rattle.layer_traits.specs.BufferEffects.{contents_of};
     ghost use Rattle.layer_traits.specs.Places.{pending_by};
     ghost use Rattle.layer_traits.specs.QueueBlocks.{homes_in};
+    ghost use Rattle.ipc_calls.specs.Laws.PlaceLaws.{home_there, place_reads};
     ghost use Rattle.ipc_calls.specs.Parts.{IsSilentOf};
-    ghost use Rattle.ipc_calls.specs.PlaceLaws.{home_there, place_reads};
 
     ghost owner = { λ m b. B.owner m b };
 

@@ -7,15 +7,16 @@ use Rattle.event_log.specs.declared.events.Event.{Event}
 use Rattle.event_log.specs.declared.events.Event.TheVariants.{Draw, Look, Free}
 use Rattle.event_log.specs.declared.grants.GrantEvent.{GrantEvent}
 use Rattle.event_log.specs.Actions.{gives, takes}
-use Rattle.event_log.specs.Grants.{acts_of_grants, cpu_of_grant, grant_lock_phase, grant_word, tickets}
+use Rattle.event_log.specs.Grants.{WordFits, acts_of_grants, cpu_of_grant, grant_lock_phase, grant_word, tickets}
 use Rattle.event_log.specs.History.{AreOthers, Adds, same_cpu}
 use Rattle.event_log.specs.Sections.{block_after}
 use Rattle.event_log.specs.WordsLog.{IsLegalWords, Holding, Waiting, cpu_of_event, draws, frees, lock_phase}
-use Rattle.event_log.proofs.GrantWords.{WordFits, legal_grants, one_word, takes_grants, words_fit}
+use Rattle.event_log.proofs.GrantWords.{legal_grants, one_word, takes_grants, words_fit}
 use Rattle.event_log.proofs.Tickets.{gives_acts, takes_acts}
 use Rattle.layer_traits.specs.declared.edits.Mark.{Mark}
 use Rattle.layer_traits.specs.GrantProtocol.{grant_sections}
-use Rattle.layer_traits.specs.AsGrants.{acts_as_grants, as_grant, as_grants, sections_as_grants, stands_as_grants, grants_agree}
+use Rattle.layer_traits.specs.AsGrants.{as_grant, as_grants}
+use Rattle.layer_traits.specs.Laws.AsGrants.{acts_as_grants, sections_as_grants, stands_as_grants, grants_agree}
 use Rattle.layer_traits.specs.WordsProtocol.{sections}
 
 module _ {M : Type 0} where

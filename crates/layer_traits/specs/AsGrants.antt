@@ -1,24 +1,14 @@
 -- A words log, told as the log of grant words that says the same: each spot, try and give of the one is one of the other.
-use Rattle.std.proofs.Common.{◌≡◌, ℕ, ◌+◌, ◌%◌, ◌^◌, List, [], ◌∷◌, ◌==◌, if◌then◌else◌, refl, ap, sym, subst, ◌∙◌, Option, Some, None, MatchOption}
+use Rattle.std.specs.Prelude.{◌≡◌, ◌%◌, List, [], ◌∷◌}
 use Rattle.event_log.specs.declared.ids.CpuId.{CpuId}
-use Rattle.event_log.specs.declared.ids.LockId.{LockId}
 use Rattle.event_log.specs.declared.ids.TheConstants.{CPUS}
 use Rattle.event_log.specs.declared.events.Event.{Event}
 use Rattle.event_log.specs.declared.events.Event.TheVariants.{Draw, Look, Free}
 use Rattle.event_log.specs.declared.grants.GrantEvent.{GrantEvent}
 use Rattle.event_log.specs.declared.grants.GrantEvent.TheVariants.{Take, Peek, Give}
-use Rattle.event_log.specs.Actions.{Take as TakeSpot, Try as TryEntry, Give as GiveOn, acts_of, takes, gives, spot_of}
+use Rattle.event_log.specs.Actions.{acts_of}
 use Rattle.event_log.specs.Grants.{IsLegalGrants, acts_of_grants, grant_lock_phase, grant_word}
-use Rattle.event_log.specs.History.{IsLawful, same_cpu}
-use Rattle.event_log.specs.Sections.{Section, block_after, sections_in}
-use Rattle.event_log.specs.WordsLog.{IsLegalWords, MayFollow, Idle, Holding, Waiting, lock_phase}
-use Rattle.event_log.proofs.Foreign.{sections_acts}
-use Rattle.event_log.proofs.GrantWords.{legal_grants, takes_grants}
-use Rattle.event_log.proofs.Tickets.{legal_acts, takes_acts}
-use Rattle.layer_traits.specs.declared.edits.Mark.{Mark}
-use Rattle.layer_traits.specs.GrantProtocol.{GrantMayCome, SomeoneHasIt, grant_sections}
-use Rattle.layer_traits.specs.OneLock.{SomeoneInside}
-use Rattle.layer_traits.specs.WordsProtocol.{MayCome, KeepsProtocol, edit_of, sections, words_legal}
+use Rattle.event_log.specs.WordsLog.{lock_phase}
 
 -- an event after this told past: a Peek reads what the Gives before it left in its ticket's word
 abbrev pub as_grant : {M : Type 0} → Event M → List (GrantEvent M) → GrantEvent M
@@ -36,95 +26,3 @@ pub record GrantsAgree {M : Type 0} (log : List (Event M)) : Type 1 where
   pub legal : IsLegalGrants (as_grants log)
   pub stands : (c : CpuId) → grant_lock_phase c (as_grants log) ≡ lock_phase c log
   pub acts : {N : Type 0} (name : M → N) → acts_of_grants name (as_grants log) ≡ acts_of name log
-
-module _ {M : Type 0} where
-  abbrev same : M → M
-  same mark = mark
-
-  take_agrees : (cpu : CpuId) (lock : LockId) (ticket : ℕ) (past : List (Event M)) → MayFollow past (Draw cpu lock ticket) → GrantsAgree past
-      → GrantsAgree (Draw cpu lock ticket ∷ past)
-  take_agrees cpu lock ticket past may grants_agree = record {
-    legal = (
-      (
-        may.0,
-        grants_agree.stands cpu ∙ may.1,
-        may.2 ∙ ap (λ n. n % 2 ^ 64) (sym (takes_acts same lock past) ∙ (ap (takes lock) (sym (grants_agree.acts same))
-            ∙ takes_grants same lock (as_grants past))),
-      ),
-      grants_agree.legal,
-    );
-    stands = λ c. ap (λ s. if same_cpu cpu c then Waiting lock ticket else s) (grants_agree.stands c);
-    acts = λ name. ap (λ l. TakeSpot cpu lock ∷ l) (grants_agree.acts name);
-  }
-
-  -- a peek hits exactly where the look does: both say that the spot is served
-  hits_same : (cpu : CpuId) (lock : LockId) (ticket read : ℕ) (past : List (Event M)) → IsLegalWords (Look cpu lock ticket read ∷ past)
-      → (grants_agree : GrantsAgree past) → grant_lock_phase cpu (as_grants past) ≡ Waiting lock ticket
-      → (grant_word lock (ticket % CPUS) (as_grants past) == (ticket + 1) % 2 ^ 64) ≡ (read == ticket)
-  hits_same cpu lock ticket read past legal grants_agree waits =
-      let peeks = legal_grants same (Peek cpu lock ticket (grant_word lock (ticket % CPUS) (as_grants past)) ∷ as_grants past)
-      ((waits, refl), grants_agree.legal) in
-      let looks = legal_acts same (Look cpu lock ticket read ∷ past) legal in
-      peeks.0.1 ∙ (ap (λ l. gives lock l == spot_of cpu l) (grants_agree.acts same) ∙ sym looks.0.1)
-
-  peek_agrees : (cpu : CpuId) (lock : LockId) (ticket read : ℕ) (past : List (Event M)) → IsLegalWords (Look cpu lock ticket read ∷ past) → GrantsAgree past
-      → GrantsAgree (Look cpu lock ticket read ∷ past)
-  peek_agrees cpu lock ticket read past legal grants_agree =
-      let waits : grant_lock_phase cpu (as_grants past) ≡ Waiting lock ticket = grants_agree.stands cpu ∙ legal.0.0 in
-      let hits = hits_same cpu lock ticket read past legal grants_agree waits in
-      record {
-        legal = ((waits, refl), grants_agree.legal);
-        stands = λ c. ap (λ b. if same_cpu cpu c then (if b then Holding lock ticket else Waiting lock ticket) else grant_lock_phase c (as_grants past)) hits
-            ∙ ap (λ s. if same_cpu cpu c then (if read == ticket then Holding lock ticket else Waiting lock ticket) else s) (grants_agree.stands c);
-        acts = λ name. ap (λ b. TryEntry cpu lock b ∷ acts_of_grants name (as_grants past)) hits
-            ∙ ap (λ l. TryEntry cpu lock (read == ticket) ∷ l) (grants_agree.acts name);
-      }
-
-  give_agrees : (cpu : CpuId) (lock : LockId) (mark : M) (past : List (Event M)) → MayFollow past (Free cpu lock mark) → GrantsAgree past
-      → GrantsAgree (Free cpu lock mark ∷ past)
-  give_agrees cpu lock mark past may grants_agree = record {
-    legal = ((may.0, grants_agree.stands cpu ∙ may.1), grants_agree.legal);
-    stands = λ c. ap (λ s. if same_cpu cpu c then Idle else s) (grants_agree.stands c);
-    acts = λ name. ap (λ l. GiveOn cpu lock (name mark) ∷ l) (grants_agree.acts name);
-  }
-
-  pub grants_agree : (log : List (Event M)) → IsLegalWords log → GrantsAgree log
-  grants_agree [] legal = record { legal = tt; stands = λ c. refl; acts = λ name. refl }
-  grants_agree (Draw cpu lock ticket ∷ past) legal = take_agrees cpu lock ticket past legal.0 (grants_agree past legal.1)
-  grants_agree (Look cpu lock ticket read ∷ past) legal = peek_agrees cpu lock ticket read past legal (grants_agree past legal.1)
-  grants_agree (Free cpu lock mark ∷ past) legal = give_agrees cpu lock mark past legal.0 (grants_agree past legal.1)
-
-  -- the told log leaves each CPU where the other log does
-  pub stands_as_grants : (log : List (Event M)) → IsLegalWords log → (c : CpuId) → grant_lock_phase c (as_grants log) ≡ lock_phase c log
-  stands_as_grants log legal c = (grants_agree log legal).stands c
-
-  -- and has the same actions
-  pub acts_as_grants : {N : Type 0} (name : M → N) (log : List (Event M)) → IsLegalWords log → acts_of_grants name (as_grants log) ≡ acts_of name log
-  acts_as_grants name log legal = (grants_agree log legal).acts name
-
--- and the same sections
-pub sections_as_grants : {E : Type 0} (log : List (Event (Mark E))) → IsLegalWords log → grant_sections (as_grants log) ≡ sections log
-sections_as_grants log legal = ap sections_in (acts_as_grants edit_of log legal) ∙ sections_acts edit_of log
-
-module _ {E : Type 0} (Allowed : List (Section E) → Section E → Type 0) where
-  keeps_as_grants : (e : Event (Mark E)) (past : List (Event (Mark E))) → IsLegalWords past → KeepsProtocol Allowed past e
-      → IsLawful (GrantMayCome Allowed) (as_grants past) → IsLegalGrants (as_grants (e ∷ past)) → IsLawful (GrantMayCome Allowed) (as_grants (e ∷ past))
-  keeps_as_grants (Draw cpu lock ticket) past legal keeps before told = ((told.0, tt), before)
-  keeps_as_grants (Look cpu lock ticket read) past legal keeps before told = ((told.0, tt), before)
-  keeps_as_grants (Free cpu lock mark) past legal keeps before told =
-      ((told.0, subst (λ l. Allowed l (record { cpu = cpu; lock = lock; edit = mark.edit })) (sym (sections_as_grants past legal)) keeps), before)
-
-  -- where each event of the log may come, so may each of the told one
-  pub as_grants_come : (log : List (Event (Mark E))) → IsLawful (MayCome Allowed) log → IsLawful (GrantMayCome Allowed) (as_grants log)
-  as_grants_come [] lawful = tt
-  as_grants_come (e ∷ past) lawful =
-      let legal : IsLegalWords past = words_legal Allowed past lawful.1 in
-      keeps_as_grants e past legal lawful.0.1 (as_grants_come past lawful.1) (grants_agree (e ∷ past) (lawful.0.0, legal)).legal
-
--- what is told of a home in terms of the one log holds in terms of the other
-pub home_as_grants : {E B : Type 0} (edited : E → B → B) (opening : LockId → Option B) (log : List (Event (Mark E))) → IsLegalWords log → (lock : LockId)
-    (home : Option B)
-    → MatchOption home (SomeoneInside lock log) (λ block. block_after edited opening lock (sections log) ≡ Some block)
-    → MatchOption home (SomeoneHasIt lock (as_grants log)) (λ block. block_after edited opening lock (grant_sections (as_grants log)) ≡ Some block)
-home_as_grants edited opening log legal lock None inside = (inside.0, inside.1, stands_as_grants log legal inside.0 ∙ inside.2)
-home_as_grants edited opening log legal lock (Some block) is = ap (block_after edited opening lock) (sections_as_grants log legal) ∙ is

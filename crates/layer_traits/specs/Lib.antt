@@ -36,3 +36,4 @@ pub mod Openings
 pub mod EffectRuns
 pub mod Capacities
 pub mod Payloads
+pub mod Laws

@@ -18,7 +18,8 @@ use std::alloc::Global;
 pub trait UsesGrantWords: Words {}
 
 impl<W: UsesGrantWords> GrantWords for W {
-    ghost use Rattle.layer_traits.specs.AsGrants.{as_grants, as_grants_come};
+    ghost use Rattle.layer_traits.specs.AsGrants.{as_grants};
+    ghost use Rattle.layer_traits.specs.Laws.AsGrants.{as_grants_come};
 
     type Edit = W::Edit;
 
@@ -61,7 +62,7 @@ impl<W: UsesGrantWords> GrantWords for W {
 
 impl<W: OwnedWords + UsesGrantWords> OwnedGrantWords for W {
     ghost use Rattle.event_log.specs.declared.ids.TheConstants.{CPUS};
-    ghost use Rattle.layer_traits.specs.AsGrants.{home_as_grants};
+    ghost use Rattle.layer_traits.specs.Laws.AsGrants.{home_as_grants};
     ghost use Rattle.layer_traits.specs.OneLock.{AreDistinct, opened};
     ghost use Rattle.layer_traits.specs.WordsProtocol.{words_legal};
 

@@ -33,7 +33,8 @@ use Rattle.plain_layers.specs.declared.attempts.Tried.TheVariants.{Acted, Refuse
 use Rattle.plain_layers.specs.Attempts.{PlainState, allows, effect_at, effect_in, wait_list_by, told}
 use Rattle.plain_layers.specs.Fifos.{ask_of, attempt_of, effect_by, locked_after, reply_to, call_state_after}
 use Rattle.event_log.specs.declared.entries.Entry.{Entry}
-use Rattle.plain_layers.specs.FifoTallies.{FifoTally, kind_asked, plain_tally, reported_if}
+use Rattle.plain_layers.specs.FifoTallies.{FifoTally, reported_if}
+use Rattle.plain_layers.specs.Laws.FifoTallies.{kind_asked, plain_tally}
 use Rattle.plain_layers.specs.Wholes.{IsDoneWhole, asked}
 use Rattle.event_log.specs.declared.ids.BufId.{BufId}
 use Rattle.event_log.specs.declared.ids.CpuId.{CpuId}

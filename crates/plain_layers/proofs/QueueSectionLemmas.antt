@@ -30,7 +30,8 @@ use Rattle.layer_traits.proofs.CallLemmas.{moves_append, moves_lawful, moves_oth
 use Rattle.layer_traits.proofs.CountLemmas.{is_cpu_true}
 use Rattle.layer_traits.proofs.PlaceLemmas.{others_keep, is_hand_true, is_home_true}
 use Rattle.plain_layers.proofs.WholeLemmas.{no_foreign_events}
-use Rattle.plain_layers.specs.Naps.{waiters_of, nap_answer, nap_edited, nap_moves, nap_rules, naps_wake_sleepers}
+use Rattle.plain_layers.specs.Laws.Naps.{naps_wake_sleepers}
+use Rattle.plain_layers.specs.Naps.{waiters_of, nap_answer, nap_edited, nap_moves, nap_rules}
 use Rattle.plain_layers.specs.QueueSections.{buffer_zero, cpu_one, cpu_zero, thread_one, thread_zero}
 
 module _ {E B O : Type 0} (rules : Rules E B O) (mv : MoveRules E O) (opening : LockId → Option (QueueBlock B)) (wakes : WakesSleepers rules mv)

@@ -1,14 +1,13 @@
 pub mod Tables
 pub mod Kernels
 pub mod KernelParts
-pub mod ShownLaws
 pub mod Attempts
 pub mod Wholes
 pub mod Fifos
-pub mod FifoLaws
 pub mod FifoOwned
 pub mod FifoTallies
 pub mod Naps
 pub mod QueueSections
 pub mod LockSections
 pub mod CondSections
+pub mod Laws

@@ -104,8 +104,8 @@ fn reply(call: &Call, effect: &Option<Effect>) -> Option<Reply>
 impl<S: ThreadLayer<SleepLaw<Attempt>>> BufferLayer for PlainFifo<S> {
     ghost use Rattle.std.specs.Prelude.{◌/◌, length, refl};
     ghost use Rattle.layer_traits.specs.IpcLaw.{WaitListsAgree};
-    ghost use Rattle.plain_layers.specs.FifoLaws.{plain_wait_lists};
-    ghost use Rattle.plain_layers.specs.FifoTallies.{plain_lawful};
+    ghost use Rattle.plain_layers.specs.Laws.FifoLaws.{plain_wait_lists};
+    ghost use Rattle.plain_layers.specs.Laws.FifoTallies.{plain_lawful};
     ghost use Rattle.std.proofs.Common.{subst, sym};
     ghost use Rattle.layer_traits.proofs.KernelRenaming.{homes_viewed, starts_viewed};
     ghost use Rattle.layer_traits.specs.Places.{AreMoves, Stands};
@@ -255,8 +255,9 @@ impl<S: OwnedSleeps<Attempt>> OwnedBuffers for PlainFifo<S> {
     ghost use Rattle.layer_traits.specs.SleepLaw.{sleep_kernel};
     ghost use Rattle.plain_layers.specs.Attempts.{attempts};
     ghost use Rattle.plain_layers.specs.Fifos.{caps_in, entries_in, wait_lists_in, locked_after, shown};
-    ghost use Rattle.plain_layers.specs.FifoOwned.{buffer_there, closed_of, closed_read, entries_known, items_in, items_read, wait_lists_of, wait_lists_read};
-    ghost use Rattle.plain_layers.specs.FifoOwned.{nobody, nobody_owns, nothing_read, pending_read, there_viewed, view_read};
+    ghost use Rattle.plain_layers.specs.FifoOwned.{closed_of, items_in, wait_lists_of, nobody, nothing_read};
+    ghost use Rattle.plain_layers.specs.Laws.FifoOwned.{buffer_there, closed_read, entries_known, items_read, wait_lists_read};
+    ghost use Rattle.plain_layers.specs.Laws.FifoOwned.{nobody_owns, pending_read, there_viewed, view_read};
 
     ghost owner = { λ m b. nobody };
 

@@ -102,7 +102,7 @@ impl<E: Edit> Layer<LockLaw<E>> for PlainLock<E> {
 
 impl<E: Edit> OwnedLocks<E> for PlainLock<E> {
     ghost use Rattle.layer_traits.specs.OneLock.{AreDistinct, opened};
-    ghost use Rattle.plain_layers.specs.ShownLaws.{table_shown};
+    ghost use Rattle.plain_layers.specs.Laws.ShownLaws.{table_shown};
     ghost use Rattle.plain_layers.specs.Tables.{opening_in, sections_noted};
     ghost use Rattle.std.specs.Prelude.{◌<◌, IfOk};
     ghost use Rattle.event_log.specs.declared.ids.TheConstants.{CPUS};

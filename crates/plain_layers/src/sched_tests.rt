@@ -59,7 +59,8 @@ impl Edit for Nap {
 }
 
 impl Moves for Nap {
-    ghost use Rattle.plain_layers.specs.Naps.{nap_moves, naps_wake_sleepers};
+    ghost use Rattle.plain_layers.specs.Laws.Naps.{naps_wake_sleepers};
+    ghost use Rattle.plain_layers.specs.Naps.{nap_moves};
 
     ghost moves = { nap_moves (λ e. e.by) };
 

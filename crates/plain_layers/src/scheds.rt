@@ -143,7 +143,7 @@ impl<E: Moves> SchedLayer<E> for PlainSched<E> {
 impl<E: Moves> OwnedScheds<E> for PlainSched<E> {
     ghost use Rattle.std.specs.Prelude.{slice_get};
     ghost use Rattle.plain_layers.specs.Kernels.{calls_in};
-    ghost use Rattle.plain_layers.specs.ShownLaws.{block_shown, queue_shown};
+    ghost use Rattle.plain_layers.specs.Laws.ShownLaws.{block_shown, queue_shown};
 
     ghost block_at = { λ m b. slice_get m.lists.buffers.items b.0 };
 

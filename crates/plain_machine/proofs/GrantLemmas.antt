@@ -4,8 +4,8 @@ use Rattle.std.proofs.Common.{if◌then◌else◌, length, slice_index, slice_se
 use Rattle.std.proofs.lemmas.Bool.{eqb-true, eqb-false}
 use Rattle.std.proofs.lemmas.List.{get_or-set_same, get_or-set_other}
 use Rattle.event_log.specs.declared.ids.TheConstants.{CPUS}
-use Rattle.event_log.specs.Grants.{after_give}
-use Rattle.event_log.proofs.GrantWords.{WordFits, fits_after}
+use Rattle.event_log.specs.Grants.{WordFits, after_give}
+use Rattle.event_log.proofs.GrantWords.{fits_after}
 
 next_word : (served : ℕ) → (served + 1) % 2 ^ 64 % CPUS ≡ (served + 1) % CPUS
 next_word served = omega arith

@@ -1,7 +1,7 @@
 -- What the words of a lock are after so many spots taken, and given on so often.
 use Rattle.std.specs.Prelude.{◌≡◌, ℕ, ◌%◌, ◌^◌, ◌<◌, length, slice_index}
 use Rattle.event_log.specs.declared.ids.TheConstants.{CPUS}
-use Rattle.event_log.proofs.GrantWords.{WordFits}
+use Rattle.event_log.specs.Grants.{WordFits}
 use Rattle.plain_machine.specs.declared.line_words.LockWords.{LockWords}
 use Rattle.plain_machine.specs.declared.line_words.Granting.{Granting}
 

@@ -1,4 +1,4 @@
 pub mod Table
 pub mod Fits
 pub mod Machine
-pub mod HomeLaws
+pub mod Laws

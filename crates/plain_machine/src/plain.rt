@@ -164,7 +164,7 @@ impl<E: Edit, K: LineWords> Words for Plain<E, K> {
 impl<E: Edit, K: LineWords> OwnedWords for Plain<E, K> {
     ghost use Rattle.event_log.specs.declared.ids.TheConstants.{CPUS};
     ghost use Rattle.layer_traits.specs.OneLock.{AreDistinct, opened};
-    ghost use Rattle.plain_machine.specs.HomeLaws.{home_reads};
+    ghost use Rattle.plain_machine.specs.Laws.HomeLaws.{home_reads};
     ghost use Rattle.plain_machine.specs.Machine.{history};
     ghost use Rattle.plain_machine.specs.Table.{home_at};
 

@@ -29,9 +29,10 @@ use Rattle.layer_traits.proofs.PlaceLemmas.{current_at}
 use Rattle.thread_blocks.specs.Queues.{is_in}
 use Rattle.queuing_lock.specs.declared.edits.QBlock.{QBlock}
 use Rattle.queuing_lock.specs.declared.edits.QLockEdit.{QLockEdit}
+use Rattle.queuing_lock.specs.Laws.NestedLaws.{beneath, here, inner_locks, locks_wrap}
+use Rattle.queuing_lock.specs.Laws.Steady.{keeps_nothing, keeps_owned, preserved_by_others}
 use Rattle.queuing_lock.specs.Nested.{as_section, edit_in, nested_lock_of}
-use Rattle.queuing_lock.specs.NestedLaws.{beneath, here, inner_locks, locks_wrap}
-use Rattle.queuing_lock.specs.Steady.{HasNothing, IsPreserved, IsOwner, keeps_nothing, keeps_owned, preserved_by_others}
+use Rattle.queuing_lock.specs.Steady.{HasNothing, IsPreserved, IsOwner}
 
 module _ {F R B O : Type 0} (rules : LockRules F R B O) (opening : LockId → Option (QueueBlock (LockState B))) where
   -- who runs sleeps for no lock

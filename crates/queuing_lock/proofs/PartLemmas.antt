@@ -39,8 +39,8 @@ use Rattle.layer_traits.proofs.PlaceLemmas.{current_at}
 use Rattle.layer_traits.proofs.SleepRenaming.{pass_plan_renamed, sleep_plan_renamed, sleeps_renamed}
 use Rattle.queuing_lock.specs.declared.edits.QBlock.{QBlock}
 use Rattle.queuing_lock.specs.declared.edits.QLockEdit.{QLockEdit}
+use Rattle.queuing_lock.specs.Laws.NestedLaws.{beneath, here, locks_lawful, locks_lists, locks_moves_legal, locks_stand, locks_wrap}
 use Rattle.queuing_lock.specs.Nested.{as_section, busy_rules, edit_in, nested_lock_of}
-use Rattle.queuing_lock.specs.NestedLaws.{beneath, here, locks_lawful, locks_lists, locks_moves_legal, locks_stand, locks_wrap}
 use Rattle.queuing_lock.specs.Parts.{DeferredFits, SleptFits, slept_left_by}
 use Rattle.queuing_lock.proofs.DeferredLemmas.{DeferredIn, asks_none, deferred_result, deferred_goes, may_beneath}
 use Rattle.queuing_lock.proofs.OwnerLemmas.{locks_may, runs_awake}

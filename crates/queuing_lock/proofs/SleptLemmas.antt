@@ -15,8 +15,8 @@ use Rattle.layer_traits.specs.Locking.{LockRules, LockState, lock_caller}
 use Rattle.layer_traits.specs.LockLaw.{HasOrAwaits, lock_kernel, slept_for}
 use Rattle.layer_traits.specs.Queues.{QueueAllowed, cpu_of_queue_event}
 use Rattle.layer_traits.specs.SleepLaw.{PollResult, Waits, Does, Sends, seen_with}
+use Rattle.queuing_lock.specs.Laws.Steady.{keeps_awaits, preserved_by, preserved_by_others}
 use Rattle.queuing_lock.specs.Parts.{SleptFits, SleptOne}
-use Rattle.queuing_lock.specs.Steady.{keeps_awaits, preserved_by, preserved_by_others}
 
 -- what stands in a list in which one was set stands there because it was set, or stood there before
 pub set_reads : {A : Type 0} (xs : List (Option A)) (i j : ℕ) (v : Option A) (a : A) → slice_index_or (slice_set xs i v) j None ≡ Some a

@@ -1,6 +1,4 @@
 pub mod Nested
 pub mod Parts
-pub mod Edits
-pub mod NestedLaws
 pub mod Steady
-pub mod OwnedLaws
+pub mod Laws

@@ -1,29 +1,14 @@
--- What calls of other CPUs leave as it is: whether a thread owns a lock or sleeps for it, or neither.
-use Rattle.std.proofs.Common.{◌≡◌, ◌≢◌, ◌⊎◌, inl, inr, Bool, ◌&&◌, ◌||◌, not, nat_lt, true, false, List, [], ◌∷◌, ◌++◌, Option, Some, None, option_map}
-use Rattle.std.proofs.Common.{if◌then◌else◌, refl, ap, sym, ◌∙◌, subst}
-use Rattle.event_log.specs.declared.ids.BufId.{BufId}
+-- What is true of a lock and stays so while other threads call.
+use Rattle.std.specs.Prelude.{◌≡◌, ◌≢◌, false, Option, Some, None}
 use Rattle.event_log.specs.declared.ids.CpuId.{CpuId}
 use Rattle.event_log.specs.declared.ids.LockId.{LockId}
-use Rattle.event_log.specs.declared.ids.LockId.TheVariants.{Buffer}
 use Rattle.event_log.specs.declared.ids.Tid.{Tid}
-use Rattle.event_log.specs.declared.ids.TheConstants.{THREADS}
-use Rattle.event_log.specs.History.{AreOthers, IsLawful, same_cpu, same_lock}
-use Rattle.event_log.proofs.Same.{same_cpu_self, same_lock_true}
 use Rattle.layer_traits.specs.declared.locked.QEdit.{QEdit}
-use Rattle.layer_traits.specs.declared.locked.QEdit.TheVariants.{Acquire, Inside, Release}
 use Rattle.layer_traits.specs.declared.queue_edits.QueueBlock.{QueueBlock}
-use Rattle.layer_traits.specs.declared.queues.QueueCall.{QueueCall}
-use Rattle.layer_traits.specs.declared.queues.QueueCall.TheVariants.{Push, TakeAll, OnBuffer}
-use Rattle.layer_traits.specs.declared.queues.QueueEvent.{QueueEvent}
-use Rattle.layer_traits.specs.Locking.{IsOwners, LockRules, LockState, lock_after, asked, lock_caller, lock_edited, owner_in}
-use Rattle.layer_traits.specs.LockLaw.{HasOrAwaits, lock_kernel}
+use Rattle.layer_traits.specs.Locking.{IsOwners, LockRules, LockState, lock_caller, lock_edited, owner_in}
 use Rattle.layer_traits.specs.Places.{home_of}
-use Rattle.layer_traits.specs.QueueBlocks.{homes_in, inner}
-use Rattle.layer_traits.specs.Queues.{CallAllowed, QueueAllowed, buffer_sections, cpu_of_queue_event, with_section}
-use Rattle.thread_blocks.specs.Queues.{first, is_in, rest, same_tid}
-use Rattle.thread_blocks.proofs.Distinct.{out_of_rest, pushed_in}
-use Rattle.thread_blocks.proofs.Members.{same_tid_true}
-use Rattle.layer_traits.specs.Sleeping.{joined}
+use Rattle.layer_traits.specs.QueueBlocks.{homes_in}
+use Rattle.thread_blocks.specs.Queues.{is_in}
 
 -- what is true of a lock stays so by each call of the owner that another thread makes
 abbrev pub Keeps : {F R B O : Type 0} → LockRules F R B O → Tid → (Option (LockState B) → Type 0) → Type 0
@@ -39,49 +24,6 @@ pub record IsPreserved {F R B O : Type 0} (rules : LockRules F R B O) (opening :
   pub at_home : home_of (homes_in opening) t ≡ Some c
   pub lock : LockId
 
-module _ {F R B O : Type 0} (rules : LockRules F R B O) (opening : LockId → Option (QueueBlock (LockState B))) (kept : IsPreserved rules opening) where
-  open kept use {t, P, keeps, c, at_home, lock}
-
-  preserved_section : (b : BufId) (e : QEdit F R) (before at : Option (LockState B)) → (lock ≡ Buffer b → before ≡ at) → IsOwners rules e (owner_in at)
-      → (lock_caller rules e ≡ t → ⊥)
-      → (same : Bool) → same_lock lock (Buffer b) ≡ same → P before → P (if same then option_map (lock_edited rules e) before else before)
-  preserved_section b e before at same_block owners apart false other holds = holds
-  preserved_section b e None at same_block owners apart true here holds = holds
-  preserved_section b e (Some state) at same_block owners apart true here holds =
-      keeps e state (subst (λ o. IsOwners rules e (owner_in o)) (sym (same_block (same_lock_true lock (Buffer b) here))) owners) apart holds
-
-  -- by a call of another thread
-  pub preserved_by : (past : List (QueueEvent (QEdit F R))) (d : CpuId) (b : BufId) (e : QEdit F R)
-      → IsOwners rules e (owner_in (lock_after rules (inner opening) (Buffer b) (buffer_sections past)))
-      → (lock_caller rules e ≡ t → ⊥) → P (lock_after rules (inner opening) lock (buffer_sections past))
-      → P (lock_after rules (inner opening) lock (with_section d (OnBuffer b e) (buffer_sections past)))
-  preserved_by past d b e owners apart holds =
-      preserved_section b e (lock_after rules (inner opening) lock (buffer_sections past)) (lock_after rules (inner opening) (Buffer b) (buffer_sections past))
-      (λ is. ap (λ l. lock_after rules (inner opening) l (buffer_sections past)) is) owners apart (same_lock lock (Buffer b)) refl holds
-
-  other_caller : (d : CpuId) (u : Tid) → same_cpu d c ≡ false → home_of (homes_in opening) u ≡ Some d → u ≡ t → ⊥
-  other_caller d u differs home is =
-      let same : Some d ≡ Some c = sym home ∙ (ap (home_of (homes_in opening)) is ∙ at_home) in
-      let one : d ≡ c = cc in
-      let clash : true ≡ false = sym (same_cpu_self c) ∙ subst (λ x. same_cpu x c ≡ false) one differs in
-      absurd cc
-
-  preserved_call : (past : List (QueueEvent (QEdit F R))) (d : CpuId) (q : QueueCall (QEdit F R)) → CallAllowed (lock_kernel rules opening) past d q
-      → same_cpu d c ≡ false
-      → P (lock_after rules (inner opening) lock (buffer_sections past)) → P (lock_after rules (inner opening) lock (with_section d q (buffer_sections past)))
-  preserved_call past d (Push to u) allowed differs holds = holds
-  preserved_call past d (TakeAll from) allowed differs holds = holds
-  preserved_call past d (OnBuffer b e) allowed differs holds =
-      preserved_by past d b e allowed.upper.owners (other_caller d (lock_caller rules e) differs allowed.caller.home) holds
-
-  -- and by calls of other CPUs than the thread's home
-  pub preserved_by_others : (more past : List (QueueEvent (QEdit F R))) → AreOthers cpu_of_queue_event c more
-      → IsLawful (QueueAllowed (lock_kernel rules opening)) (more ++ past)
-      → P (lock_after rules (inner opening) lock (buffer_sections past)) → P (lock_after rules (inner opening) lock (buffer_sections (more ++ past)))
-  preserved_by_others [] past others lawful holds = holds
-  preserved_by_others (e ∷ more) past others lawful holds =
-      preserved_call (more ++ past) e.cpu e.call lawful.0 others.0 (preserved_by_others more past others.1 lawful.1 holds)
-
 module _ {F R B O : Type 0} (rules : LockRules F R B O) (t : Tid) where
   -- the thread has no part in a lock: it neither owns it nor sleeps for it
   abbrev pub HasNothing : Option (LockState B) → Type 0
@@ -91,81 +33,3 @@ module _ {F R B O : Type 0} (rules : LockRules F R B O) (t : Tid) where
   -- the thread owns a lock
   abbrev pub IsOwner : Option (LockState B) → Type 0
   IsOwner o = owner_in o ≡ Some t
-
--- Lists of sleepers.
-
-joined_keeps : (t u : Tid) (queue : List Tid) → is_in t queue ≡ true → is_in t (joined u queue) ≡ true
-joined_keeps t u queue stands = go (nat_lt u.0 THREADS && not (is_in u queue))
-  where
-    go : (b : Bool) → is_in t (if b then queue ++ u ∷ [] else queue) ≡ true
-    go false = stands
-    go true = pushed_in t u queue ∙ ap (λ b. b || (same_tid t u || false)) stands
-
-joined_only : (t u : Tid) (queue : List Tid) → (u ≡ t → ⊥) → is_in t queue ≡ false → is_in t (joined u queue) ≡ false
-joined_only t u queue apart missing = go (nat_lt u.0 THREADS && not (is_in u queue))
-  where
-    differs : (b : Bool) → same_tid t u ≡ b → (b || false) ≡ false
-    differs false is = refl
-    differs true is = absurd (apart (sym (same_tid_true t u is)))
-
-    go : (b : Bool) → is_in t (if b then queue ++ u ∷ [] else queue) ≡ false
-    go false = missing
-    go true = pushed_in t u queue ∙ (ap (λ b. b || (same_tid t u || false)) missing ∙ differs (same_tid t u) refl)
-
--- who stands in a queue is its first or stands behind
-front_or_behind : (t : Tid) (queue : List Tid) → is_in t queue ≡ true → (first queue ≡ Some t) ⊎ (is_in t (rest queue) ≡ true)
-front_or_behind t [] stands = absurd cc
-front_or_behind t (x ∷ queue) stands = go (same_tid t x) refl stands
-  where
-    go : (b : Bool) → same_tid t x ≡ b → (b || is_in t queue) ≡ true → (Some x ≡ Some t) ⊎ (is_in t queue ≡ true)
-    go true is stands = inl (ap Some (sym (same_tid_true t x is)))
-    go false is stands = inr stands
-
--- The three that stay.
-
-module _ {F R B O : Type 0} (rules : LockRules F R B O) (t : Tid) where
-  asked_awaits : (u : Tid) (owner : Option Tid) (state : LockState B) → (owner ≡ Some t) ⊎ (is_in t state.sleepers ≡ true)
-      → HasOrAwaits t (Some (asked u owner state))
-  asked_awaits u None state (inl owns) = absurd cc
-  asked_awaits u None state (inr waits) = inr waits
-  asked_awaits u (Some o) state (inl owns) = inl owns
-  asked_awaits u (Some o) state (inr waits) = inr (joined_keeps t u state.sleepers waits)
-
-  released_awaits : (r : R) (state : LockState B) → state.owner ≡ Some (rules.last_caller r) → (rules.last_caller r ≡ t → ⊥)
-      → (state.owner ≡ Some t) ⊎ (is_in t state.sleepers ≡ true)
-      → HasOrAwaits t (Some (lock_edited rules (Release r) state))
-  released_awaits r state owner apart (inl owns) =
-      let same : Some (rules.last_caller r) ≡ Some t = sym owner ∙ owns in
-      let one : rules.last_caller r ≡ t = cc in
-      absurd (apart one)
-  released_awaits r state owner apart (inr waits) = front_or_behind t state.sleepers waits
-
-  -- whoever owns a lock or sleeps for it goes on to do so while others call
-  pub keeps_awaits : Keeps rules t (HasOrAwaits t)
-  keeps_awaits (Acquire u) state owners apart holds = asked_awaits u state.owner state holds
-  keeps_awaits (Inside f) state owners apart holds = holds
-  keeps_awaits (Release r) state owners apart holds = released_awaits r state owners apart holds
-
-  asked_nothing : (u : Tid) (owner : Option Tid) (state : LockState B) → (u ≡ t → ⊥) → (owner ≢ Some t) × (is_in t state.sleepers ≡ false)
-      → HasNothing rules t (Some (asked u owner state))
-  asked_nothing u None state apart nothing = (λ same. let one : u ≡ t = cc in apart one, nothing.1)
-  asked_nothing u (Some o) state apart nothing = (nothing.0, joined_only t u state.sleepers apart nothing.1)
-
-  -- whoever has no part in a lock goes on to have none
-  pub keeps_nothing : Keeps rules t (HasNothing rules t)
-  keeps_nothing (Acquire u) state owners apart holds = asked_nothing u state.owner state apart holds
-  keeps_nothing (Inside f) state owners apart holds = holds
-  keeps_nothing (Release r) state owners apart holds = out_of_rest t state.sleepers holds.1
-
-  asked_owned : (u : Tid) (owner : Option Tid) (state : LockState B) → owner ≡ Some t → owner_in (Some (asked u owner state)) ≡ Some t
-  asked_owned u None state owns = absurd cc
-  asked_owned u (Some o) state owns = owns
-
-  -- and an owner owns it until it releases it
-  pub keeps_owned : Keeps rules t (IsOwner rules t)
-  keeps_owned (Acquire u) state owners apart holds = asked_owned u state.owner state holds
-  keeps_owned (Inside f) state owners apart holds = holds
-  keeps_owned (Release r) state owners apart holds =
-      let same : Some (rules.last_caller r) ≡ Some t = sym owners ∙ holds in
-      let one : rules.last_caller r ≡ t = cc in
-      absurd (apart one)

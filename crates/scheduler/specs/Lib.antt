@@ -1,2 +1,3 @@
 pub mod Owns
 pub mod Parts
+pub mod Laws

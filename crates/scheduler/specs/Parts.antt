@@ -1,12 +1,10 @@
 -- A CPU's part of a scheduler: which scheduler's call is under way by the call at the shared queues, and how the part agrees with the
 -- machine.
-use Rattle.std.specs.Prelude.{◌≡◌, Bool, List, Option, Some, None, IsSome, is_some}
-use Rattle.std.proofs.Common.{refl, ap, ◌∙◌}
+use Rattle.std.specs.Prelude.{◌≡◌, List, Option, Some, None, IsSome}
 use Rattle.event_log.specs.declared.ids.CpuId.{CpuId}
 use Rattle.event_log.specs.declared.ids.LockId.{LockId}
 use Rattle.event_log.specs.declared.ids.LockId.TheVariants.{Pending}
 use Rattle.event_log.specs.declared.ids.Tid.{Tid}
-use Rattle.event_log.specs.Actions.{Action, phase}
 use Rattle.layer_traits.specs.declared.passes.Pass.TheVariants.{YieldNow, Drain, MakeReady}
 use Rattle.layer_traits.specs.declared.queue_edits.QueueBlock.{QueueBlock}
 use Rattle.layer_traits.specs.declared.queues.QueueCall.{QueueCall}
@@ -16,7 +14,6 @@ use Rattle.layer_traits.specs.declared.scheds.SchedCall.{SchedCall}
 use Rattle.layer_traits.specs.declared.scheds.SchedCall.TheVariants as call
 use Rattle.layer_traits.specs.MoveRules.{MoveRules}
 use Rattle.layer_traits.specs.Places.{Threads, Stands}
-use Rattle.layer_traits.specs.Plans.{is_in_section}
 use Rattle.layer_traits.specs.Protocol.{Rules}
 use Rattle.layer_traits.specs.QueueBlocks.{homes_in}
 use Rattle.layer_traits.specs.Queues.{kernel, moves_in}
@@ -55,18 +52,3 @@ pub record PartFits {E B O : Type 0} (rules : Rules E B O) (mv : MoveRules E O) 
   pub queue : IsSome (opening (Pending c))
   pub stands : Stands (homes_in opening) c (moves_in (kernel rules mv opening) past) own
   pub calls : UnderFits mv (homes_in opening) c under own
-
--- a call is under way exactly where one is at the shared queues
-pub under_is_some : {E : Type 0} (under : Option (QueueEvent E)) (current : Option Tid) → is_some (sched_under under current) ≡ is_some under
-under_is_some None current = refl
-under_is_some (Some e) current = refl
-
--- so none is where none is there
-pub none_under : {E : Type 0} (under : Option (QueueEvent E)) (current : Option Tid) → sched_under under current ≡ None → under ≡ None
-none_under None current none = refl
-none_under (Some e) current none = absurd (cc none)
-
--- if a poll is one action, a part is inside exactly while this CPU waits at a lock or holds one
-pub busy_under : {N : Type 0} (acts : List (Action N)) (inside : Bool) (c below : CpuId) → below ≡ c
-    → inside ≡ is_in_section (phase below acts) → inside ≡ is_in_section (phase c acts)
-busy_under acts inside c below is busy = busy ∙ ap (λ d. is_in_section (phase d acts)) is

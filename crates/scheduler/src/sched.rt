@@ -24,7 +24,8 @@ pub struct Sched<Q> {
 
 impl<E: Moves, Q: Layer<QueueLaw<E>>> Layer<SchedLaw<E>> for Sched<Q> {
     ghost use Rattle.std.proofs.Common.{◌∙◌, subst, sym};
-    ghost use Rattle.scheduler.specs.Parts.{PartFits, busy_under, none_under, sched_under, under_is_some};
+    ghost use Rattle.scheduler.specs.Laws.Parts.{busy_under, none_under, under_is_some};
+    ghost use Rattle.scheduler.specs.Parts.{PartFits, sched_under};
 
     type Machine = Q::Machine;
 

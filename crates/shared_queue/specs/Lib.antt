@@ -1,3 +1,3 @@
-pub mod SharedLaws
 pub mod Opening
 pub mod OwnedLaws
+pub mod Laws

@@ -39,7 +39,7 @@ impl<E: Moves, L: Layer<LockLaw<QueueEdit<E>>>> Layer<QueueLaw<E>> for SharedQue
     ghost use Rattle.layer_traits.specs.QueueRules.{AreProper, IsProperCall};
     ghost use Rattle.layer_traits.specs.Queues.{event_of};
     ghost use Rattle.layer_traits.proofs.NestedLemmas.{known_events, lawful_events, lawful_proper};
-    ghost use Rattle.shared_queue.specs.SharedLaws.{none_beneath, same_busy};
+    ghost use Rattle.shared_queue.specs.Laws.SharedLaws.{none_beneath, same_busy};
 
     type Machine = L::Machine;
 
@@ -131,7 +131,8 @@ impl<E: Moves, L: OwnedLocks<QueueEdit<E>>> OwnedQueues<E> for SharedQueues<L> {
     ghost use Rattle.layer_traits.proofs.OwnedLemmas.{shown_under};
     ghost use Rattle.layer_traits.specs.QueueBlocks.{StartsWell};
     ghost use Rattle.layer_traits.specs.QueueRules.{IsProperCall, queue_edited};
-    ghost use Rattle.shared_queue.specs.OwnedLaws.{above_in, queue_in, buffer_shown, queue_shown, observers};
+    ghost use Rattle.shared_queue.specs.Laws.OwnedLaws.{buffer_shown, queue_shown};
+    ghost use Rattle.shared_queue.specs.OwnedLaws.{above_in, queue_in, observers};
 
     ghost block_at = { λ m b. option_and_then above_in (L.block_at m (Buffer b)) };
 

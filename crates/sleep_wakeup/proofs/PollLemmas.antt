@@ -31,8 +31,8 @@ use Rattle.layer_traits.proofs.SleepLemmas.{HandDefers, sleep_polled}
 use Rattle.sleep_wakeup.specs.declared.edits.SleepBlock.{SleepBlock}
 use Rattle.sleep_wakeup.specs.declared.edits.SleepEdit.{SleepEdit}
 use Rattle.sleep_wakeup.specs.declared.deferred.DeferredOutcome.{DeferredOutcome}
+use Rattle.sleep_wakeup.specs.Laws.NestedLaws.{beneath, here, nested_stays, nested_wraps}
 use Rattle.sleep_wakeup.specs.Nested.{edit_in, nested_moves, nested_rules, state_of, states}
-use Rattle.sleep_wakeup.specs.NestedLaws.{beneath, here, nested_stays, nested_wraps}
 use Rattle.sleep_wakeup.specs.Parts.{DeferredFits, answer_reported, as_edit, done_of, deferred_of_answer, must_wait, outcome_in, own_of, under_of}
 
 -- where nobody sleeps at the opening here, nobody does beneath

@@ -1,4 +1,3 @@
 pub mod Nested
 pub mod Parts
-pub mod NestedLaws
-pub mod OwnedLaws
+pub mod Laws

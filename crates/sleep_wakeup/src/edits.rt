@@ -150,8 +150,8 @@ impl<E: Sleeps> Edit for SleepEdit<E> {
 }
 
 impl<E: Sleeps> Moves for SleepEdit<E> {
+    ghost use Rattle.sleep_wakeup.specs.Laws.NestedLaws.{nested_wakes};
     ghost use Rattle.sleep_wakeup.specs.Nested.{nested_moves};
-    ghost use Rattle.sleep_wakeup.specs.NestedLaws.{nested_wakes};
 
     ghost moves = { nested_moves E.rules };
 

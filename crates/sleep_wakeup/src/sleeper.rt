@@ -25,8 +25,8 @@ impl<E: Sleeps, S: SchedLayer<SleepEdit<E>>> ThreadLayer<SleepLaw<E>> for Sleepe
     ghost use Rattle.layer_traits.specs.Renaming.{renamed_edit, renamed_events, viewed};
     ghost use Rattle.layer_traits.proofs.KernelRenaming.{known_renamed, proper_renamed, seen_renamed, starts_viewed};
     ghost use Rattle.layer_traits.specs.Sleeping.{NobodySleeps};
+    ghost use Rattle.sleep_wakeup.specs.Laws.NestedLaws.{nested_busy, nested_idle, nested_lawful, nested_lists, nested_moves_legal, nested_stands};
     ghost use Rattle.sleep_wakeup.specs.Nested.{edit_in, state_of, states};
-    ghost use Rattle.sleep_wakeup.specs.NestedLaws.{nested_busy, nested_idle, nested_lawful, nested_lists, nested_moves_legal, nested_stands};
     ghost use Rattle.sleep_wakeup.specs.Parts.{DeferredBrings, DeferredFits, own_of, under_of};
 
     type Machine = S::Machine;
@@ -184,8 +184,8 @@ impl<E: Sleeps, S: OwnedScheds<SleepEdit<E>>> OwnedSleeps<E> for Sleeper<E, S> {
     ghost use Rattle.event_log.specs.declared.ids.LockId.TheVariants.{Buffer, Pending};
     ghost use Rattle.layer_traits.proofs.KernelRenaming.{there_viewed};
     ghost use Rattle.layer_traits.proofs.OwnedLemmas.{parts_on};
+    ghost use Rattle.sleep_wakeup.specs.Laws.OwnedLaws.{nested_queues, nested_shown};
     ghost use Rattle.sleep_wakeup.specs.Nested.{state_of};
-    ghost use Rattle.sleep_wakeup.specs.OwnedLaws.{nested_queues, nested_shown};
 
     ghost state_at = { λ m b. option_map state_of (S.block_at m b) };
 

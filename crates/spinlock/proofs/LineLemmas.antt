@@ -20,7 +20,7 @@ use Rattle.layer_traits.proofs.OneLockLemmas.{lock_phase_own}
 use Rattle.layer_traits.proofs.PlanLemmas.{sections_acts}
 use Rattle.layer_traits.specs.declared.edits.Mark.{Mark}
 use Rattle.layer_traits.specs.WordsProtocol.{edit_of, sections}
-use Rattle.spinlock.specs.LineLaws.{line_waiting_with}
+use Rattle.spinlock.specs.Laws.LineLaws.{line_waiting_with}
 
 others_mapped : {X Y : Type 0} (f : X → Y) (by : X → CpuId) (reported_by : Y → CpuId) → ((e : X) → reported_by (f e) ≡ by e) → (c : CpuId) (others : List X)
     → AreOthers by c others → AreOthers reported_by c (map f others)

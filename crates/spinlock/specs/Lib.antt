@@ -1,4 +1,3 @@
 pub mod Stages
-pub mod StageLaws
 pub mod OwnedLaws
-pub mod LineLaws
+pub mod Laws

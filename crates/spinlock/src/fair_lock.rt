@@ -128,7 +128,7 @@ impl<W: Words> FairLock<UsesTickets> for W {
     ghost use Rattle.event_log.proofs.Tickets.{legal_acts};
     ghost use Rattle.layer_traits.specs.WordsProtocol.{edit_of};
     ghost use Rattle.layer_traits.proofs.Seen.{words_legal};
-    ghost use Rattle.spinlock.specs.LineLaws.{acts_lawful, rests_outside};
+    ghost use Rattle.spinlock.specs.Laws.LineLaws.{acts_lawful, rests_outside};
 
     type Edit = W::Edit;
 
@@ -171,7 +171,7 @@ impl<W: GrantWords> FairLock<UsesGrants> for W {
     ghost use Rattle.event_log.specs.WordsLog.{Idle};
     ghost use Rattle.event_log.proofs.GrantWords.{legal_grants};
     ghost use Rattle.layer_traits.specs.WordsProtocol.{edit_of};
-    ghost use Rattle.spinlock.specs.LineLaws.{grants_legal, grants_lawful, rests_outside_grants};
+    ghost use Rattle.spinlock.specs.Laws.LineLaws.{grants_legal, grants_lawful, rests_outside_grants};
 
     type Edit = W::Edit;
 

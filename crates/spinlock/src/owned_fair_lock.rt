@@ -57,7 +57,7 @@ pub trait OwnedFairLock<LockProtocol>: FairLock<LockProtocol> {
 impl<W: OwnedWords> OwnedFairLock<UsesTickets> for W {
     ghost use Rattle.event_log.specs.declared.ids.TheConstants.{CPUS};
     ghost use Rattle.layer_traits.specs.OneLock.{AreDistinct, opened};
-    ghost use Rattle.spinlock.specs.LineLaws.{words_blocks};
+    ghost use Rattle.spinlock.specs.Laws.LineLaws.{words_blocks};
 
     ghost block_at = { λ m lock. W.block_at m lock };
 
@@ -85,7 +85,7 @@ impl<W: OwnedWords> OwnedFairLock<UsesTickets> for W {
 impl<W: OwnedGrantWords> OwnedFairLock<UsesGrants> for W {
     ghost use Rattle.event_log.specs.declared.ids.TheConstants.{CPUS};
     ghost use Rattle.layer_traits.specs.OneLock.{AreDistinct, opened};
-    ghost use Rattle.spinlock.specs.LineLaws.{grants_blocks};
+    ghost use Rattle.spinlock.specs.Laws.LineLaws.{grants_blocks};
 
     ghost block_at = { λ m lock. W.block_at m lock };
 

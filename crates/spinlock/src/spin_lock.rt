@@ -39,7 +39,7 @@ impl<M: FairLock<LockProtocol>, LockProtocol> Layer<LockLaw<M::Edit>>
     ghost use Rattle.spinlock.specs.Stages.{stage_section, StageFits};
     ghost use Rattle.std.specs.Prelude.{is_some, refl, true};
     ghost use Rattle.std.proofs.Common.{ap};
-    ghost use Rattle.spinlock.specs.StageLaws.{sections_known, stage_busy};
+    ghost use Rattle.spinlock.specs.Laws.StageLaws.{sections_known, stage_busy};
 
     type Machine = M;
 
@@ -165,7 +165,7 @@ impl<M: OwnedFairLock<LockProtocol>, LockProtocol> OwnedLocks<M::Edit>
     ghost use Rattle.std.specs.Prelude.{◌<◌, [], IfOk};
     ghost use Rattle.event_log.specs.declared.ids.TheConstants.{CPUS};
     ghost use Rattle.layer_traits.specs.OneLock.{AreDistinct, opened};
-    ghost use Rattle.spinlock.specs.OwnedLaws.{spin_lock_shows};
+    ghost use Rattle.spinlock.specs.Laws.OwnedLaws.{spin_lock_shows};
     ghost use Rattle.spinlock.specs.Stages.{held_block};
 
     ghost block_at = { λ m lock. M.block_at m lock };

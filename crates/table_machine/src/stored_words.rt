@@ -11,7 +11,8 @@ use crate::TableWords;
 pub struct StoredWords;
 
 impl TableWords for StoredWords {
-    ghost use Rattle.table_machine.specs.Stored.{stored_words, stored_are};
+    ghost use Rattle.table_machine.specs.Laws.Stored.{stored_are};
+    ghost use Rattle.table_machine.specs.Stored.{stored_words};
 
     ghost kind = { stored_words };
 

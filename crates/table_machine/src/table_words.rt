@@ -42,7 +42,7 @@ pub struct TicketWords;
 
 impl TableWords for TicketWords {
     ghost use Rattle.table_machine.specs.Kinds.{ticket_words};
-    ghost use Rattle.table_machine.specs.KindLaws.{tickets_are};
+    ghost use Rattle.table_machine.specs.Laws.KindLaws.{tickets_are};
 
     ghost kind = { ticket_words };
 
@@ -81,7 +81,7 @@ pub struct WaiterWords;
 
 impl TableWords for WaiterWords {
     ghost use Rattle.table_machine.specs.Kinds.{grant_words};
-    ghost use Rattle.table_machine.specs.KindLaws.{grants_are};
+    ghost use Rattle.table_machine.specs.Laws.KindLaws.{grants_are};
 
     ghost kind = { grant_words };
 

@@ -6,7 +6,8 @@ use Rattle.layer_traits.specs.OneLock.{opened}
 use Rattle.layer_traits.specs.OnePlace.{cpu_at}
 use Rattle.layer_traits.specs.WordsProtocol.{edit_of}
 use Rattle.layer_traits.proofs.Seen.{words_legal}
-use Rattle.layer_traits.specs.AsGrants.{acts_as_grants, as_grants}
+use Rattle.layer_traits.specs.AsGrants.{as_grants}
+use Rattle.layer_traits.specs.Laws.AsGrants.{acts_as_grants}
 use Rattle.table_machine.proofs.Fresh.{length_new}
 use Rattle.cpu_workers.specs.Closing.{Key, tower_rules}
 use Rattle.cpu_workers.specs.Seating.{Edit, HaveLeft}

@@ -4,7 +4,8 @@ use Rattle.event_log.specs.WordsLog.{IsLegalWords, Idle, lock_phase}
 use Rattle.layer_traits.specs.GrantProtocol.{grant_sections}
 use Rattle.layer_traits.specs.OneLock.{opened}
 use Rattle.layer_traits.proofs.Seen.{words_legal}
-use Rattle.layer_traits.specs.AsGrants.{as_grants, sections_as_grants, stands_as_grants}
+use Rattle.layer_traits.specs.AsGrants.{as_grants}
+use Rattle.layer_traits.specs.Laws.AsGrants.{sections_as_grants, stands_as_grants}
 use Rattle.table_machine.specs.SeatViews.{SeatView}
 use Rattle.cpu_workers.specs.Counts.{counting}
 use Rattle.cpu_workers.specs.declared.counting.AddOne.{AddOne}

@@ -18,7 +18,7 @@ use Rattle.fifo_buffer.proofs.Chains.{follows_for, one_follows, two_follows}
 use Rattle.fifo_buffer.proofs.Finish.{called_by, finish, others_after}
 use Rattle.fifo_buffer.proofs.First.{first_may, goes_called}
 use Rattle.fifo_buffer.proofs.Recorded.{runs_home}
-use Rattle.fifo_buffer.specs.OwnedLaws.{block_there}
+use Rattle.fifo_buffer.specs.Laws.OwnedLaws.{block_there}
 use Rattle.fifo_buffer.proofs.Parts.{moves_grown, other_part}
 use Rattle.fifo_buffer.proofs.SectionPollTaken.{taken}
 use Rattle.fifo_buffer.proofs.Twice.{apart_call_state, ended_of, next_going, completes_as, exit_free, marks_of, under_way_by}

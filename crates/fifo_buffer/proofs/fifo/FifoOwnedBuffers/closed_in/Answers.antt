@@ -1,4 +1,4 @@
-use Rattle.fifo_buffer.specs.OwnedLaws.{block_there}
+use Rattle.fifo_buffer.specs.Laws.OwnedLaws.{block_there}
 use Rattle.fifo_buffer.proofs.fifo.FifoOwnedBuffers.closed_in.Goals as goal
 
 pub block_in-requires-clause-buffer : goal.block_in-requires-clause-buffer

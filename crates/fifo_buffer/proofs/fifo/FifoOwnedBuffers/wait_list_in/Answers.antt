@@ -1,4 +1,4 @@
-use Rattle.fifo_buffer.specs.OwnedLaws.{block_there}
+use Rattle.fifo_buffer.specs.Laws.OwnedLaws.{block_there}
 use Rattle.fifo_buffer.proofs.fifo.FifoOwnedBuffers.wait_list_in.Goals as goal
 
 pub wait_list_in-requires-clause-buffer : goal.wait_list_in-requires-clause-buffer

@@ -4,8 +4,8 @@ use Rattle.layer_traits.specs.Places.{Asleep, At, Pend, home_of, where_is}
 use Rattle.event_log.specs.declared.ids.LockId.TheVariants.{Buffer}
 use Rattle.layer_traits.specs.QueueBlocks.{homes_in}
 use Rattle.layer_traits.specs.Observed.{queue_place}
+use Rattle.ipc_calls.specs.Laws.PlaceLaws.{sleeps_there, read_pends, read_sleeps}
 use Rattle.ipc_calls.specs.Parts.{pends_read}
-use Rattle.ipc_calls.specs.PlaceLaws.{sleeps_there, read_pends, read_sleeps}
 use Rattle.ipc_calls.proofs.ipc.IpcOwned.place_at.Goals as goal
 
 -- who is told to stand in the pending queue of its home stands there

@@ -1,4 +1,4 @@
-use Rattle.plain_layers.specs.FifoOwned.{buffer_there}
+use Rattle.plain_layers.specs.Laws.FifoOwned.{buffer_there}
 use Rattle.plain_layers.proofs.fifos.PlainFifoOwnedBuffers.wait_list_in.Goals as goal
 
 -- a buffer of the machine has its lock

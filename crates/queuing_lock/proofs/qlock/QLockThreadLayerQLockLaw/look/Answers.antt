@@ -7,8 +7,8 @@ use Rattle.layer_traits.specs.Queues.{QueueAllowed}
 use Rattle.layer_traits.specs.Renaming.{renamed_edit, renamed_events, renamed_sched, viewed}
 use Rattle.layer_traits.specs.Sleeping.{SleepState}
 use Rattle.queuing_lock.specs.declared.edits.QBlock.{QBlock}
+use Rattle.queuing_lock.specs.Laws.NestedLaws.{beneath, locks_lawful}
 use Rattle.queuing_lock.specs.Nested.{edit_in, nested_lock_of}
-use Rattle.queuing_lock.specs.NestedLaws.{beneath, locks_lawful}
 use Rattle.queuing_lock.specs.Parts.{DeferredFits, SleptFits}
 use Rattle.layer_traits.proofs.KernelRenaming.{grows_renamed}
 use Rattle.layer_traits.proofs.LookLemmas.{tries_renamed}

@@ -19,8 +19,8 @@ use Rattle.layer_traits.specs.SleepLaw.{Sleeping}
 use Rattle.layer_traits.specs.Sleeping.{SleepState}
 use Rattle.layer_traits.proofs.FrameLemmas.{untouched, viewed_stays}
 use Rattle.queuing_lock.specs.declared.edits.QBlock.{QBlock}
+use Rattle.queuing_lock.specs.Laws.NestedLaws.{beneath, here}
 use Rattle.queuing_lock.specs.Nested.{edit_in, nested_lock_of}
-use Rattle.queuing_lock.specs.NestedLaws.{beneath, here}
 use Rattle.queuing_lock.specs.Parts.{DeferredFits, SleptFits, slept_left_by}
 use Rattle.queuing_lock.proofs.PartLemmas.{Before, caller_small, handed, deferred_after, locks}
 use Rattle.queuing_lock.proofs.PartLemmas.{locks_follow, none, others_after, owed, slept_after, slept_reported}

@@ -9,8 +9,8 @@ use Rattle.layer_traits.specs.Scheds.{MaySched, SchedPolled, sched_plan, left as
 use Rattle.layer_traits.specs.SleepLaw.{MaySleep, SleepPolled, due, sleep_plan}
 use Rattle.layer_traits.specs.Sleeping.{sleep_moves, sleep_rules}
 use Rattle.layer_traits.proofs.SleepLemmas.{HandDefers}
+use Rattle.sleep_wakeup.specs.Laws.NestedLaws.{beneath, here}
 use Rattle.sleep_wakeup.specs.Nested.{edit_in, nested_moves, nested_rules, state_of}
-use Rattle.sleep_wakeup.specs.NestedLaws.{beneath, here}
 use Rattle.sleep_wakeup.specs.Parts.{DeferredFits, as_edit, outcome_in, own_of}
 use Rattle.sleep_wakeup.proofs.PollLemmas.{hand_defers, nested_may, nested_sleep_follows, nested_sleeps, reported_is}
 use Rattle.sleep_wakeup.proofs.sleeper.SleeperThreadLayerSleepLaw.poll.Goals as goal

@@ -1,6 +1,6 @@
 use Rattle.std.proofs.Common.{◌+◌, ◌%◌, ◌^◌, ◌==◌}
 use Rattle.event_log.specs.declared.grants.GrantEvent.TheVariants.{Peek}
-use Rattle.spinlock.specs.LineLaws.{grants_legal}
+use Rattle.spinlock.specs.Laws.LineLaws.{grants_legal}
 use Rattle.spinlock.proofs.LineLemmas.{grant_adds, waits_by_grant, peek_enters}
 use Rattle.spinlock.proofs.fair_lock.AnyFairLockUsesGrants.enter.Goals as goal
 

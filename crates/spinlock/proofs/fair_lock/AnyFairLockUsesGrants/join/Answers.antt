@@ -1,5 +1,5 @@
 use Rattle.event_log.specs.declared.grants.GrantEvent.TheVariants.{Take}
-use Rattle.spinlock.specs.LineLaws.{grants_legal, rests_outside_grants}
+use Rattle.spinlock.specs.Laws.LineLaws.{grants_legal, rests_outside_grants}
 use Rattle.spinlock.proofs.LineLemmas.{grant_adds, takes_spot}
 use Rattle.spinlock.proofs.fair_lock.AnyFairLockUsesGrants.join.Goals as goal
 

@@ -5,7 +5,7 @@ use Rattle.event_log.specs.History.{Adds}
 use Rattle.event_log.specs.declared.grants.GrantEvent.TheVariants.{Give as GiveEvent}
 use Rattle.event_log.proofs.GrantWords.{phase_grants}
 use Rattle.layer_traits.specs.WordsProtocol.{edit_of, mark_of}
-use Rattle.spinlock.specs.LineLaws.{inside_of}
+use Rattle.spinlock.specs.Laws.LineLaws.{inside_of}
 use Rattle.spinlock.proofs.LineLemmas.{grant_adds}
 use Rattle.spinlock.proofs.fair_lock.AnyFairLockUsesGrants.leave.Goals as goal
 

@@ -1,6 +1,6 @@
 use Rattle.event_log.specs.declared.events.Event.TheVariants.{Draw}
 use Rattle.layer_traits.proofs.Seen.{words_legal}
-use Rattle.spinlock.specs.LineLaws.{rests_outside}
+use Rattle.spinlock.specs.Laws.LineLaws.{rests_outside}
 use Rattle.spinlock.proofs.LineLemmas.{event_adds, draws_spot}
 use Rattle.spinlock.proofs.fair_lock.AnyFairLockUsesTickets.join.Goals as goal
 

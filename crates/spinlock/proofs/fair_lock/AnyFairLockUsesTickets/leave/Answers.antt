@@ -8,7 +8,7 @@ use Rattle.event_log.proofs.Tickets.{phase_acts}
 use Rattle.layer_traits.proofs.PlanLemmas.{sections_acts}
 use Rattle.layer_traits.specs.Protocol.{StaysAllowed, section}
 use Rattle.layer_traits.specs.WordsProtocol.{edit_of, mark_of, sections}
-use Rattle.spinlock.specs.LineLaws.{inside_of}
+use Rattle.spinlock.specs.Laws.LineLaws.{inside_of}
 use Rattle.spinlock.proofs.LineLemmas.{event_adds}
 use Rattle.spinlock.proofs.fair_lock.AnyFairLockUsesTickets.leave.Goals as goal
 

@@ -18,8 +18,8 @@ use Rattle.layer_traits.proofs.KernelRenaming.{block_renamed, sections_renamed}
 use Rattle.layer_traits.proofs.OwnedLemmas.{PartsOn, same_shown, shown_on, viewed_shown}
 use Rattle.sleep_wakeup.specs.declared.edits.SleepBlock.{SleepBlock}
 use Rattle.sleep_wakeup.specs.declared.edits.SleepEdit.{SleepEdit}
+use Rattle.sleep_wakeup.specs.Laws.NestedLaws.{beneath, here, nested_wraps, same_moves}
 use Rattle.sleep_wakeup.specs.Nested.{edit_in, nested_edited, state_of}
-use Rattle.sleep_wakeup.specs.NestedLaws.{beneath, here, nested_wraps, same_moves}
 
 module _ {P Q E B O : Type 0} (rules : SleepRules E B O) (opening : LockId → Option (QueueBlock (SleepBlock B))) (past : List (QueueEvent (SleepEdit E)))
     (parts : PartsOn P Q) where

@@ -29,7 +29,7 @@ use Rattle.layer_traits.specs.Sleeping.{SleepState, wait_list_at, sleep_edited}
 use Rattle.layer_traits.proofs.KernelRenaming.{Wraps, block_renamed, homes_viewed, inner_viewed, lawful_renamed, moves_renamed, sections_renamed}
 use Rattle.queuing_lock.specs.declared.edits.QBlock.{QBlock}
 use Rattle.queuing_lock.specs.declared.edits.QLockEdit.{QLockEdit}
-use Rattle.queuing_lock.specs.Edits.{answers, edits}
+use Rattle.queuing_lock.specs.Laws.Edits.{answers, edits}
 use Rattle.queuing_lock.specs.Nested.{busy_rules, edit_in, nested_lock_of, locks}
 
 module _ {F R B O : Type 0} (rules : LockRules F R B O) (opening : LockId → Option (QueueBlock (SleepState (QBlock B)))) where

@@ -28,7 +28,7 @@ use Rattle.layer_traits.specs.QueueBlocks.{homes_in, inner}
 use Rattle.layer_traits.specs.Queues.{QueueAllowed, buffer_sections, moves_in}
 use Rattle.layer_traits.proofs.ListsLemmas.{wait_channel_here}
 use Rattle.fifo_buffer.specs.FifoFits.{BootsSo, PartFits, caps_in}
-use Rattle.fifo_buffer.specs.Tallies.{effects_lawful}
+use Rattle.fifo_buffer.specs.Laws.Tallies.{effects_lawful}
 use Rattle.fifo_buffer.specs.SectionPolls.{BufferEvent, under_way_at}
 
 -- each effect may come after those before it

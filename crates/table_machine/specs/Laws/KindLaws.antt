@@ -2,8 +2,8 @@
 use Rattle.std.proofs.Common.{◌≡◌, ◌≢◌, ℕ, ◌+◌, ◌%◌, ◌^◌, ◌<◌, ◌≤◌, ◌==◌, Bool, true, false, if◌then◌else◌, refl, ap, sym, subst, ◌∙◌, arith}
 use Rattle.std.proofs.lemmas.Bool.{eqb-true, eqb-false}
 use Rattle.event_log.specs.declared.ids.TheConstants.{CPUS}
-use Rattle.event_log.specs.Grants.{after_give}
-use Rattle.event_log.proofs.GrantWords.{WordFits, fits_at_start, fits_after, served_exactly}
+use Rattle.event_log.specs.Grants.{WordFits, after_give}
+use Rattle.event_log.proofs.GrantWords.{fits_at_start, fits_after, served_exactly}
 use Rattle.event_log.proofs.Tickets.{same_rests, next_rests}
 use Rattle.table_machine.specs.Kinds.{IsWordKind, first_words, grant_words, ticket_words}
 

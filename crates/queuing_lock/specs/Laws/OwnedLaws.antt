@@ -18,8 +18,8 @@ use Rattle.layer_traits.specs.Sleeping.{SleepState, sleep_edited}
 use Rattle.layer_traits.proofs.OwnedLemmas.{PartsOn, same_shown, shown_on, viewed_shown}
 use Rattle.queuing_lock.specs.declared.edits.QBlock.{QBlock}
 use Rattle.queuing_lock.specs.declared.edits.QLockEdit.{QLockEdit}
+use Rattle.queuing_lock.specs.Laws.NestedLaws.{beneath, here, lock_is, same_moves}
 use Rattle.queuing_lock.specs.Nested.{busy_rules, edit_in, nested_lock_of}
-use Rattle.queuing_lock.specs.NestedLaws.{beneath, here, lock_is, same_moves}
 
 module _ {P Q F R B O : Type 0} (rules : LockRules F R B O) (opening : LockId → Option (QueueBlock (SleepState (QBlock B))))
     (past : List (QueueEvent (QLockEdit F R))) (parts : PartsOn P Q) where

@@ -1,0 +1,5 @@
+-- Lemmas that clauses of impls cite. They are proved here: no reader of a contract needs to believe them.
+pub mod BlockSteps
+pub mod Tallies
+pub mod FifoLaws
+pub mod OwnedLaws

@@ -1,0 +1,132 @@
+-- What sleep and wakeup beneath tells of its locks, buffers in one section a call tell of their items and waiting lists.
+use Rattle.std.specs.Prelude.{◌≡◌, ◌<◌, List, [], ◌∷◌, ◌++◌, length, Option, Some, None, IsSome, option_map, option_to_list, refl}
+use Rattle.std.proofs.Common.{ap, sym, ◌∙◌, subst}
+use Rattle.std.proofs.lemmas.Option.{same_Some, slice_get-get_or}
+use Rattle.std.specs.List.{AllByRecursion}
+use Rattle.event_log.specs.declared.entries.Entry.{Entry}
+use Rattle.event_log.specs.declared.ids.BufId.{BufId}
+use Rattle.event_log.specs.declared.ids.CpuId.{CpuId}
+use Rattle.event_log.specs.declared.ids.LockId.{LockId}
+use Rattle.event_log.specs.declared.ids.LockId.TheVariants.{Buffer}
+use Rattle.event_log.specs.declared.ids.Tid.{Tid}
+use Rattle.event_log.specs.declared.ids.TheConstants.{CPUS}
+use Rattle.event_log.specs.Buffers.{items_of}
+use Rattle.event_log.specs.History.{IsLawful}
+use Rattle.event_log.specs.Runs.{is_closed}
+use Rattle.event_log.specs.Sections.{Section}
+use Rattle.layer_traits.specs.declared.calls.Effect.{Effect}
+use Rattle.layer_traits.specs.declared.moves.WaitList.{WaitList}
+use Rattle.layer_traits.specs.declared.queue_edits.QueueBlock.{QueueBlock}
+use Rattle.layer_traits.specs.declared.queues.QueueCall.{QueueCall}
+use Rattle.layer_traits.specs.declared.queues.QueueCall.TheVariants.{Push, TakeAll, OnBuffer}
+use Rattle.layer_traits.specs.declared.queues.QueueEvent.{QueueEvent}
+use Rattle.layer_traits.specs.BufferEffects.{contents_of}
+use Rattle.layer_traits.specs.BufferLaw.{entry_of}
+use Rattle.layer_traits.specs.Owned.{IsObserved}
+use Rattle.layer_traits.specs.QueueBlocks.{above_of, inner}
+use Rattle.layer_traits.specs.Queues.{IsKnownEvent, buffer_sections, with_section}
+use Rattle.layer_traits.specs.Sleeping.{wait_list_at, sleep_edited}
+use Rattle.layer_traits.specs.Observed.{IsObservedAs}
+use Rattle.layer_traits.proofs.Alone.{block_there}
+use Rattle.layer_traits.proofs.OwnedLemmas.{shown_under, observed_as, viewed_shown}
+use Rattle.plain_layers.specs.declared.attempts.Attempt.{Attempt}
+use Rattle.plain_layers.specs.Attempts.{attempts}
+use Rattle.plain_layers.specs.FifoOwned.{closed_of, items_in, nobody, nothing_read, wait_lists_of}
+use Rattle.plain_layers.specs.Fifos.{PlainLocked, caps_in, effect_by, entries_in, fresh_buffer, fresh_buffers, wait_lists_in, locked_after}
+use Rattle.plain_layers.specs.Laws.FifoTallies.{plain_tally}
+
+-- a block that is seen is there
+pub there_viewed : {A B : Type 0} (view : A → B) (o : Option A) → IsSome (option_map view o) → IsSome o
+there_viewed view None some = absurd cc
+there_viewed view (Some x) some = refl
+
+module _ (opening : LockId → Option (QueueBlock PlainLocked)) (fresh : inner opening ≡ fresh_buffers (caps_in (inner opening))) (b : BufId)
+    (within : b.0 < length (caps_in (inner opening))) where
+  -- a buffer of the capacities has a lock, at the start
+  inner_there : IsSome (inner opening (Buffer b))
+  inner_there =
+      subst (λ (o : Option PlainLocked). IsSome o)
+      (sym (ap (λ locks. locks (Buffer b)) fresh ∙ ap (option_map fresh_buffer) (slice_get-get_or (caps_in (inner opening)) b.0 0 within))) refl
+
+  pub buffer_there : IsSome (opening (Buffer b))
+  buffer_there = go (opening (Buffer b)) inner_there
+    where
+      go : (o : Option (QueueBlock PlainLocked)) → IsSome (above_of o) → IsSome o
+      go None some = some
+      go (Some block) some = refl
+
+  -- and after any sections
+  found : (past : List (Section Attempt)) → (state : PlainLocked) × (locked_after (inner opening) (Buffer b) past ≡ Some state)
+  found past = go (locked_after (inner opening) (Buffer b) past) refl (block_there (sleep_edited attempts) (inner opening) (Buffer b) past inner_there)
+    where
+      go : (o : Option PlainLocked) → locked_after (inner opening) (Buffer b) past ≡ o → IsSome o
+          → (state : PlainLocked) × (locked_after (inner opening) (Buffer b) past ≡ Some state)
+      go None is some = absurd cc
+      go (Some state) is some = (state, is)
+
+  -- its items are those that the effects leave
+  pub items_read : (past : List (Section Attempt)) → option_map items_in (locked_after (inner opening) (Buffer b) past)
+      ≡ Some (items_of (contents_of (caps_in (inner opening)) (entries_in (inner opening) past)) b.0)
+  items_read past =
+      let state = found past in
+      ap (option_map items_in) state.1
+      ∙ ap Some (sym (plain_tally (inner opening) (caps_in (inner opening)) past fresh b state.0 state.1).items)
+
+  -- it is closed where an effect has closed it
+  pub closed_read : (past : List (Section Attempt)) → option_map closed_of (locked_after (inner opening) (Buffer b) past)
+      ≡ Some (is_closed (entries_in (inner opening) past) b.0)
+  closed_read past =
+      let state = found past in
+      ap (option_map closed_of) state.1
+      ∙ ap Some (sym (plain_tally (inner opening) (caps_in (inner opening)) past fresh b state.0 state.1).closed)
+
+  pub wait_lists_read : (past : List (Section Attempt)) → option_map wait_lists_of (locked_after (inner opening) (Buffer b) past)
+      ≡ Some (λ (line : WaitList). wait_lists_in (inner opening) past b line)
+  wait_lists_read past =
+      let state = found past in
+      ap (option_map wait_lists_of) state.1 ∙ ap (λ o. Some (λ (line : WaitList). wait_list_at line o)) (sym state.1)
+
+-- what is told beneath of a lock is told here of a view of it
+module _ {P Q : Type 0} (below : Q → P) (FitsP : P → Type 0) (FitsQ : Q → Type 0) (cpu_below : P → CpuId)
+    (InsideP InsideQ : CpuId → Type 0) (fits : (q : Q) → FitsQ q → FitsP (below q)) (inside : (c : CpuId) → InsideP c → InsideQ c) where
+  pub view_read : {A : Type 0} (lock : Option PlainLocked) (view : PlainLocked → A) (tells : P → Option PlainLocked) (home : Option PlainLocked) (x : A)
+      → option_map view lock ≡ Some x → IsObserved FitsP cpu_below InsideP tells home lock
+      → IsObservedAs FitsQ (λ q. cpu_below (below q)) InsideQ (λ q. option_map view (tells (below q))) (option_map view home) x
+  view_read lock view tells home x is shown =
+      observed_as FitsQ (λ q. cpu_below (below q)) InsideQ (λ q. option_map view (tells (below q))) (option_map view home) (option_map view lock) x is
+      (viewed_shown view FitsQ (λ q. cpu_below (below q)) InsideQ (λ q. tells (below q)) home lock (option_map view lock) refl
+      (shown_under below FitsP FitsQ cpu_below (λ q. cpu_below (below q)) InsideP InsideQ tells home lock fits (λ q fit. refl) inside shown))
+
+  -- and of a pending queue what is told beneath
+  pub pending_read : (tells : P → Option (List Tid)) (home : Option (List Tid)) (queue : List Tid)
+      → IsObserved FitsP cpu_below InsideP tells home (Some queue)
+      → IsObservedAs FitsQ (λ q. cpu_below (below q)) InsideQ (λ q. tells (below q)) home queue
+  pending_read tells home queue shown =
+      observed_as FitsQ (λ q. cpu_below (below q)) InsideQ (λ q. tells (below q)) home (Some queue) queue refl
+      (shown_under below FitsP FitsQ cpu_below (λ q. cpu_below (below q)) InsideP InsideQ tells home (Some queue) fits (λ q fit. refl) inside shown)
+
+-- nobody owns a lock of buffers in one section a call, and the machine tells it
+pub nobody_owns : {P : Type 0} (Fits : P → Type 0) (cpu_of : P → CpuId) (IsInside : CpuId → Type 0)
+    → IsObservedAs Fits cpu_of IsInside (λ p. nothing_read) (Some nobody) nobody
+nobody_owns Fits cpu_of IsInside = record {
+  by_machine = λ x is. same_Some x nobody (sym is);
+  by_part = λ p x fits is. absurd cc;
+  somewhere = λ none. absurd cc;
+}
+
+-- each effect has its section's CPU, which is one that a machine may have
+pub entries_known : (locks : LockId → Option PlainLocked) (past : List (QueueEvent Attempt)) → IsLawful IsKnownEvent past
+    → AllByRecursion (λ (e : Entry). e.cpu.0 < CPUS) (entries_in locks (buffer_sections past))
+entries_known locks [] known = tt
+entries_known locks (event ∷ past) known = go event.call (entries_known locks past known.1)
+  where
+    more : (t : Tid) (b : BufId) (o : Option Effect) (es : List Entry) → AllByRecursion (λ (e : Entry). e.cpu.0 < CPUS) es
+        → AllByRecursion (λ (e : Entry). e.cpu.0 < CPUS) (option_to_list (option_map (entry_of event.cpu t b) o) ++ es)
+    more t b None es rest = rest
+    more t b (Some f) es rest = (known.0, rest)
+
+    go : (call : QueueCall Attempt) → AllByRecursion (λ (e : Entry). e.cpu.0 < CPUS) (entries_in locks (buffer_sections past))
+        → AllByRecursion (λ (e : Entry). e.cpu.0 < CPUS) (entries_in locks (with_section event.cpu call (buffer_sections past)))
+    go (Push d t) rest = rest
+    go (TakeAll d) rest = rest
+    go (OnBuffer d a) rest = more a.thread d (effect_by a (locked_after locks (Buffer d) (buffer_sections past))) (entries_in locks (buffer_sections past)) rest

@@ -1,0 +1,81 @@
+-- What a machine of locks and the stages of its CPUs tell of a block is what the sections make of it.
+use Rattle.std.specs.Prelude.{◌≡◌, Bool, true, false, List, Option, Some, None, MatchOption, if◌then◌else◌, refl}
+use Rattle.std.proofs.Common.{ap, sym, ◌∙◌, subst}
+use Rattle.event_log.specs.declared.ids.CpuId.{CpuId}
+use Rattle.event_log.specs.declared.ids.LockId.{LockId}
+use Rattle.event_log.specs.Actions.{Action, Phase, Rests, Waits, Holds, AreLegal, phase}
+use Rattle.event_log.specs.History.{same_lock}
+use Rattle.event_log.specs.Sections.{block_after, sections_in}
+use Rattle.event_log.proofs.Exclusion.{is_at, knows}
+use Rattle.event_log.proofs.Same.{same_lock_self, same_lock_true}
+use Rattle.layer_traits.specs.Owned.{IsHeld, IsObserved}
+use Rattle.layer_traits.specs.Plans.{is_in_section}
+use Rattle.layer_traits.specs.Protocol.{Rules}
+use Rattle.spinlock.specs.declared.stages.TicketPhase.{TicketPhase}
+use Rattle.spinlock.specs.declared.stages.TicketPhase.TheVariants.{Out, Waiting, Holding}
+use Rattle.spinlock.specs.OwnedLaws.{SomeoneHolds}
+use Rattle.spinlock.specs.Stages.{StageFits, held_block}
+
+-- the lock that a CPU holds
+abbrev lock_held : LockId → Phase → LockId
+lock_held lock Rests = lock
+lock_held lock (Waits at) = lock
+lock_held lock (Holds at) = at
+
+module _ {E B O : Type 0} (rules : Rules E B O) (opening : LockId → Option B) (acts : List (Action E)) (lock : LockId) where
+  abbrev truth : Option B
+  truth = block_after rules.edited opening lock (sections_in acts)
+
+  -- a block in a stage's hands is the lock's
+  held_is : (cpu : CpuId) (stage : TicketPhase E B) (x : B) → StageFits rules opening acts cpu stage → held_block lock stage ≡ Some x → truth ≡ Some x
+  held_is cpu Out x fits is = absurd cc
+  held_is cpu (Waiting at edit ticket) x fits is = absurd cc
+  held_is cpu (Holding at edit block) x fits is = go (same_lock lock at) refl is
+    where
+      go : (b : Bool) → same_lock lock at ≡ b → (if b then Some block else None) ≡ Some x → truth ≡ Some x
+      go true same is = subst (λ l. block_after rules.edited opening l (sections_in acts) ≡ Some block) (sym (same_lock_true lock at same)) fits.2 ∙ is
+      go false other is = absurd cc
+
+  -- a CPU that holds a lock has its block in its hands
+  holder_has : (cpu : CpuId) → phase cpu acts ≡ Holds lock → (stage : TicketPhase E B) → StageFits rules opening acts cpu stage
+      → held_block lock stage ≡ None → ⊥
+  holder_has cpu holds Out fits none = absurd (cc (holds, fits))
+  holder_has cpu holds (Waiting at edit drawn) fits none = let waits = fits.0.0 in absurd (cc (holds, waits))
+  holder_has cpu holds (Holding at edit block) fits none =
+      let one : lock ≡ at = ap (lock_held lock) (sym holds ∙ fits.0) in
+      let same : same_lock lock at ≡ true = subst (λ l. same_lock lock l ≡ true) one (same_lock_self lock) in
+      let held : Some block ≡ None = sym (ap (λ b. if b then Some block else None) same) ∙ none in
+      absurd (cc held)
+
+  -- what the machine and the stages tell is the truth
+  pub spin_lock_shows : {P : Type 0} (ActsFor : CpuId → Type 0) (cpu_of : P → CpuId) (stage_of : P → TicketPhase E B) (home : Option B)
+      → AreLegal acts
+      → MatchOption home (SomeoneHolds lock acts) (λ block. block_after rules.edited opening lock (sections_in acts) ≡ Some block)
+      → IsObserved (λ (p : P). ActsFor (cpu_of p) × StageFits rules opening acts (cpu_of p) (stage_of p)) cpu_of
+      (λ d. is_in_section (phase d acts) ≡ true) (λ p. held_block lock (stage_of p)) home
+      (block_after rules.edited opening lock (sections_in acts))
+  spin_lock_shows {P} ActsFor cpu_of stage_of home legal tells = record {
+    by_machine = by_machine home tells;
+    by_part = λ p x fits is. held_is (cpu_of p) (stage_of p) x fits.1 is;
+    somewhere = somewhere home tells;
+  }
+    where
+      by_machine : (h : Option B) → MatchOption h (SomeoneHolds lock acts) (λ block. truth ≡ Some block) → (x : B) → h ≡ Some x → truth ≡ Some x
+      by_machine None holds x is = absurd cc
+      by_machine (Some block) is x same = is ∙ same
+
+      held : SomeoneHolds lock acts → IsHeld (λ (p : P). ActsFor (cpu_of p) × StageFits rules opening acts (cpu_of p) (stage_of p)) cpu_of
+          (λ d. is_in_section (phase d acts) ≡ true) (λ p. held_block lock (stage_of p))
+      held holds = record {
+        cpu = holds.0;
+        known = knows acts legal holds.0 lock (ap (is_at lock) holds.1 ∙ same_lock_self lock);
+        inside = ap is_in_section holds.1;
+        has = λ p same fits none. holder_has holds.0 holds.1 (stage_of p)
+            (subst (λ c. StageFits rules opening acts c (stage_of p)) same fits.1) none;
+      }
+
+      somewhere : (h : Option B) → MatchOption h (SomeoneHolds lock acts) (λ block. truth ≡ Some block) → h ≡ None
+          → IsHeld (λ (p : P). ActsFor (cpu_of p) × StageFits rules opening acts (cpu_of p) (stage_of p)) cpu_of
+          (λ d. is_in_section (phase d acts) ≡ true) (λ p. held_block lock (stage_of p))
+      somewhere None holds none = held holds
+      somewhere (Some block) is none = absurd cc
