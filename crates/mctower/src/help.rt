@@ -31,7 +31,7 @@ mctower count --cpus N --times K [--lock L]
 
 Each of N CPUs (1 or more) does K critical sections (1 to 1000); each section adds 1 to one
 number. More CPUs than the tower can have are refused. L is the lock: 'ticket', or 'grant' (a grant
-word for each waiter), which is ghost_of without it.
+word for each waiter), which is meant without it.
 Input: none. Output: the number, twice: 'plain T' from the machine that one thread steps, and
 'table T' from the one that N worker threads share.
 
@@ -46,7 +46,7 @@ mctower run [--schedule S]
 Input: a plan, in TOML. Output: the trace text of the run. S says which CPU takes each step: items
 'c' or 'c*n' (n steps of CPU c), joined by commas, 1,048,576 steps at most. Without a schedule no
 step is taken. The plan's key lock names the lock beneath, \"ticket\" or \"grant\"; without it 'grant'
-is ghost_of.
+is meant.
 
 example: mctower run --schedule '0*21' < plan.toml
 where plan.toml is:
