@@ -14,7 +14,7 @@ use Rattle.event_log.specs.declared.ids.Tid.{Tid}
 use Rattle.event_log.specs.declared.ids.TheConstants.{CPUS, THREADS}
 use Rattle.event_log.specs.Actions.{Action}
 use Rattle.guest.specs.Calls.{starts}
-use Rattle.layer_traits.specs.declared.ipc_layers.IpcLayer.{Ghosts}
+use Rattle.layer_traits.specs.declared.call_layers.CallLayer.{Ghosts}
 use Rattle.layer_traits.specs.declared.call_states.CallState.{CallState}
 use Rattle.layer_traits.specs.BufferLaw.{no_call, call_state_of}
 use Rattle.layer_traits.specs.OnePlace.{cpu_at}
@@ -71,7 +71,7 @@ boots homes buffers number guests limit capacity are few reserved = record {
 }
 
 -- a CPU that was made so, in a machine that is fresh
-pub boots_as : {P M : Type 0} (I : Ghosts P M) (m : M) (p : Cpu P M) (homes : List CpuId) (buffers k : ℕ) (guests : List (Option Guest)) (most : ℕ)
+pub boots_as : {P L M : Type 0} (I : Ghosts P L M) (m : M) (p : Cpu P M) (homes : List CpuId) (buffers k : ℕ) (guests : List (Option Guest)) (most : ℕ)
     → IsBootedAs (λ q n. I.Fits q n) (λ n d. I.IsFresh n homes d) (λ n. length (I.caps n)) I.IsStepwise buffers homes k guests most p.part (I.cpu_of p.part)
     (I.own p.part) (I.threads p.part) (I.call_states p.part) (I.under_way p.part) p.number p.guests.items p.trace.items p.limit (vec_capacity p.trace)
     → I.IsFresh m homes (cpu_at k) → length (I.caps m) ≡ buffers → I.homes_of m ≡ homes → I.seen m ≡ [] → AreGuests homes buffers (cpu_at k) guests

@@ -6,8 +6,9 @@ use mir.Syntax.{Dict}
 use Rattle.event_log.specs.declared.ids.CpuId.{CpuId}
 use Rattle.event_log.specs.declared.ids.Tid.{Tid}
 use Rattle.event_log.specs.Actions.{phase}
-use Rattle.layer_traits.specs.contracts.ipc_layers.IpcLayer.TheBound.{Met}
-use Rattle.layer_traits.specs.declared.ipc_layers.IpcLayer.{Ghosts}
+use Rattle.layer_traits.specs.contracts.call_layers.CallLayer.TheBound.{Met}
+use Rattle.layer_traits.specs.declared.call_layers.CallLaw.{Ghosts as LawGhosts}
+use Rattle.layer_traits.specs.declared.call_layers.CallLayer.{Ghosts}
 use Rattle.layer_traits.specs.Places.{AreMoves, Stands, home_of}
 use Rattle.layer_traits.specs.Plans.{is_in_section}
 use Rattle.layer_traits.proofs.PlaceLemmas.{current_at}
@@ -20,7 +21,7 @@ use Rattle.cpu.proofs.Passing.{none_grow, none_moved, none_seen}
 use Rattle.cpu.proofs.TableCalls.{ObservedCpu, ObservedOutset, hand_known}
 
 -- what always holds of a CPU whose part fits the machine; what names the whole state of a part is said of a layer whose polls are actions
-pub record IsLayered {P M : Type 0} (I : Ghosts P M) (m : M) (p : Cpu P M) : Type 0 where
+pub record IsLayered {P L M : Type 0} (I : Ghosts P L M) (m : M) (p : Cpu P M) : Type 0 where
   pub number : I.cpu_of p.part ≡ p.number
   pub acts : I.ActsFor m (I.cpu_of p.part)
   pub stands : Stands (I.homes_of m) (I.cpu_of p.part) (I.moves m) (I.threads p.part)
@@ -32,7 +33,7 @@ pub record IsLayered {P M : Type 0} (I : Ghosts P M) (m : M) (p : Cpu P M) : Typ
   pub table : I.IsStepwise → IsTabledAt I m p
 
 -- the laws of a layer that say so
-pub record PartLaws {P M : Type 0} (I : Ghosts P M) : Type 0 where
+pub record PartLaws {P L M : Type 0} (I : Ghosts P L M) : Type 0 where
   pub own_cpu : (p : P) (m : M) → I.Fits p m → I.ActsFor m (I.cpu_of p)
   pub stands : (p : P) (m : M) → I.Fits p m → Stands (I.homes_of m) (I.cpu_of p) (I.moves m) (I.threads p)
   pub moves_legal : (m : M) (c : CpuId) → I.ActsFor m c → AreMoves (I.homes_of m) (I.moves m)
@@ -41,8 +42,9 @@ pub record PartLaws {P M : Type 0} (I : Ghosts P M) : Type 0 where
   pub reads_own : I.IsStepwise → (p : P) → (threads_in (I.own p) ≡ I.threads p) × ((I.own p).call_states ≡ I.call_states p)
 
 -- from all that a bound by the layer's trait gives
-pub laws_of : {world : World} {Part Machine : RattleType} {I : Ghosts Part.Denot Machine.Denot} {dict : Dict}
-    → Met {M = world.M} {𝓤 = world.𝓤} world.𝓛 world.𝓜 world.𝓡 world.𝓡.env Part Machine I dict → PartLaws I
+pub laws_of : {world : World} {Part Law Machine : RattleType} {I : Ghosts Part.Denot Law.Denot Machine.Denot} {dict : Dict}
+    {calls : LawGhosts Law.Denot} {calls_dict : Dict}
+    → Met {M = world.M} {𝓤 = world.𝓤} world.𝓛 world.𝓜 world.𝓡 world.𝓡.env Part Law Machine I dict calls calls_dict → PartLaws I
 laws_of law = record {
   own_cpu = law.own_cpu;
   stands = law.stands;
@@ -53,7 +55,7 @@ laws_of law = record {
 }
 
 -- a CPU whose part fits the machine
-pub layered : {P M : Type 0} {I : Ghosts P M} (laws : PartLaws I) (m : M) (p : Cpu P M) → I.Fits p.part m → I.cpu_of p.part ≡ p.number
+pub layered : {P L M : Type 0} {I : Ghosts P L M} (laws : PartLaws I) (m : M) (p : Cpu P M) → I.Fits p.part m → I.cpu_of p.part ≡ p.number
     → IsCpuAt I m p → (I.IsStepwise → IsTabledAt I m p) → IsLayered I m p
 layered {I} laws m p fits number is table =
     let acts = laws.own_cpu p.part m fits in
@@ -69,7 +71,7 @@ layered {I} laws m p fits number is table =
       table = table;
     }
 
-module _ {P M : Type 0} {I : Ghosts P M} {m : M} {p : Cpu P M} (at : IsLayered I m p) where
+module _ {P L M : Type 0} {I : Ghosts P L M} {m : M} {p : Cpu P M} (at : IsLayered I m p) where
   -- a thread that runs is at home with it
   pub runs_home : (t : Tid) → (I.threads p.part).current ≡ Some t → home_of (I.homes_of m) t ≡ Some p.number
   runs_home t runs =
@@ -104,7 +106,7 @@ module _ {P M : Type 0} {I : Ghosts P M} {m : M} {p : Cpu P M} (at : IsLayered I
     }
 
 -- a step that touches neither the machine nor the CPU's part
-pub left_alone : {P M : Type 0} (I : Ghosts P M) (m : M) (p q : Cpu P M) → I.cpu_of p.part ≡ p.number → q.number ≡ p.number → q.limit ≡ p.limit
+pub left_alone : {P L M : Type 0} (I : Ghosts P L M) (m : M) (p q : Cpu P M) → I.cpu_of p.part ≡ p.number → q.number ≡ p.number → q.limit ≡ p.limit
     → q.part ≡ p.part → programs_of q.guests.items ≡ programs_of p.guests.items → Leaves I m p m q
 left_alone I m p q at number limit part programs = record {
   number = number;

@@ -6,7 +6,7 @@ use Rattle.event_log.specs.declared.ids.BufId.{BufId}
 use Rattle.event_log.specs.declared.ids.TheConstants.{CPUS}
 use Rattle.event_log.specs.declared.ids.Tid.{Tid}
 use Rattle.event_log.specs.declared.ids.CpuId.{CpuId}
-use Rattle.layer_traits.specs.declared.ipc_layers.IpcLayer.{Ghosts}
+use Rattle.layer_traits.specs.declared.call_layers.CallLayer.{Ghosts}
 use Rattle.layer_traits.specs.Places.{Stands}
 use Rattle.cpu.specs.declared.cpus.Cpu.{Cpu}
 use Rattle.cpu.specs.Claims.{CpuShown, cpu_shown}
@@ -20,11 +20,11 @@ use Rattle.cpu.proofs.ListReads.{shown_at, shown_same, shown_length}
 use Rattle.cpu.proofs.Orders.{Has}
 
 -- what a CPU shows
-abbrev pub shown_by : {P M : Type 0} → Ghosts P M → Cpu P M → CpuShown
+abbrev pub shown_by : {P L M : Type 0} → Ghosts P L M → Cpu P M → CpuShown
 shown_by I x = cpu_shown (I.threads x.part) x.guests.items x.trace.items x.limit (I.is_inside x.part) (I.own x.part)
 
 -- what the machine tells, who owns its locks among it
-abbrev pub observed_by : {P M : Type 0} → Ghosts P M → (M → BufId → Option Tid) → M → Observed
+abbrev pub observed_by : {P L M : Type 0} → Ghosts P L M → (M → BufId → Option Tid) → M → Observed
 observed_by I owner m = record {
   caps = I.caps m;
   homes = I.homes_of m;
@@ -36,7 +36,7 @@ observed_by I owner m = record {
 }
 
 -- the CPUs of a system of so many threads
-abbrev pub works_by : {P M : Type 0} → Ghosts P M → (M → BufId → Option Tid) → ℕ → Works M (Cpu P M)
+abbrev pub works_by : {P L M : Type 0} → Ghosts P L M → (M → BufId → Option Tid) → ℕ → Works M (Cpu P M)
 works_by I owner threads = record {
   Fits = λ x m. I.Fits x.part m;
   number = λ x. x.number;
@@ -55,7 +55,7 @@ works_by I owner threads = record {
       × (I.IsStepwise → IsReachedByTable (shown_in (observed_by I owner m) (map (shown_by I) cpus) space done));
 }
 
-module _ {P M : Type 0} (I : Ghosts P M) (owner : M → BufId → Option Tid) (threads : ℕ) where
+module _ {P L M : Type 0} (I : Ghosts P L M) (owner : M → BufId → Option Tid) (threads : ℕ) where
   abbrev W : Works M (Cpu P M)
   W = works_by I owner threads
 
@@ -82,7 +82,7 @@ module _ {P M : Type 0} (I : Ghosts P M) (owner : M → BufId → Option Tid) (t
   }
 
 -- from what always holds of each CPU to what is shown of it
-pub cpus_have : {P M : Type 0} (I : Ghosts P M) (m : M) (cpus : List (Cpu P M))
+pub cpus_have : {P L M : Type 0} (I : Ghosts P L M) (m : M) (cpus : List (Cpu P M))
     → ((k : ℕ) (x : Cpu P M) → slice_get cpus k ≡ Some x
     → IsAt (λ y. I.Fits y.part m × (I.cpu_of y.part ≡ y.number) × IsCpuAt I m y × (I.IsStepwise → IsTabledAt I m y)) (λ y. y.number) k x)
     → ((part : P) → I.Fits part m → Stands (I.homes_of m) (I.cpu_of part) (I.moves m) (I.threads part))

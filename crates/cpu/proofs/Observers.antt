@@ -7,7 +7,7 @@ use Rattle.event_log.specs.declared.ids.CpuId.{CpuId}
 use Rattle.event_log.specs.declared.ids.Tid.{Tid}
 use Rattle.event_log.specs.declared.ids.TheConstants.{CPUS}
 use Rattle.layer_traits.specs.declared.calls.Place.{Place}
-use Rattle.layer_traits.specs.declared.ipc_layers.IpcLayer.{Ghosts}
+use Rattle.layer_traits.specs.declared.call_layers.CallLayer.{Ghosts}
 use Rattle.layer_traits.specs.OnePlace.{cpu_at}
 use Rattle.layer_traits.specs.Owned.{IsHeld}
 use Rattle.layer_traits.specs.Places.{AreMoves, Step, home_of, where_is}
@@ -25,7 +25,7 @@ inside_within MayHold n c holders known inside = go (cases_lt c.0 n)
     go (inl within) = within
     go (inr past) = absurd (holders past known inside)
 
-module _ {P M : Type 0} (I : Ghosts P M) (m : M) (cpus : List (Cpu P M))
+module _ {P L M : Type 0} (I : Ghosts P L M) (m : M) (cpus : List (Cpu P M))
     (each : (k : ℕ) (x : Cpu P M) → slice_get cpus k ≡ Some x → (x.number ≡ cpu_at k) × I.Fits x.part m × (I.cpu_of x.part ≡ x.number))
     (holders : (c : CpuId) → length cpus ≤ c.0 → c.0 < CPUS → I.MayHold m c → ⊥) where
   -- what a CPU has in its hands, some part of the system's tells

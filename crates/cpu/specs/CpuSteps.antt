@@ -1,7 +1,7 @@
 -- One CPU over a layer of message calls and its machine: what always holds of it, and what each of its steps leaves.
 use Rattle.std.specs.Prelude.{◌≡◌, ◌≢◌, ◌+◌, ◌≤◌, length, Option, vec_capacity}
 use Rattle.event_log.specs.declared.ids.CpuId.{CpuId}
-use Rattle.layer_traits.specs.declared.ipc_layers.IpcLayer.{Ghosts}
+use Rattle.layer_traits.specs.declared.call_layers.CallLayer.{Ghosts}
 use Rattle.layer_traits.specs.declared.steps.Reason.{Reason}
 use Rattle.layer_traits.specs.declared.steps.Step.{Step}
 use Rattle.layer_traits.specs.BufferLaw.{MovesGrow}
@@ -10,26 +10,26 @@ use Rattle.cpu.specs.Cpus.{ActsGrow, IsCpu, SeenGrows, halted_at, programs_of, r
 use Rattle.cpu.specs.Tables.{IsTabled, WentByTable}
 
 -- what always holds of the CPU
-abbrev pub IsCpuAt : {P M : Type 0} → Ghosts P M → M → Cpu P M → Type 0
+abbrev pub IsCpuAt : {P L M : Type 0} → Ghosts P L M → M → Cpu P M → Type 0
 IsCpuAt I m p = IsCpu (I.homes_of m) (length (I.caps m)) (I.seen m) (I.threads p.part) (I.call_states p.part)
     (I.under_way p.part) p.number p.guests.items p.trace.items
     p.limit (vec_capacity p.trace)
 
 -- and what the step table asks of it besides
-abbrev pub IsTabledAt : {P M : Type 0} → Ghosts P M → M → Cpu P M → Type 0
+abbrev pub IsTabledAt : {P L M : Type 0} → Ghosts P L M → M → Cpu P M → Type 0
 IsTabledAt I m p = IsTabled (I.homes_of m) (I.caps m) p.number (I.own p.part) (I.under_way p.part) p.guests.items (I.opening m)
 
 -- why the CPU takes no step
-abbrev pub stops_at : {P M : Type 0} → Ghosts P M → Cpu P M → Option Reason
+abbrev pub stops_at : {P L M : Type 0} → Ghosts P L M → Cpu P M → Option Reason
 stops_at I p = reason_in (I.is_inside p.part) (halted_at (I.threads p.part) p.guests.items p.trace.items p.limit)
 
 -- the CPU and its machine went on from the first two to the last two by one step of the table, which gives this answer
-abbrev pub WentAt : {P M : Type 0} → Ghosts P M → M → Cpu P M → M → Cpu P M → Step → Type 0
+abbrev pub WentAt : {P L M : Type 0} → Ghosts P L M → M → Cpu P M → M → Cpu P M → Step → Type 0
 WentAt I m p n q answer = WentByTable (I.ActsFor m) (I.homes_of m) (I.caps m) p.number p.limit (I.own p.part) (I.own q.part) p.guests.items q.guests.items
     p.trace.items q.trace.items (I.acts m) (I.acts n) answer
 
 -- what the CPU and its machine keep, and what only grows
-pub record Leaves {P M : Type 0} (I : Ghosts P M) (m : M) (p : Cpu P M) (n : M) (q : Cpu P M) : Type 0 where
+pub record Leaves {P L M : Type 0} (I : Ghosts P L M) (m : M) (p : Cpu P M) (n : M) (q : Cpu P M) : Type 0 where
   pub number : q.number ≡ p.number
   pub limit : q.limit ≡ p.limit
   pub cpu : I.cpu_of q.part ≡ p.number

@@ -9,7 +9,7 @@ ghost use Rattle.cpu.specs.Cpus.{begins_at, begun_count, chosen_for, guest_at};
 use crate::guest_tables::Guests;
 use crate::guests::{Guest, Todo};
 use event_log::{CpuId, Entry, Tid};
-use layer_traits::{Call, Effect, Ghost, IpcLayer, Pass, Reason, Reply, Step};
+use layer_traits::{Call, CallLayer, Effect, Ghost, IpcLaw, Pass, Reason, Reply, Step};
 
 /// What a CPU does next that is not halted.
 #[derive(Drop)]
@@ -25,7 +25,7 @@ pub enum Choice {
 /// One CPU: its part of the layer of message calls, and what it keeps for itself. All its room is
 /// taken when it is made.
 #[derive(Drop)]
-pub struct Cpu<I: IpcLayer> {
+pub struct Cpu<I: CallLayer<IpcLaw>> {
     /// Its part of the layer.
     pub part: I,
     /// Its number.
@@ -38,7 +38,7 @@ pub struct Cpu<I: IpcLayer> {
     pub limit: usize,
 }
 
-impl<I: IpcLayer> Cpu<I> {
+impl<I: CallLayer<IpcLaw>> Cpu<I> {
     ghost use Rattle.layer_traits.specs.declared.steps.Reason.{Reason};
     ghost use Rattle.layer_traits.specs.declared.steps.Step.TheVariants.{Halted, Stepped};
     ghost use Rattle.cpu.specs.declared.cpus.Choice.TheVariants.{Polls, Passes, Computes};
@@ -93,7 +93,7 @@ impl<I: IpcLayer> Cpu<I> {
     #[inline(always)]
     pub fn reason(&self) -> Option<Reason>
         requires { (t : _) → (I.threads self.now.part).current ≡ Some t → t.0 < length self.now.guests.items }
-        ensures { result ≡ stops_at ⟦<I as IpcLayer>⟧ self.now }
+        ensures { result ≡ stops_at ⟦<I as CallLayer<IpcLaw>>⟧ self.now }
     {
         if self.part.is_busy() {
             return None;
@@ -114,17 +114,17 @@ impl<I: IpcLayer> Cpu<I> {
         requires fits { I.Fits self.old.part m.old }
         requires room { 0 < I.room m.old }
         requires number { I.cpu_of self.old.part ≡ self.old.number }
-        requires is { IsCpuAt ⟦<I as IpcLayer>⟧ m.old self.old }
-        requires live { stops_at ⟦<I as IpcLayer>⟧ self.old ≡ None }
+        requires is { IsCpuAt ⟦<I as CallLayer<IpcLaw>>⟧ m.old self.old }
+        requires live { stops_at ⟦<I as CallLayer<IpcLaw>>⟧ self.old ≡ None }
         requires chosen { chosen (I.threads self.old.part) self.old.guests.items ≡ Polls thread call.now }
         requires not_full { begins_at (guest_at self.old.guests.items thread.0) ≡ true
             → length self.old.trace.items + begun_count self.old.guests.items < self.old.limit }
-        requires table { I.IsStepwise → IsTabledAt ⟦<I as IpcLayer>⟧ m.old self.old }
+        requires table { I.IsStepwise → IsTabledAt ⟦<I as CallLayer<IpcLaw>>⟧ m.old self.old }
         ensures fits { I.Fits self.new.part m.new }
-        ensures is { IsCpuAt ⟦<I as IpcLayer>⟧ m.new self.new }
-        ensures leaves { Leaves ⟦<I as IpcLayer>⟧ m.old self.old m.new self.new }
-        ensures table { I.IsStepwise → IsTabledAt ⟦<I as IpcLayer>⟧ m.new self.new }
-        ensures steps { I.IsStepwise → WentAt ⟦<I as IpcLayer>⟧ m.old self.old m.new self.new Stepped }
+        ensures is { IsCpuAt ⟦<I as CallLayer<IpcLaw>>⟧ m.new self.new }
+        ensures leaves { Leaves ⟦<I as CallLayer<IpcLaw>>⟧ m.old self.old m.new self.new }
+        ensures table { I.IsStepwise → IsTabledAt ⟦<I as CallLayer<IpcLaw>>⟧ m.new self.new }
+        ensures steps { I.IsStepwise → WentAt ⟦<I as CallLayer<IpcLaw>>⟧ m.old self.old m.new self.new Stepped }
     {
         let answer = self.part.poll(m, thread, call);
         let effect = self.part.effect_here(thread);
@@ -138,17 +138,17 @@ impl<I: IpcLayer> Cpu<I> {
         requires fits { I.Fits self.old.part m.old }
         requires room { 0 < I.room m.old }
         requires number { I.cpu_of self.old.part ≡ self.old.number }
-        requires is { IsCpuAt ⟦<I as IpcLayer>⟧ m.old self.old }
-        requires live { stops_at ⟦<I as IpcLayer>⟧ self.old ≡ None }
+        requires is { IsCpuAt ⟦<I as CallLayer<IpcLaw>>⟧ m.old self.old }
+        requires live { stops_at ⟦<I as CallLayer<IpcLaw>>⟧ self.old ≡ None }
         requires chosen { chosen (I.threads self.old.part) self.old.guests.items ≡ Polls thread asked }
         requires not_full { begins_at (guest_at self.old.guests.items thread.0) ≡ true
             → length self.old.trace.items + begun_count self.old.guests.items < self.old.limit }
-        requires table { I.IsStepwise → IsTabledAt ⟦<I as IpcLayer>⟧ m.old self.old }
+        requires table { I.IsStepwise → IsTabledAt ⟦<I as CallLayer<IpcLaw>>⟧ m.old self.old }
         ensures fits { I.Fits self.new.part m.new }
-        ensures is { IsCpuAt ⟦<I as IpcLayer>⟧ m.new self.new }
-        ensures leaves { Leaves ⟦<I as IpcLayer>⟧ m.old self.old m.new self.new }
-        ensures table { I.IsStepwise → IsTabledAt ⟦<I as IpcLayer>⟧ m.new self.new }
-        ensures steps { I.IsStepwise → WentAt ⟦<I as IpcLayer>⟧ m.old self.old m.new self.new Stepped }
+        ensures is { IsCpuAt ⟦<I as CallLayer<IpcLaw>>⟧ m.new self.new }
+        ensures leaves { Leaves ⟦<I as CallLayer<IpcLaw>>⟧ m.old self.old m.new self.new }
+        ensures table { I.IsStepwise → IsTabledAt ⟦<I as CallLayer<IpcLaw>>⟧ m.new self.new }
+        ensures steps { I.IsStepwise → WentAt ⟦<I as CallLayer<IpcLaw>>⟧ m.old self.old m.new self.new Stepped }
     {
         let call = self.guests.call_of(thread, asked);
         self.poll(m, thread, &call);
@@ -160,15 +160,15 @@ impl<I: IpcLayer> Cpu<I> {
         requires fits { I.Fits self.old.part m.old }
         requires room { 0 < I.room m.old }
         requires number { I.cpu_of self.old.part ≡ self.old.number }
-        requires is { IsCpuAt ⟦<I as IpcLayer>⟧ m.old self.old }
-        requires live { stops_at ⟦<I as IpcLayer>⟧ self.old ≡ None }
+        requires is { IsCpuAt ⟦<I as CallLayer<IpcLaw>>⟧ m.old self.old }
+        requires live { stops_at ⟦<I as CallLayer<IpcLaw>>⟧ self.old ≡ None }
         requires chosen { chosen (I.threads self.old.part) self.old.guests.items ≡ Passes pass }
-        requires table { I.IsStepwise → IsTabledAt ⟦<I as IpcLayer>⟧ m.old self.old }
+        requires table { I.IsStepwise → IsTabledAt ⟦<I as CallLayer<IpcLaw>>⟧ m.old self.old }
         ensures fits { I.Fits self.new.part m.new }
-        ensures is { IsCpuAt ⟦<I as IpcLayer>⟧ m.new self.new }
-        ensures leaves { Leaves ⟦<I as IpcLayer>⟧ m.old self.old m.new self.new }
-        ensures table { I.IsStepwise → IsTabledAt ⟦<I as IpcLayer>⟧ m.new self.new }
-        ensures steps { I.IsStepwise → WentAt ⟦<I as IpcLayer>⟧ m.old self.old m.new self.new Stepped }
+        ensures is { IsCpuAt ⟦<I as CallLayer<IpcLaw>>⟧ m.new self.new }
+        ensures leaves { Leaves ⟦<I as CallLayer<IpcLaw>>⟧ m.old self.old m.new self.new }
+        ensures table { I.IsStepwise → IsTabledAt ⟦<I as CallLayer<IpcLaw>>⟧ m.new self.new }
+        ensures steps { I.IsStepwise → WentAt ⟦<I as CallLayer<IpcLaw>>⟧ m.old self.old m.new self.new Stepped }
     {
         let runs = self.part.current();
         let done = self.part.pass(m, pass);
@@ -183,15 +183,15 @@ impl<I: IpcLayer> Cpu<I> {
         requires fits { I.Fits self.old.part m.old }
         requires room { 0 < I.room m.old }
         requires number { I.cpu_of self.old.part ≡ self.old.number }
-        requires is { IsCpuAt ⟦<I as IpcLayer>⟧ m.old self.old }
-        requires live { stops_at ⟦<I as IpcLayer>⟧ self.old ≡ None }
+        requires is { IsCpuAt ⟦<I as CallLayer<IpcLaw>>⟧ m.old self.old }
+        requires live { stops_at ⟦<I as CallLayer<IpcLaw>>⟧ self.old ≡ None }
         requires chosen { chosen (I.threads self.old.part) self.old.guests.items ≡ Computes thread }
-        requires table { I.IsStepwise → IsTabledAt ⟦<I as IpcLayer>⟧ m.old self.old }
+        requires table { I.IsStepwise → IsTabledAt ⟦<I as CallLayer<IpcLaw>>⟧ m.old self.old }
         ensures fits { I.Fits self.new.part m.new }
-        ensures is { IsCpuAt ⟦<I as IpcLayer>⟧ m.new self.new }
-        ensures leaves { Leaves ⟦<I as IpcLayer>⟧ m.old self.old m.new self.new }
-        ensures table { I.IsStepwise → IsTabledAt ⟦<I as IpcLayer>⟧ m.new self.new }
-        ensures steps { I.IsStepwise → WentAt ⟦<I as IpcLayer>⟧ m.old self.old m.new self.new Stepped }
+        ensures is { IsCpuAt ⟦<I as CallLayer<IpcLaw>>⟧ m.new self.new }
+        ensures leaves { Leaves ⟦<I as CallLayer<IpcLaw>>⟧ m.old self.old m.new self.new }
+        ensures table { I.IsStepwise → IsTabledAt ⟦<I as CallLayer<IpcLaw>>⟧ m.new self.new }
+        ensures steps { I.IsStepwise → WentAt ⟦<I as CallLayer<IpcLaw>>⟧ m.old self.old m.new self.new Stepped }
     {
         self.guests.note_compute(thread);
         let _ = m;
@@ -204,14 +204,14 @@ impl<I: IpcLayer> Cpu<I> {
         requires fits { I.Fits self.old.part m.old }
         requires room { 0 < I.room m.old }
         requires number { I.cpu_of self.old.part ≡ self.old.number }
-        requires is { IsCpuAt ⟦<I as IpcLayer>⟧ m.old self.old }
-        requires live { stops_at ⟦<I as IpcLayer>⟧ self.old ≡ None }
-        requires table { I.IsStepwise → IsTabledAt ⟦<I as IpcLayer>⟧ m.old self.old }
+        requires is { IsCpuAt ⟦<I as CallLayer<IpcLaw>>⟧ m.old self.old }
+        requires live { stops_at ⟦<I as CallLayer<IpcLaw>>⟧ self.old ≡ None }
+        requires table { I.IsStepwise → IsTabledAt ⟦<I as CallLayer<IpcLaw>>⟧ m.old self.old }
         ensures fits { I.Fits self.new.part m.new }
-        ensures is { IsCpuAt ⟦<I as IpcLayer>⟧ m.new self.new }
-        ensures leaves { Leaves ⟦<I as IpcLayer>⟧ m.old self.old m.new self.new }
-        ensures table { I.IsStepwise → IsTabledAt ⟦<I as IpcLayer>⟧ m.new self.new }
-        ensures steps { I.IsStepwise → WentAt ⟦<I as IpcLayer>⟧ m.old self.old m.new self.new Stepped }
+        ensures is { IsCpuAt ⟦<I as CallLayer<IpcLaw>>⟧ m.new self.new }
+        ensures leaves { Leaves ⟦<I as CallLayer<IpcLaw>>⟧ m.old self.old m.new self.new }
+        ensures table { I.IsStepwise → IsTabledAt ⟦<I as CallLayer<IpcLaw>>⟧ m.new self.new }
+        ensures steps { I.IsStepwise → WentAt ⟦<I as CallLayer<IpcLaw>>⟧ m.old self.old m.new self.new Stepped }
     {
         match self.choice() {
             Choice::Polls(thread, asked) => self.call(m, thread, asked),
@@ -233,15 +233,15 @@ impl<I: IpcLayer> Cpu<I> {
         requires fits { I.Fits self.old.part m.old }
         requires room { 0 < I.room m.old }
         requires number { I.cpu_of self.old.part ≡ self.old.number }
-        requires is { IsCpuAt ⟦<I as IpcLayer>⟧ m.old self.old }
-        requires table { I.IsStepwise → IsTabledAt ⟦<I as IpcLayer>⟧ m.old self.old }
+        requires is { IsCpuAt ⟦<I as CallLayer<IpcLaw>>⟧ m.old self.old }
+        requires table { I.IsStepwise → IsTabledAt ⟦<I as CallLayer<IpcLaw>>⟧ m.old self.old }
         ensures fits { I.Fits self.new.part m.new }
-        ensures is { IsCpuAt ⟦<I as IpcLayer>⟧ m.new self.new }
-        ensures leaves { Leaves ⟦<I as IpcLayer>⟧ m.old self.old m.new self.new }
-        ensures answer { result ≡ step_answer (stops_at ⟦<I as IpcLayer>⟧ self.old) }
+        ensures is { IsCpuAt ⟦<I as CallLayer<IpcLaw>>⟧ m.new self.new }
+        ensures leaves { Leaves ⟦<I as CallLayer<IpcLaw>>⟧ m.old self.old m.new self.new }
+        ensures answer { result ≡ step_answer (stops_at ⟦<I as CallLayer<IpcLaw>>⟧ self.old) }
         ensures still { (r : Reason) → result ≡ Halted r → (m.new ≡ m.old) × (self.new ≡ self.old) }
-        ensures table { I.IsStepwise → IsTabledAt ⟦<I as IpcLayer>⟧ m.new self.new }
-        ensures steps { I.IsStepwise → WentAt ⟦<I as IpcLayer>⟧ m.old self.old m.new self.new result }
+        ensures table { I.IsStepwise → IsTabledAt ⟦<I as CallLayer<IpcLaw>>⟧ m.new self.new }
+        ensures steps { I.IsStepwise → WentAt ⟦<I as CallLayer<IpcLaw>>⟧ m.old self.old m.new self.new result }
     {
         if let Some(reason) = self.reason() {
             return Step::Halted(reason);
@@ -257,15 +257,15 @@ impl<I: IpcLayer> Cpu<I> {
         requires fits { I.Fits self.old.part m.old }
         requires room { 0 < I.room m.old }
         requires number { I.cpu_of self.old.part ≡ self.old.number }
-        requires is { IsCpuAt ⟦<I as IpcLayer>⟧ m.old self.old }
-        requires table { I.IsStepwise → IsTabledAt ⟦<I as IpcLayer>⟧ m.old self.old }
+        requires is { IsCpuAt ⟦<I as CallLayer<IpcLaw>>⟧ m.old self.old }
+        requires table { I.IsStepwise → IsTabledAt ⟦<I as CallLayer<IpcLaw>>⟧ m.old self.old }
         ensures fits { I.Fits self.new.part m.new }
-        ensures is { IsCpuAt ⟦<I as IpcLayer>⟧ m.new self.new }
-        ensures leaves { Leaves ⟦<I as IpcLayer>⟧ m.old self.old m.new self.new }
+        ensures is { IsCpuAt ⟦<I as CallLayer<IpcLaw>>⟧ m.new self.new }
+        ensures leaves { Leaves ⟦<I as CallLayer<IpcLaw>>⟧ m.old self.old m.new self.new }
         ensures still { result ≡ false → (self.new ≡ self.old) × (m.new ≡ m.old) }
-        ensures live { result ≡ true → stops_at ⟦<I as IpcLayer>⟧ self.old ≡ None }
-        ensures table { I.IsStepwise → IsTabledAt ⟦<I as IpcLayer>⟧ m.new self.new }
-        ensures steps { I.IsStepwise → result ≡ true → WentAt ⟦<I as IpcLayer>⟧ m.old self.old m.new self.new Stepped }
+        ensures live { result ≡ true → stops_at ⟦<I as CallLayer<IpcLaw>>⟧ self.old ≡ None }
+        ensures table { I.IsStepwise → IsTabledAt ⟦<I as CallLayer<IpcLaw>>⟧ m.new self.new }
+        ensures steps { I.IsStepwise → result ≡ true → WentAt ⟦<I as CallLayer<IpcLaw>>⟧ m.old self.old m.new self.new Stepped }
     {
         self.part.look(m)
     }
@@ -282,15 +282,15 @@ impl<I: IpcLayer> Cpu<I> {
         requires fits { I.Fits self.old.part m.old }
         requires room { 0 < I.room m.old }
         requires number { I.cpu_of self.old.part ≡ self.old.number }
-        requires is { IsCpuAt ⟦<I as IpcLayer>⟧ m.old self.old }
-        requires table { I.IsStepwise → IsTabledAt ⟦<I as IpcLayer>⟧ m.old self.old }
+        requires is { IsCpuAt ⟦<I as CallLayer<IpcLaw>>⟧ m.old self.old }
+        requires table { I.IsStepwise → IsTabledAt ⟦<I as CallLayer<IpcLaw>>⟧ m.old self.old }
         ensures fits { I.Fits self.new.part m.new }
-        ensures is { IsCpuAt ⟦<I as IpcLayer>⟧ m.new self.new }
-        ensures leaves { Leaves ⟦<I as IpcLayer>⟧ m.old self.old m.new self.new }
-        ensures answer { result ≡ step_answer (stops_at ⟦<I as IpcLayer>⟧ self.old) }
+        ensures is { IsCpuAt ⟦<I as CallLayer<IpcLaw>>⟧ m.new self.new }
+        ensures leaves { Leaves ⟦<I as CallLayer<IpcLaw>>⟧ m.old self.old m.new self.new }
+        ensures answer { result ≡ step_answer (stops_at ⟦<I as CallLayer<IpcLaw>>⟧ self.old) }
         ensures still { (r : Reason) → result ≡ Halted r → (m.new ≡ m.old) × (self.new ≡ self.old) }
-        ensures table { I.IsStepwise → IsTabledAt ⟦<I as IpcLayer>⟧ m.new self.new }
-        ensures steps { I.IsStepwise → WentAt ⟦<I as IpcLayer>⟧ m.old self.old m.new self.new result }
+        ensures table { I.IsStepwise → IsTabledAt ⟦<I as CallLayer<IpcLaw>>⟧ m.new self.new }
+        ensures steps { I.IsStepwise → WentAt ⟦<I as CallLayer<IpcLaw>>⟧ m.old self.old m.new self.new result }
     {
         if self.look(m) {
             return Step::Stepped;

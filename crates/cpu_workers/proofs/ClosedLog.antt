@@ -52,7 +52,7 @@ use Rattle.queuing_lock.specs.Nested as lock
 use Rattle.fifo_buffer.specs.Laws.OwnedLaws.{items_acted}
 use Rattle.fifo_buffer.specs.Laws.Tallies.{effects_lawful}
 use Rattle.fifo_buffer.proofs.Opening.{boots_well, caps_are}
-use Rattle.ipc_calls.specs.Laws.OpeningLaws.{opens_so}
+use Rattle.layer_traits.specs.Laws.Openings.{opens_so}
 use Rattle.table_machine.specs.SeatViews.{TableView}
 use Rattle.cpu.specs.Table.Setups.{Setup, opening as table_opening}
 use Rattle.cpu.specs.Table.Steps.{block_at}

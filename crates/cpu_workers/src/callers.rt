@@ -8,7 +8,7 @@ ghost use Rattle.cpu_workers.specs.Callers.{HasCalled, HasMade};
 
 use crate::calling;
 use event_log::{BufId, CpuId, Msg, Tid};
-use layer_traits::{Call, IpcLayer, Reply};
+use layer_traits::{Call, CallLayer, IpcLaw, Reply};
 use std::marker::Model;
 use std::sync::Wait;
 use thiserror::Error;
@@ -27,7 +27,7 @@ pub struct Closed;
 /// which CPU and thread it is, the buffers' capacities, which machine, and the entries of its calls so
 /// far, oldest first.
 #[derive(Drop)]
-pub struct Caller<I: IpcLayer + Drop>
+pub struct Caller<I: CallLayer<IpcLaw> + Drop>
 where
     I::Machine: Drop,
 {
@@ -38,7 +38,7 @@ where
     made: u64,
 }
 
-impl<I: IpcLayer + Drop> Model for Caller<I>
+impl<I: CallLayer<IpcLaw> + Drop> Model for Caller<I>
 where
     I::Machine: Drop,
 {
@@ -65,7 +65,7 @@ where
         c.cpu (I.seen c.machine) c.made };
 }
 
-impl<I: IpcLayer + Drop> Caller<I>
+impl<I: CallLayer<IpcLaw> + Drop> Caller<I>
 where
     I::Machine: Drop,
 {

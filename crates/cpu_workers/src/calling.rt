@@ -9,7 +9,7 @@ ghost use Rattle.cpu_workers.specs.Calls.{Ends, KeepsOn, MayBegin, MayPoll, Retu
 
 use crate::turns::{SPINS, pause};
 use event_log::Tid;
-use layer_traits::{Call, IpcLayer, Pass, Reply};
+use layer_traits::{Call, CallLayer, IpcLaw, Pass, Reply};
 use std::sync::Wait;
 
 /// What a CPU polls for the call of one thread.
@@ -23,7 +23,7 @@ pub(crate) enum Begun {
 
 // What a CPU with nothing under way polls next for the call of `t`. A thread in its hand goes home
 // first.
-fn choose<I: IpcLayer>(part: &I, t: Tid) -> Begun
+fn choose<I: CallLayer<IpcLaw>>(part: &I, t: Tid) -> Begun
     ensures may { MayBegin t (I.threads part.now) result }
     ensures hand { result ≡ Calls → (I.threads part.now).hand ≡ None }
 {
@@ -39,7 +39,7 @@ fn choose<I: IpcLayer>(part: &I, t: Tid) -> Begun
 }
 
 // One poll of a pass. Tells whether it goes on.
-fn poll_pass<I: IpcLayer>(
+fn poll_pass<I: CallLayer<IpcLaw>>(
     part: &mut I,
     m: &mut I::Machine,
     t: Tid,
@@ -68,7 +68,7 @@ fn poll_pass<I: IpcLayer>(
 }
 
 // One poll of the call of `t`, which runs: its reply, or what is under way then.
-fn poll_call<I: IpcLayer>(
+fn poll_call<I: CallLayer<IpcLaw>>(
     part: &mut I,
     m: &mut I::Machine,
     t: Tid,
@@ -100,7 +100,7 @@ fn poll_call<I: IpcLayer>(
 
 // One look, or one poll of what is under way, or of what comes next for the call of `t`: the call's
 // reply, or what is under way then.
-fn poll_once<I: IpcLayer>(
+fn poll_once<I: CallLayer<IpcLaw>>(
     part: &mut I,
     m: &mut I::Machine,
     t: Tid,
@@ -137,7 +137,7 @@ fn poll_once<I: IpcLayer>(
 }
 
 // Whether nobody runs on the CPU, is ready there or is to be sent home by it.
-fn is_idle<I: IpcLayer>(part: &I) -> bool {
+fn is_idle<I: CallLayer<IpcLaw>>(part: &I) -> bool {
     part.current().is_none() && part.hand().is_none() && !part.has_ready()
 }
 
@@ -149,7 +149,7 @@ fn is_idle<I: IpcLayer>(part: &I) -> bool {
 ///
 /// Requires: the buffer's number is one of the machine's, which has room at any time. No call of `t` is
 /// under way.
-pub fn call<I: IpcLayer, R: Wait>(
+pub fn call<I: CallLayer<IpcLaw>, R: Wait>(
     rt: &R,
     part: &mut I,
     m: &mut I::Machine,

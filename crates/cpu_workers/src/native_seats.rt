@@ -15,7 +15,7 @@ use crate::natives::Native;
 use crate::starting::WorkerError;
 use event_log::{CpuId, NoMemory, Tid};
 use ipc_calls::{Ipc, TowerEdit, TowerLaws, TowerOver};
-use layer_traits::{IpcLayer, Layer, LockLaw};
+use layer_traits::{CallLayer, IpcLaw, Layer, LockLaw};
 use std::alloc::Global;
 use std::marker::PhantomData;
 use std::sync::Wait;
@@ -29,7 +29,7 @@ pub(crate) struct LeftNative<M: Drop, N: Drop> {
 }
 
 // The natives before their first calls, each at the thread of its number and over its machine.
-fn tasks_over<I: IpcLayer + Drop, N: Native + Drop>(
+fn tasks_over<I: CallLayer<IpcLaw> + Drop, N: Native + Drop>(
     alloc: Global,
     caps: &[u8],
     homes: &[CpuId],
@@ -73,7 +73,7 @@ where
 }
 
 // What one native leaves.
-fn left_by<I: IpcLayer + Drop, N: Native + Drop>(
+fn left_by<I: CallLayer<IpcLaw> + Drop, N: Native + Drop>(
     task: NativeTask<I, N>,
 ) -> LeftNative<I::Machine, N>
 where
@@ -91,7 +91,7 @@ where
 }
 
 // What all natives leave, put into the list, which has room.
-fn all_left<I: IpcLayer + Drop, N: Native + Drop>(
+fn all_left<I: CallLayer<IpcLaw> + Drop, N: Native + Drop>(
     done: Vec<NativeTask<I, N>>,
     mut left: Vec<LeftNative<I::Machine, N>>,
 ) -> Vec<LeftNative<I::Machine, N>>
@@ -112,7 +112,7 @@ where
 
 // Lets each native run over its machine, as `call_over` does, whatever the layers beneath the calls are.
 pub(crate) fn call_each<
-    I: IpcLayer + Drop + Send,
+    I: CallLayer<IpcLaw> + Drop + Send,
     N: Native + Drop + Send,
     R: Threads + Wait + Sync,
 >(

@@ -8,7 +8,7 @@ use crate::callers::Caller;
 use crate::natives::Native;
 use crate::starting::WorkerError;
 use crossbeam_utils::sync::WaitGroup;
-use layer_traits::IpcLayer;
+use layer_traits::{CallLayer, IpcLaw};
 use std::alloc::{AllocError, Global};
 use std::snapshot::Snapshot;
 use std::sync::Wait;
@@ -18,7 +18,7 @@ use std::thread::{Promise, PromisedHandle, Threads};
 
 /// A native and the caller through which it calls.
 #[derive(Drop)]
-pub(crate) struct NativeTask<I: IpcLayer + Drop, N: Native + Drop>
+pub(crate) struct NativeTask<I: CallLayer<IpcLaw> + Drop, N: Native + Drop>
 where
     I::Machine: Drop,
 {
@@ -28,14 +28,15 @@ where
 
 // What a native's thread keeps: if it ran, it has run from where it began.
 #[derive(Drop)]
-struct RunOf<I: IpcLayer + Drop, N: Native + Drop>
+struct RunOf<I: CallLayer<IpcLaw> + Drop, N: Native + Drop>
 where
     I::Machine: Drop,
 {
     task: Snapshot<NativeTask<I, N>>,
 }
 
-impl<I: IpcLayer + Drop, N: Native + Drop> Promise<Option<NativeTask<I, N>>> for RunOf<I, N>
+impl<I: CallLayer<IpcLaw> + Drop, N: Native + Drop> Promise<Option<NativeTask<I, N>>>
+    for RunOf<I, N>
 where
     I::Machine: Drop,
 {
@@ -47,7 +48,7 @@ where
 }
 
 // What a thread does: it waits until all are started, and lets its native run if they were.
-fn run<I: IpcLayer + Drop, N: Native + Drop, R: Wait>(
+fn run<I: CallLayer<IpcLaw> + Drop, N: Native + Drop, R: Wait>(
     rt: &R,
     go: &AtomicBool,
     start: WaitGroup,
@@ -72,7 +73,7 @@ where
 
 // The native that comes back from a thread. For one that did not run it would wait, since there is no
 // error to tell once calls were made: all run where all were started.
-fn join_one<I: IpcLayer + Drop, N: Native + Drop, R: Threads + Wait>(
+fn join_one<I: CallLayer<IpcLaw> + Drop, N: Native + Drop, R: Threads + Wait>(
     rt: &R,
     child: PromisedHandle<Option<NativeTask<I, N>>, RunOf<I, N>>,
 ) -> NativeTask<I, N>
@@ -88,7 +89,7 @@ where
 }
 
 // Joins the natives, and puts them into the list, which has room for them.
-fn join_all<I: IpcLayer + Drop, N: Native + Drop, R: Threads + Wait>(
+fn join_all<I: CallLayer<IpcLaw> + Drop, N: Native + Drop, R: Threads + Wait>(
     rt: &R,
     children: Vec<PromisedHandle<Option<NativeTask<I, N>>, RunOf<I, N>>>,
     mut done: Vec<NativeTask<I, N>>,
@@ -108,7 +109,7 @@ where
 
 // All memory that so many natives' threads take, but for their own.
 #[derive(Drop)]
-struct Supplies<I: IpcLayer + Drop, N: Native + Drop>
+struct Supplies<I: CallLayer<IpcLaw> + Drop, N: Native + Drop>
 where
     I::Machine: Drop,
 {
@@ -117,7 +118,7 @@ where
     done: Vec<NativeTask<I, N>>,
 }
 
-fn supplies_for<I: IpcLayer + Drop, N: Native + Drop>(
+fn supplies_for<I: CallLayer<IpcLaw> + Drop, N: Native + Drop>(
     alloc: Global,
     count: usize,
 ) -> Result<Supplies<I, N>, AllocError>
@@ -134,7 +135,7 @@ where
 }
 
 // A thread for each native, all started before any may call, and all joined.
-fn call_in<I: IpcLayer + Drop + Send, N: Native + Drop + Send, R: Threads + Wait + Sync>(
+fn call_in<I: CallLayer<IpcLaw> + Drop + Send, N: Native + Drop + Send, R: Threads + Wait + Sync>(
     rt: &R,
     go: &AtomicBool,
     tasks: Vec<NativeTask<I, N>>,
@@ -194,7 +195,7 @@ where
 /// Errors: `NoMemory` where memory was refused and `NoThread` where a thread could not be started;
 /// then no call was made.
 pub(crate) fn call_all<
-    I: IpcLayer + Drop + Send,
+    I: CallLayer<IpcLaw> + Drop + Send,
     N: Native + Drop + Send,
     R: Threads + Wait + Sync,
 >(rt: &R, alloc: Global, tasks: Vec<NativeTask<I, N>>) -> Result<Vec<NativeTask<I, N>>, WorkerError>

@@ -3,7 +3,7 @@
 ghost use Rattle.std.specs.Prelude.{◌≡◌, List, [], ℕ};
 
 use crate::callers::Caller;
-use layer_traits::IpcLayer;
+use layer_traits::{CallLayer, IpcLaw};
 use std::sync::Wait;
 
 /// What runs in a thread of its own, at a CPU of its own, and sends to buffers and receives from them
@@ -22,7 +22,7 @@ pub trait Native {
     /// It may wait for other threads, so it need not return.
     ///
     /// Requires: the caller has made no call, and its buffers are as this native needs them.
-    fn run<I: IpcLayer + Drop, R: Wait>(&mut self, rt: &R, caller: &mut Caller<I>)
+    fn run<I: CallLayer<IpcLaw> + Drop, R: Wait>(&mut self, rt: &R, caller: &mut Caller<I>)
     where
         I::Machine: Drop,
         requires fresh { caller.old.calls ≡ [] }

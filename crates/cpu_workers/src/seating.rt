@@ -19,7 +19,7 @@ use boot::Boot;
 use cpu::{guests_of, homes_of};
 use event_log::{CpuId, Entry, NoMemory};
 use ipc_calls::{Ipc, TowerEdit, TowerLaws, TowerOver};
-use layer_traits::{IpcLayer, Layer, LockLaw};
+use layer_traits::{CallLayer, IpcLaw, Layer, LockLaw};
 use std::alloc::Global;
 use std::marker::PhantomData;
 use std::sync::Wait;
@@ -34,7 +34,7 @@ pub(crate) struct Left<M: Drop> {
 }
 
 // The worker of a CPU of the plan before its first turn.
-fn worker_over<I: IpcLayer + Drop>(
+fn worker_over<I: CallLayer<IpcLaw> + Drop>(
     alloc: Global,
     boot: &Boot,
     number: CpuId,
@@ -65,7 +65,7 @@ where
 }
 
 // The workers of all CPUs of the plan before their first turn, each over its machine.
-fn workers_over<I: IpcLayer + Drop>(
+fn workers_over<I: CallLayer<IpcLaw> + Drop>(
     alloc: Global,
     boot: &Boot,
     machines: Vec<I::Machine>,
@@ -96,7 +96,7 @@ where
 }
 
 // What one worker leaves.
-fn apart<I: IpcLayer + Drop>(came: Came<I>) -> Left<I::Machine>
+fn apart<I: CallLayer<IpcLaw> + Drop>(came: Came<I>) -> Left<I::Machine>
 where
     I::Machine: Drop,
     ensures apart { IsApart came.worker (I.acts result.machine) (I.site result.machine) result.trace.items }
@@ -114,7 +114,7 @@ where
 }
 
 // What all workers leave, put into the list, which has room.
-fn all_apart<I: IpcLayer + Drop>(
+fn all_apart<I: CallLayer<IpcLaw> + Drop>(
     came: Vec<Came<I>>,
     mut left: Vec<Left<I::Machine>>,
 ) -> Vec<Left<I::Machine>>
@@ -134,7 +134,11 @@ where
 
 // Lets a worker of each CPU of the plan run over its machine, as `run_over` does, whatever the layers
 // beneath the calls are.
-pub(crate) fn run_each<I: IpcLayer + Drop + Send, G: Gate + Sync, R: Threads + Wait + Sync>(
+pub(crate) fn run_each<
+    I: CallLayer<IpcLaw> + Drop + Send,
+    G: Gate + Sync,
+    R: Threads + Wait + Sync,
+>(
     rt: &R,
     alloc: Global,
     boot: &Boot,

@@ -9,7 +9,7 @@ use crate::turns::{Did, work};
 use crate::worker::Worker;
 use crossbeam_utils::sync::WaitGroup;
 use event_log::NoMemory;
-use layer_traits::IpcLayer;
+use layer_traits::{CallLayer, IpcLaw};
 use std::alloc::{AllocError, Global};
 use std::snapshot::Snapshot;
 use std::sync::Wait;
@@ -47,7 +47,7 @@ impl From<AllocError> for WorkerError {
 
 /// A worker that has come back from its thread, and what it did there.
 #[derive(Drop)]
-pub struct Came<I: IpcLayer + Drop>
+pub struct Came<I: CallLayer<IpcLaw> + Drop>
 where
     I::Machine: Drop,
 {
@@ -59,7 +59,7 @@ where
 
 // What a worker's result keeps: if it ran, it has run from where it began.
 #[derive(Drop)]
-struct RunOf<I: IpcLayer + Drop, G: Gate>
+struct RunOf<I: CallLayer<IpcLaw> + Drop, G: Gate>
 where
     I::Machine: Drop,
 {
@@ -68,7 +68,7 @@ where
     turns: u64,
 }
 
-impl<I: IpcLayer + Drop, G: Gate> Promise<Option<Came<I>>> for RunOf<I, G>
+impl<I: CallLayer<IpcLaw> + Drop, G: Gate> Promise<Option<Came<I>>> for RunOf<I, G>
 where
     I::Machine: Drop,
 {
@@ -80,7 +80,7 @@ where
 }
 
 // What a thread does: it waits until all are started, and lets its worker run if they were.
-fn run<I: IpcLayer + Drop, G: Gate, R: Wait>(
+fn run<I: CallLayer<IpcLaw> + Drop, G: Gate, R: Wait>(
     rt: &R,
     gate: &G,
     go: &AtomicBool,
@@ -104,7 +104,7 @@ where
 }
 
 // Joins the workers, and puts them into the list, which has room for them.
-fn join_all<I: IpcLayer + Drop, G: Gate, R: Threads + Wait>(
+fn join_all<I: CallLayer<IpcLaw> + Drop, G: Gate, R: Threads + Wait>(
     rt: &R,
     children: Vec<PromisedHandle<Option<Came<I>>, RunOf<I, G>>>,
     mut done: Vec<Came<I>>,
@@ -125,7 +125,7 @@ where
 
 // The worker that comes back from a thread. For one that did not run it would wait, since there is no
 // error to tell once steps were taken: all run where all were started.
-fn join_one<I: IpcLayer + Drop, G: Gate, R: Threads + Wait>(
+fn join_one<I: CallLayer<IpcLaw> + Drop, G: Gate, R: Threads + Wait>(
     rt: &R,
     child: PromisedHandle<Option<Came<I>>, RunOf<I, G>>,
 ) -> Came<I>
@@ -142,7 +142,7 @@ where
 
 // All memory that so many workers' threads take, but for their own.
 #[derive(Drop)]
-struct Supplies<I: IpcLayer + Drop, G: Gate>
+struct Supplies<I: CallLayer<IpcLaw> + Drop, G: Gate>
 where
     I::Machine: Drop,
 {
@@ -151,7 +151,7 @@ where
     done: Vec<Came<I>>,
 }
 
-fn supplies_for<I: IpcLayer + Drop, G: Gate>(
+fn supplies_for<I: CallLayer<IpcLaw> + Drop, G: Gate>(
     alloc: Global,
     count: usize,
 ) -> Result<Supplies<I, G>, AllocError>
@@ -168,7 +168,7 @@ where
 }
 
 // A thread for each worker, all started before any may take a step, and all joined.
-fn work_in<I: IpcLayer + Drop + Send, G: Gate + Sync, R: Threads + Wait + Sync>(
+fn work_in<I: CallLayer<IpcLaw> + Drop + Send, G: Gate + Sync, R: Threads + Wait + Sync>(
     rt: &R,
     gate: &G,
     go: &AtomicBool,
@@ -234,7 +234,7 @@ where
 ///
 /// Errors: `NoMemory` where memory was refused and `NoThread` where a thread could not be started;
 /// then no step was taken.
-pub fn work_all<I: IpcLayer + Drop + Send, G: Gate + Sync, R: Threads + Wait + Sync>(
+pub fn work_all<I: CallLayer<IpcLaw> + Drop + Send, G: Gate + Sync, R: Threads + Wait + Sync>(
     rt: &R,
     alloc: Global,
     gate: &G,

@@ -11,7 +11,7 @@ ghost use Rattle.cpu_workers.specs.Reports.{HasRun, IsTrueStop, counted_on};
 use crate::gates::{Gate, Go};
 use crate::stops::Stop;
 use crate::worker::Worker;
-use layer_traits::{IpcLayer, Reason};
+use layer_traits::{CallLayer, IpcLaw, Reason};
 use std::sync::Wait;
 use std::thread;
 
@@ -72,7 +72,12 @@ fn ending(halted: Option<Reason>, held: bool, taken: u64, turns: u64) -> Option<
 }
 
 // Asks the gate, unless it has answered `Limit` before: whether it has now.
-fn ask<I: IpcLayer + Drop, G: Gate>(gate: &G, worker: &Worker<I>, taken: u64, held: bool) -> bool
+fn ask<I: CallLayer<IpcLaw> + Drop, G: Gate>(
+    gate: &G,
+    worker: &Worker<I>,
+    taken: u64,
+    held: bool,
+) -> bool
 where
     I::Machine: Drop,
     ensures limits { result ≡ true → (held ≡ true) ⊎ G.MayAnswer gate.now worker.now.cpu Limit taken }
@@ -84,7 +89,7 @@ where
 
 // What a worker does before a turn: whether it stops, and why. Inside a section it asks the gate alone,
 // and goes on.
-fn before<I: IpcLayer + Drop, G: Gate>(
+fn before<I: CallLayer<IpcLaw> + Drop, G: Gate>(
     gate: &G,
     worker: &Worker<I>,
     taken: u64,
@@ -125,7 +130,7 @@ where
 /// It may wait for other CPUs' sections and inside the gate, so it need not return.
 ///
 /// Requires: nothing was done in the machine yet.
-pub fn work<I: IpcLayer + Drop, G: Gate, R: Wait>(
+pub fn work<I: CallLayer<IpcLaw> + Drop, G: Gate, R: Wait>(
     rt: &R,
     gate: &G,
     worker: &mut Worker<I>,

@@ -4,14 +4,14 @@ ghost use Rattle.std.specs.Prelude.{◌≡◌, ◌≢◌, ◌<◌, ◌≤◌, So
 
 use cpu::{Cpu, Guest};
 use event_log::{CpuId, Entry, NoMemory};
-use layer_traits::{IpcLayer, Reason, Step};
+use layer_traits::{CallLayer, IpcLaw, Reason, Step};
 use std::alloc::Global;
 use std::marker::Model;
 
 /// One CPU with a machine of its own side, in which it may act at any time. A contract sees it as
 /// plain data: which CPU it is, its plan, and how it stands in the step table.
 #[derive(Drop)]
-pub struct Worker<I: IpcLayer + Drop>
+pub struct Worker<I: CallLayer<IpcLaw> + Drop>
 where
     I::Machine: Drop,
 {
@@ -19,7 +19,7 @@ where
     machine: I::Machine,
 }
 
-impl<I: IpcLayer + Drop> Model for Worker<I>
+impl<I: CallLayer<IpcLaw> + Drop> Model for Worker<I>
 where
     I::Machine: Drop,
 {
@@ -48,7 +48,7 @@ where
         ((m : I.Machine) → 0 < I.room m) (inner (I.opening w.machine) ≡ opening_locks (I.caps w.machine)) };
 }
 
-impl<I: IpcLayer + Drop> Worker<I>
+impl<I: CallLayer<IpcLaw> + Drop> Worker<I>
 where
     I::Machine: Drop,
 {

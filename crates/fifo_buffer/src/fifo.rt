@@ -1,6 +1,6 @@
 //! First-in first-out buffers.
 
-ghost use Rattle.std.specs.Prelude.{◌≡◌, ◌<◌, Some, None, IsSome, slice_set, if◌then◌else◌};
+ghost use Rattle.std.specs.Prelude.{◌≡◌, ◌<◌, [], Some, None, IsSome, refl, slice_set, if◌then◌else◌};
 ghost use Rattle.event_log.specs.declared.ids.LockId.TheVariants.{Buffer};
 ghost use Rattle.event_log.specs.declared.ids.TheConstants.{THREADS};
 ghost use Rattle.layer_traits.specs.BufferLaw.{buffer_of, buffering, going, plan_of, replied, call_state_of};
@@ -19,8 +19,8 @@ use crate::sections::{answers_at_once, buffer_in, load_message, reply, section};
 use arrayvec::ArrayVec;
 use event_log::{BufId, CAPACITY, CpuId, Msg, Tid};
 use layer_traits::{
-    BufferCall, BufferEdit, BufferLayer, Call, CvLaw, Effect, OwnedBuffers, OwnedConds, Pass,
-    Payload, Reply, Stage, ThreadLayer, WaitList,
+    BufferCall, BufferEdit, BufferLaw, Call, CallLayer, CvLaw, Effect, OwnedBuffers, OwnedConds,
+    Pass, Payload, Reply, Stage, ThreadLayer, WaitList,
 };
 
 /// One CPU's part of first-in first-out blocking bounded buffers (Anderson and Dahlin), over a part
@@ -101,12 +101,14 @@ impl<C: ThreadLayer<CvLaw<BufferEdit>>> Fifo<C> {
     }
 }
 
-impl<C: ThreadLayer<CvLaw<BufferEdit>>> BufferLayer for Fifo<C> {
+impl<C: ThreadLayer<CvLaw<BufferEdit>>> CallLayer<BufferLaw> for Fifo<C> {
     ghost use Rattle.std.proofs.Common.{ap};
     ghost use Rattle.event_log.specs.declared.ids.LockId.TheVariants.{Buffer};
     ghost use Rattle.layer_traits.proofs.ActedLemmas.{moves_read};
-    ghost use Rattle.layer_traits.specs.BufferEffects.{effects_in};
+    ghost use Rattle.event_log.specs.declared.ids.LockId.TheVariants.{Pending};
+    ghost use Rattle.layer_traits.specs.BufferEffects.{effects_in, opening_locks};
     ghost use Rattle.layer_traits.specs.BufferLaw.{buffering};
+    ghost use Rattle.layer_traits.specs.Laws.Openings.{opens_so};
     ghost use Rattle.layer_traits.specs.BufferProtocol.{buffer_monitor_rules};
     ghost use Rattle.layer_traits.specs.Conditions.{cv_rules};
     ghost use Rattle.layer_traits.specs.LockLaw.{lock_kernel};
@@ -119,9 +121,9 @@ impl<C: ThreadLayer<CvLaw<BufferEdit>>> BufferLayer for Fifo<C> {
 
     type Machine = C::Machine;
 
-    ghost opening = { λ m. C.opening m };
-
     ghost caps = { λ m. caps_in (C.opening m) };
+
+    ghost homes_of = { λ m. homes_in (C.opening m) };
 
     ghost seen = { λ m. effects_in (inner (C.opening m)) (buffer_sections (C.seen m)) };
 
@@ -135,13 +137,19 @@ impl<C: ThreadLayer<CvLaw<BufferEdit>>> BufferLayer for Fifo<C> {
 
     ghost site = { λ m. C.site m };
 
-    ghost IsOutside = { λ m c. C.IsOutside m c };
+    ghost IsFresh = { λ m homes c. (C.ActsFor m c × BootsSo (C.opening m)) × C.IsOutside m c
+        × (effects_in (inner (C.opening m)) (buffer_sections (C.seen m)) ≡ [])
+        × (moves_in (lock_kernel (cv_rules buffer_monitor_rules) (C.opening m)) (C.seen m) ≡ [])
+        × (homes_in (C.opening m) ≡ homes) × IsSome (C.opening m (Pending c))
+        × (inner (C.opening m) ≡ opening_locks (caps_in (C.opening m))) };
 
     ghost MayHold = { λ m c. C.MayHold m c };
 
     ghost cpu_of = { λ p. C.cpu_of p.lower };
 
-    ghost own = { λ p. buffering (C.own p.lower) p.call_states.call_states };
+    ghost threads = { λ p. (C.own p.lower).lock.sleep.threads };
+
+    ghost call_states = { λ p. p.call_states.call_states };
 
     ghost is_inside = { λ p. C.is_inside p.lower };
 
@@ -154,7 +162,11 @@ impl<C: ThreadLayer<CvLaw<BufferEdit>>> BufferLayer for Fifo<C> {
 
     ghost IsStepwise = { C.IsStepwise };
 
+    ghost opening = { λ m. C.opening m };
+
     ghost acts = { λ m. C.acts m };
+
+    ghost own = { λ p. buffering (C.own p.lower) p.call_states.call_states };
 
     fn part(cpu: CpuId, homes: &[CpuId], buffers: u8) -> Self {
         Fifo {
@@ -227,7 +239,9 @@ impl<C: ThreadLayer<CvLaw<BufferEdit>>> BufferLayer for Fifo<C> {
 
     ghost lists = { λ p m fits. fifo_wait_lists (C.opening m) (C.seen m) fits.1.boots (C.stands p.lower m fits.0).lists };
 
-    ghost opens = { λ m c acts. C.opens m c acts.0 };
+    ghost reads_own = { λ step p. (refl, refl) };
+
+    ghost reads_homes = { λ step m. refl };
 
     ghost legal = { λ m c acts. C.legal m c acts.0 };
 
@@ -240,6 +254,8 @@ impl<C: ThreadLayer<CvLaw<BufferEdit>>> BufferLayer for Fifo<C> {
 
     ghost idle = { λ p m fits nothing. C.idle p.lower m fits.0
         (none_under (C.opening m) (C.cpu_of p.lower) (C.seen m) (C.own p.lower) p.call_states.call_states (C.under_way p.lower) p.calling fits.1 nothing) };
+
+    ghost opens = { λ step m homes c fresh. opens_so (caps_in (C.opening m)) homes c (C.opening m) (C.opens m c fresh.0.0) fresh.4 fresh.5 fresh.6 };
 }
 
 impl<C: OwnedConds<BufferEdit>> OwnedBuffers for Fifo<C> {
@@ -387,5 +403,5 @@ impl<C: OwnedConds<BufferEdit>> OwnedBuffers for Fifo<C> {
     ghost queues = { λ m c d acts there. queue_read (λ (p : Self). p.lower) (λ p. C.Fits p m)
         (λ (p : Self). Self.Fits p m) (λ p. C.cpu_of p) (C.MayHold m) (λ p fits. fits.0)
         (λ p. C.queue_with p d) (C.queue_at m d) (pending_by (moves_in (lock_kernel (cv_rules buffer_monitor_rules) (C.opening m)) (C.seen m)) d)
-        (C.queues m c d acts.0 there) };
+        (C.queues m c d acts.0 ((C.opens m c acts.0).queues there.0 d there.1)) };
 }

@@ -1,3 +1,2 @@
 -- Lemmas that clauses of impls cite. They are proved here: no reader of a contract needs to believe them.
-pub mod OpeningLaws
 pub mod PlaceLaws

@@ -1,28 +1,26 @@
 //! Message calls over a layer of buffers, on an owned machine: what each takes, poll by poll.
 
 ghost use Rattle.std.specs.Prelude.{◌≡◌, ◌≢◌, ◌+◌, ◌<◌, ◌≤◌, [], ◌∷◌, true, Some, None, IsSome, IfOk, length};
-ghost use Rattle.event_log.specs.declared.ids.LockId.TheVariants.{Pending};
 ghost use Rattle.event_log.specs.declared.ids.TheConstants.{CPUS};
 ghost use Rattle.layer_traits.specs.declared.passes.Pass.TheVariants.{Drain};
-ghost use Rattle.layer_traits.specs.BufferEffects.{opening_locks};
 ghost use Rattle.layer_traits.specs.BufferLaw.{Calling, MayGoOn, MayPollCall, Passing, buffer_of, call_state_of};
-ghost use Rattle.layer_traits.specs.QueueBlocks.{homes_in, inner};
+ghost use Rattle.layer_traits.specs.Places.{home_of};
 
 use crate::OpensBuffers;
 use event_log::{BufId, CpuId, Kind, Msg, NoMemory, Tid};
-use layer_traits::{BufferLayer, Call, Effect, OwnedBuffers, Pass, Reply, WaitList};
+use layer_traits::{BufferLaw, Call, CallLayer, Effect, OwnedBuffers, Pass, Reply, WaitList};
 use std::alloc::Global;
 
 /// The next ready thread runs, if nobody does and nobody stands in the hand.
-fn switch<B: BufferLayer>(part: &mut B, m: &mut B::Machine) -> bool
+fn switch<B: CallLayer<BufferLaw>>(part: &mut B, m: &mut B::Machine) -> bool
     requires fits { B.Fits part.old m.old }
     requires idle { B.under_way part.old ≡ None }
     requires room { 0 < B.room m.old }
     ensures fits { B.Fits part.new m.new }
     ensures idle { result ≡ true → B.under_way part.new ≡ None }
-    ensures call_states { (B.own part.new).call_states ≡ (B.own part.old).call_states }
+    ensures call_states { (B.call_states part.new) ≡ (B.call_states part.old) }
     ensures cpu { B.cpu_of part.new ≡ B.cpu_of part.old }
-    ensures opening { B.opening m.new ≡ B.opening m.old }
+    ensures homes { B.homes_of m.new ≡ B.homes_of m.old }
     ensures caps { B.caps m.new ≡ B.caps m.old }
     ensures room { B.room m.old ≤ B.room m.new + 1 }
     ensures acts { (c : _) → B.ActsFor m.old c → B.ActsFor m.new c }
@@ -35,14 +33,14 @@ fn switch<B: BufferLayer>(part: &mut B, m: &mut B::Machine) -> bool
 }
 
 /// One poll of a drain, if nobody runs, is ready or stands in the hand.
-fn drain_poll<B: BufferLayer>(part: &mut B, m: &mut B::Machine) -> Option<()>
+fn drain_poll<B: CallLayer<BufferLaw>>(part: &mut B, m: &mut B::Machine) -> Option<()>
     requires fits { B.Fits part.old m.old }
     requires goes_on { MayGoOn (B.under_way part.old) (Passing Drain) }
     requires room { 0 < B.room m.old }
     ensures fits { B.Fits part.new m.new }
     ensures goes_on { MayGoOn (B.under_way part.new) (Passing Drain) }
     ensures idle { IsSome result → B.under_way part.new ≡ None }
-    ensures call_states { (B.own part.new).call_states ≡ (B.own part.old).call_states }
+    ensures call_states { (B.call_states part.new) ≡ (B.call_states part.old) }
     ensures cpu { B.cpu_of part.new ≡ B.cpu_of part.old }
     ensures caps { B.caps m.new ≡ B.caps m.old }
     ensures room { B.room m.old ≤ B.room m.new + 1 }
@@ -56,13 +54,13 @@ fn drain_poll<B: BufferLayer>(part: &mut B, m: &mut B::Machine) -> Option<()>
 }
 
 /// Who is pending becomes ready in three polls, of which the third ends it.
-fn drain<B: BufferLayer>(part: &mut B, m: &mut B::Machine) -> bool
+fn drain<B: CallLayer<BufferLaw>>(part: &mut B, m: &mut B::Machine) -> bool
     requires fits { B.Fits part.old m.old }
     requires idle { B.under_way part.old ≡ None }
     requires room { 3 ≤ B.room m.old }
     ensures fits { B.Fits part.new m.new }
     ensures idle { result ≡ true → B.under_way part.new ≡ None }
-    ensures call_states { (B.own part.new).call_states ≡ (B.own part.old).call_states }
+    ensures call_states { (B.call_states part.new) ≡ (B.call_states part.old) }
     ensures cpu { B.cpu_of part.new ≡ B.cpu_of part.old }
     ensures caps { B.caps m.new ≡ B.caps m.old }
     ensures room { B.room m.old ≤ B.room m.new + 3 }
@@ -79,7 +77,7 @@ fn drain<B: BufferLayer>(part: &mut B, m: &mut B::Machine) -> bool
 }
 
 /// So many polls of the call of `t`, none of which answers; true if `t` runs before each of them.
-fn polls<B: BufferLayer>(
+fn polls<B: CallLayer<BufferLaw>>(
     part: &mut B,
     m: &mut B::Machine,
     t: Tid,
@@ -89,19 +87,19 @@ fn polls<B: BufferLayer>(
     requires fits { B.Fits part.old m.old }
     requires buffer { (buffer_of call.now).0 < length (B.caps m.old) }
     requires room { count ≤ B.room m.old }
-    requires hand { (B.own part.old).cv.lock.sleep.threads.current ≡ Some t → B.under_way part.old ≡ None
-        → (B.own part.old).cv.lock.sleep.threads.hand ≡ None }
-    requires same { MayPollCall (call_state_of (B.own part.old).call_states t) call.now }
+    requires hand { (B.threads part.old).current ≡ Some t → B.under_way part.old ≡ None
+        → (B.threads part.old).hand ≡ None }
+    requires same { MayPollCall (call_state_of (B.call_states part.old) t) call.now }
     requires goes_on { MayGoOn (B.under_way part.old) (Calling t) }
-    requires idle { (B.own part.old).cv.lock.sleep.threads.current ≡ None → B.under_way part.old ≡ None }
+    requires idle { (B.threads part.old).current ≡ None → B.under_way part.old ≡ None }
     ensures fits { B.Fits part.new m.new }
-    ensures hand { (B.own part.new).cv.lock.sleep.threads.current ≡ Some t → B.under_way part.new ≡ None
-        → (B.own part.new).cv.lock.sleep.threads.hand ≡ None }
-    ensures same { MayPollCall (call_state_of (B.own part.new).call_states t) call.now }
+    ensures hand { (B.threads part.new).current ≡ Some t → B.under_way part.new ≡ None
+        → (B.threads part.new).hand ≡ None }
+    ensures same { MayPollCall (call_state_of (B.call_states part.new) t) call.now }
     ensures goes_on { MayGoOn (B.under_way part.new) (Calling t) }
-    ensures idle { (B.own part.new).cv.lock.sleep.threads.current ≡ None → B.under_way part.new ≡ None }
+    ensures idle { (B.threads part.new).current ≡ None → B.under_way part.new ≡ None }
     ensures cpu { B.cpu_of part.new ≡ B.cpu_of part.old }
-    ensures opening { B.opening m.new ≡ B.opening m.old }
+    ensures homes { B.homes_of m.new ≡ B.homes_of m.old }
     ensures caps { B.caps m.new ≡ B.caps m.old }
     ensures room { B.room m.old ≤ B.room m.new + count }
     ensures acts { (c : _) → B.ActsFor m.old c → B.ActsFor m.new c }
@@ -121,17 +119,22 @@ fn polls<B: BufferLayer>(
 }
 
 /// The last poll of the call of `t`: its reply.
-fn last<B: BufferLayer>(part: &mut B, m: &mut B::Machine, t: Tid, call: &Call) -> Option<Reply>
+fn last<B: CallLayer<BufferLaw>>(
+    part: &mut B,
+    m: &mut B::Machine,
+    t: Tid,
+    call: &Call,
+) -> Option<Reply>
     requires fits { B.Fits part.old m.old }
     requires buffer { (buffer_of call.now).0 < length (B.caps m.old) }
     requires room { 0 < B.room m.old }
-    requires hand { (B.own part.old).cv.lock.sleep.threads.current ≡ Some t → B.under_way part.old ≡ None
-        → (B.own part.old).cv.lock.sleep.threads.hand ≡ None }
-    requires same { MayPollCall (call_state_of (B.own part.old).call_states t) call.now }
+    requires hand { (B.threads part.old).current ≡ Some t → B.under_way part.old ≡ None
+        → (B.threads part.old).hand ≡ None }
+    requires same { MayPollCall (call_state_of (B.call_states part.old) t) call.now }
     requires goes_on { MayGoOn (B.under_way part.old) (Calling t) }
     ensures fits { B.Fits part.new m.new }
     ensures idle { IsSome result → B.under_way part.new ≡ None }
-    ensures free { IsSome result → (next : _) → MayPollCall (call_state_of (B.own part.new).call_states t) next }
+    ensures free { IsSome result → (next : _) → MayPollCall (call_state_of (B.call_states part.new) t) next }
     ensures cpu { B.cpu_of part.new ≡ B.cpu_of part.old }
     ensures caps { B.caps m.new ≡ B.caps m.old }
     ensures room { B.room m.old ≤ B.room m.new + 1 }
@@ -146,7 +149,7 @@ fn last<B: BufferLayer>(part: &mut B, m: &mut B::Machine, t: Tid, call: &Call) -
 
 /// The reply of the call of `t`, which takes so many polls and one more; `None` if it goes
 /// otherwise.
-fn takes<B: BufferLayer>(
+fn takes<B: CallLayer<BufferLaw>>(
     part: &mut B,
     m: &mut B::Machine,
     t: Tid,
@@ -157,10 +160,10 @@ fn takes<B: BufferLayer>(
     requires buffer { (buffer_of call.now).0 < length (B.caps m.old) }
     requires room { before < B.room m.old }
     requires start { B.under_way part.old ≡ None }
-    requires same { MayPollCall (call_state_of (B.own part.old).call_states t) call.now }
+    requires same { MayPollCall (call_state_of (B.call_states part.old) t) call.now }
     ensures fits { B.Fits part.new m.new }
     ensures idle { IsSome result → B.under_way part.new ≡ None }
-    ensures free { IsSome result → (next : _) → MayPollCall (call_state_of (B.own part.new).call_states t) next }
+    ensures free { IsSome result → (next : _) → MayPollCall (call_state_of (B.call_states part.new) t) next }
     ensures cpu { B.cpu_of part.new ≡ B.cpu_of part.old }
     ensures caps { B.caps m.new ≡ B.caps m.old }
     ensures room { B.room m.old ≤ B.room m.new + before + 1 }
@@ -174,7 +177,7 @@ fn takes<B: BufferLayer>(
 }
 
 /// Whether `t` waits within its call after so many polls.
-fn waits<B: BufferLayer>(
+fn waits<B: CallLayer<BufferLaw>>(
     part: &mut B,
     m: &mut B::Machine,
     t: Tid,
@@ -185,10 +188,10 @@ fn waits<B: BufferLayer>(
     requires buffer { (buffer_of call.now).0 < length (B.caps m.old) }
     requires room { count ≤ B.room m.old }
     requires start { B.under_way part.old ≡ None }
-    requires same { MayPollCall (call_state_of (B.own part.old).call_states t) call.now }
+    requires same { MayPollCall (call_state_of (B.call_states part.old) t) call.now }
     ensures fits { B.Fits part.new m.new }
     ensures idle { result ≡ true → B.under_way part.new ≡ None }
-    ensures same { MayPollCall (call_state_of (B.own part.new).call_states t) call.now }
+    ensures same { MayPollCall (call_state_of (B.call_states part.new) t) call.now }
     ensures cpu { B.cpu_of part.new ≡ B.cpu_of part.old }
     ensures caps { B.caps m.new ≡ B.caps m.old }
     ensures room { B.room m.old ≤ B.room m.new + count }
@@ -227,7 +230,7 @@ fn alone<B: OwnedBuffers>(part: &mut B, m: &mut B::Machine) -> bool
     requires buffer { 0 < length (B.caps m.old) }
     requires room { 40 ≤ B.room m.old }
     requires start { B.under_way part.old ≡ None }
-    requires free { (next : _) → MayPollCall (call_state_of (B.own part.old).call_states (record { 0 = 0 })) next }
+    requires free { (next : _) → MayPollCall (call_state_of (B.call_states part.old) (record { 0 = 0 })) next }
 {
     let send = Call::Send(BufId(0), Msg::one(7));
     if !switch(part, m) || part.hand().is_some() || !polls(part, m, Tid(0), &send, 8) {
@@ -253,15 +256,15 @@ fn alone<B: OwnedBuffers>(part: &mut B, m: &mut B::Machine) -> bool
 }
 
 /// A thread alone closes in 15 polls, with the effect in the sixth, behind one effect.
-fn closes<B: BufferLayer>(part: &mut B, m: &mut B::Machine) -> bool
+fn closes<B: CallLayer<BufferLaw>>(part: &mut B, m: &mut B::Machine) -> bool
     requires fits { B.Fits part.old m.old }
     requires buffer { 0 < length (B.caps m.old) }
     requires room { 15 ≤ B.room m.old }
     requires start { B.under_way part.old ≡ None }
-    requires free { (next : _) → MayPollCall (call_state_of (B.own part.old).call_states (record { 0 = 0 })) next }
+    requires free { (next : _) → MayPollCall (call_state_of (B.call_states part.old) (record { 0 = 0 })) next }
     ensures fits { B.Fits part.new m.new }
     ensures idle { result ≡ true → B.under_way part.new ≡ None }
-    ensures free { result ≡ true → (next : _) → MayPollCall (call_state_of (B.own part.new).call_states (record { 0 = 0 })) next }
+    ensures free { result ≡ true → (next : _) → MayPollCall (call_state_of (B.call_states part.new) (record { 0 = 0 })) next }
     ensures caps { B.caps m.new ≡ B.caps m.old }
     ensures room { B.room m.old ≤ B.room m.new + 15 }
     ensures acts { (c : _) → B.ActsFor m.old c → B.ActsFor m.new c }
@@ -296,7 +299,7 @@ fn drains<B: OwnedBuffers>(part: &mut B, m: &mut B::Machine) -> bool
     requires buffer { 0 < length (B.caps m.old) }
     requires room { 100 ≤ B.room m.old }
     requires start { B.under_way part.old ≡ None }
-    requires free { (next : _) → MayPollCall (call_state_of (B.own part.old).call_states (record { 0 = 0 })) next }
+    requires free { (next : _) → MayPollCall (call_state_of (B.call_states part.old) (record { 0 = 0 })) next }
 {
     if !switch(part, m) {
         return false;
@@ -318,7 +321,7 @@ fn drains<B: OwnedBuffers>(part: &mut B, m: &mut B::Machine) -> bool
 
 /// Thread 1 does this call, which wakes thread 0 on the other CPU, in so many polls and one more;
 /// then thread 0 goes on with its call, and ends it in 15.
-fn goes_on<B: BufferLayer>(
+fn goes_on<B: CallLayer<BufferLaw>>(
     home: &mut B,
     away: &mut B,
     m: &mut B::Machine,
@@ -334,8 +337,8 @@ fn goes_on<B: BufferLayer>(
     requires room { before + 40 ≤ B.room m.old }
     requires home_start { B.under_way home.old ≡ None }
     requires away_start { B.under_way away.old ≡ None }
-    requires home_same { MayPollCall (call_state_of (B.own home.old).call_states (record { 0 = 0 })) waiting.now }
-    requires away_same { MayPollCall (call_state_of (B.own away.old).call_states (record { 0 = 1 })) waking.now }
+    requires home_same { MayPollCall (call_state_of (B.call_states home.old) (record { 0 = 0 })) waiting.now }
+    requires away_same { MayPollCall (call_state_of (B.call_states away.old) (record { 0 = 1 })) waking.now }
     ensures acts { (c : _) → B.ActsFor m.old c → B.ActsFor m.new c }
     ensures caps { B.caps m.new ≡ B.caps m.old }
 {
@@ -363,8 +366,8 @@ fn receiver_waits<B: OwnedBuffers>(home: &mut B, away: &mut B, m: &mut B::Machin
     requires room { 100 ≤ B.room m.old }
     requires home_start { B.under_way home.old ≡ None }
     requires away_start { B.under_way away.old ≡ None }
-    requires home_free { (next : _) → MayPollCall (call_state_of (B.own home.old).call_states (record { 0 = 0 })) next }
-    requires away_free { (next : _) → MayPollCall (call_state_of (B.own away.old).call_states (record { 0 = 1 })) next }
+    requires home_free { (next : _) → MayPollCall (call_state_of (B.call_states home.old) (record { 0 = 0 })) next }
+    requires away_free { (next : _) → MayPollCall (call_state_of (B.call_states away.old) (record { 0 = 1 })) next }
 {
     let recv = Call::Recv(BufId(0));
     if !switch(home, m) || !switch(away, m) || !waits(home, m, Tid(0), &recv, 12) {
@@ -388,8 +391,8 @@ fn sender_waits<B: OwnedBuffers>(home: &mut B, away: &mut B, m: &mut B::Machine)
     requires room { 100 ≤ B.room m.old }
     requires home_start { B.under_way home.old ≡ None }
     requires away_start { B.under_way away.old ≡ None }
-    requires home_free { (next : _) → MayPollCall (call_state_of (B.own home.old).call_states (record { 0 = 0 })) next }
-    requires away_free { (next : _) → MayPollCall (call_state_of (B.own away.old).call_states (record { 0 = 1 })) next }
+    requires home_free { (next : _) → MayPollCall (call_state_of (B.call_states home.old) (record { 0 = 0 })) next }
+    requires away_free { (next : _) → MayPollCall (call_state_of (B.call_states away.old) (record { 0 = 1 })) next }
 {
     if !switch(home, m) || !switch(away, m) {
         return false;
@@ -421,8 +424,8 @@ fn receiver_learns<B: OwnedBuffers>(home: &mut B, away: &mut B, m: &mut B::Machi
     requires room { 100 ≤ B.room m.old }
     requires home_start { B.under_way home.old ≡ None }
     requires away_start { B.under_way away.old ≡ None }
-    requires home_free { (next : _) → MayPollCall (call_state_of (B.own home.old).call_states (record { 0 = 0 })) next }
-    requires away_free { (next : _) → MayPollCall (call_state_of (B.own away.old).call_states (record { 0 = 1 })) next }
+    requires home_free { (next : _) → MayPollCall (call_state_of (B.call_states home.old) (record { 0 = 0 })) next }
+    requires away_free { (next : _) → MayPollCall (call_state_of (B.call_states away.old) (record { 0 = 1 })) next }
 {
     let recv = Call::Recv(BufId(0));
     if !switch(home, m) || !switch(away, m) || !waits(home, m, Tid(0), &recv, 12) {
@@ -441,10 +444,10 @@ fn read_in_hand<B: OwnedBuffers>(part: &mut B, m: &mut B::Machine) -> bool
     requires fits { B.Fits part.old m.old }
     requires acts { B.ActsFor m.old (record { 0 = 0 }) }
     requires buffer { 0 < length (B.caps m.old) }
-    requires queue { IsSome (B.opening m.old (Pending (record { 0 = 1 }))) }
+    requires home { (u : _) × (home_of (B.homes_of m.old) u ≡ Some (record { 0 = 1 })) }
     requires room { 10 ≤ B.room m.old }
     requires start { B.under_way part.old ≡ None }
-    requires free { (next : _) → MayPollCall (call_state_of (B.own part.old).call_states (record { 0 = 0 })) next }
+    requires free { (next : _) → MayPollCall (call_state_of (B.call_states part.old) (record { 0 = 0 })) next }
 {
     let recv = Call::Recv(BufId(0));
     if !switch(part, m) || part.hand().is_some() || !polls(part, m, Tid(0), &recv, 1) {
@@ -493,31 +496,22 @@ fn ends<B: OwnedBuffers>(part: &mut B, m: &mut B::Machine) -> bool
 /// and thread 1 on CPU 1.
 fn machine<B: OpensBuffers>(alloc: Global) -> Result<B::Machine, NoMemory>
     ensures caps { IfOk result (λ m. B.caps m ≡ 1 ∷ []) }
-    ensures homes { IfOk result (λ m. homes_in (B.opening m) ≡ record { 0 = 0 } ∷ record { 0 = 1 } ∷ []) }
-    ensures seen { IfOk result (λ m. B.seen m ≡ []) }
-    ensures moves { IfOk result (λ m. B.moves m ≡ []) }
+    ensures home { IfOk result (λ m. (u : _) × (home_of (B.homes_of m) u ≡ Some (record { 0 = 1 }))) }
     ensures room { IfOk result (λ m. 120 ≤ B.room m) }
-    ensures locks { IfOk result (λ m. inner (B.opening m) ≡ opening_locks (B.caps m)) }
-    ensures queues { IfOk result (λ m. (c : _) → c.0 < 2 → IsSome (B.opening m (Pending c))) }
+    ensures fresh { IfOk result (λ m. (c : _) → c.0 < 2 → B.IsFresh m (record { 0 = 0 } ∷ record { 0 = 1 } ∷ []) c) }
     ensures acts { IfOk result (λ m. (c : _) → c.0 < CPUS → B.ActsFor m c) }
-    ensures outside { IfOk result (λ m. (c : _) → c.0 < CPUS → B.IsOutside m c) }
 {
     B::open(alloc, 2, &[1], &[CpuId(0), CpuId(1)], 120)
 }
 
 /// The part of a CPU at boot.
 fn part<B: OpensBuffers>(m: &B::Machine, cpu: CpuId) -> B
-    requires acts { B.ActsFor m.now cpu }
-    requires outside { B.IsOutside m.now cpu }
-    requires seen { B.seen m.now ≡ [] }
-    requires moves { B.moves m.now ≡ [] }
-    requires homes { homes_in (B.opening m.now) ≡ record { 0 = 0 } ∷ record { 0 = 1 } ∷ [] }
-    requires queue { IsSome (B.opening m.now (Pending cpu)) }
-    requires locks { inner (B.opening m.now) ≡ opening_locks (B.caps m.now) }
+    requires fresh { B.IsFresh m.now (record { 0 = 0 } ∷ record { 0 = 1 } ∷ []) cpu }
+    requires caps { B.caps m.now ≡ 1 ∷ [] }
     ensures fits { B.Fits result m.now }
     ensures cpu { B.cpu_of result ≡ cpu }
     ensures start { B.under_way result ≡ None }
-    ensures free { (t next : _) → MayPollCall (call_state_of (B.own result).call_states t) next }
+    ensures free { (t next : _) → MayPollCall (call_state_of (B.call_states result) t) next }
 {
     let _ = m;
     B::part(cpu, &[CpuId(0), CpuId(1)], 1)

@@ -1,8 +1,8 @@
 //! Message calls over buffers.
 
-ghost use Rattle.std.specs.Prelude.{◌≡◌, ◌<◌, [], None, Some, IsSome, length, refl};
+ghost use Rattle.std.specs.Prelude.{◌≡◌, ◌<◌, None, Some, length, refl};
 ghost use Rattle.event_log.specs.declared.ids.CpuId.{CpuId};
-ghost use Rattle.event_log.specs.declared.ids.LockId.TheVariants.{Pending};
+ghost use Rattle.event_log.specs.declared.ids.Tid.{Tid};
 ghost use Rattle.event_log.specs.declared.ids.TheConstants.{THREADS};
 ghost use Rattle.layer_traits.specs.declared.calls.Place.{Place};
 ghost use Rattle.layer_traits.specs.BufferLaw.{buffer_of};
@@ -14,7 +14,7 @@ use crate::opening::OpensBuffers;
 use arrayvec::ArrayVec;
 use event_log::{BufId, CAPACITY, CpuId, Msg, NoMemory, THREADS, Tid};
 use layer_traits::{
-    BufferLayer, Call, Effect, IpcLayer, Owned, OwnedBuffers, Pass, Place, Reply, WaitList,
+    BufferLaw, Call, CallLayer, Effect, IpcLaw, Owned, OwnedBuffers, Pass, Place, Reply, WaitList,
     kept_homes,
 };
 use std::alloc::Global;
@@ -70,17 +70,14 @@ pub struct Ipc<B> {
     buffers: u8,
 }
 
-impl<B: BufferLayer> IpcLayer for Ipc<B> {
-    ghost use Rattle.layer_traits.specs.BufferEffects.{opening_locks};
-    ghost use Rattle.layer_traits.specs.QueueBlocks.{homes_in, inner};
-    ghost use Rattle.ipc_calls.specs.Laws.OpeningLaws.{opens_so};
+impl<B: CallLayer<BufferLaw>> CallLayer<IpcLaw> for Ipc<B> {
     ghost use Rattle.ipc_calls.specs.Parts.{KeepsPlan};
 
     type Machine = B::Machine;
 
     ghost caps = { λ m. B.caps m };
 
-    ghost homes_of = { λ m. homes_in (B.opening m) };
+    ghost homes_of = { λ m. B.homes_of m };
 
     ghost seen = { λ m. B.seen m };
 
@@ -94,23 +91,22 @@ impl<B: BufferLayer> IpcLayer for Ipc<B> {
 
     ghost site = { λ m. B.site m };
 
-    ghost IsFresh = { λ m homes c. B.ActsFor m c × B.IsOutside m c × (B.seen m ≡ []) × (B.moves m ≡ []) × (homes_in (B.opening m) ≡ homes)
-        × IsSome (B.opening m (Pending c)) × (inner (B.opening m) ≡ opening_locks (B.caps m)) };
+    ghost IsFresh = { λ m homes c. B.IsFresh m homes c × (B.homes_of m ≡ homes) };
 
     ghost MayHold = { λ m c. B.MayHold m c };
 
     ghost cpu_of = { λ p. B.cpu_of p.lower };
 
-    ghost threads = { λ p. (B.own p.lower).cv.lock.sleep.threads };
+    ghost threads = { λ p. B.threads p.lower };
 
-    ghost call_states = { λ p. (B.own p.lower).call_states };
+    ghost call_states = { λ p. B.call_states p.lower };
 
     ghost is_inside = { λ p. B.is_inside p.lower };
 
     ghost under_way = { λ p. B.under_way p.lower };
 
     ghost Fits = { λ p m. B.Fits p.lower m
-        × KeepsPlan (homes_in (B.opening m)) (length (B.caps m)) (B.cpu_of p.lower) p.cpu p.homes.items p.buffers };
+        × KeepsPlan (B.homes_of m) (length (B.caps m)) (B.cpu_of p.lower) p.cpu p.homes.items p.buffers };
 
     ghost IsWhole = { B.IsWhole };
 
@@ -191,9 +187,9 @@ impl<B: BufferLayer> IpcLayer for Ipc<B> {
 
     ghost idle = { λ p m fits. B.idle p.lower m fits.0 };
 
-    ghost reads_own = { λ step p. (refl, refl) };
+    ghost reads_own = { λ step p. B.reads_own step p.lower };
 
-    ghost reads_homes = { λ step m. refl };
+    ghost reads_homes = { B.reads_homes };
 
     ghost legal = { B.legal };
 
@@ -203,7 +199,7 @@ impl<B: BufferLayer> IpcLayer for Ipc<B> {
 
     ghost busy = { λ p m fits. B.busy p.lower m fits.0 };
 
-    ghost opens = { λ step m homes c fresh. opens_so (B.caps m) homes c (B.opening m) (B.opens m c fresh.0) fresh.4 fresh.5 fresh.6 };
+    ghost opens = { λ step m homes c fresh. B.opens step m homes c fresh.0 };
 }
 
 impl<B: OwnedBuffers> Ipc<B> {
@@ -213,8 +209,8 @@ impl<B: OwnedBuffers> Ipc<B> {
     fn own_place(&self, t: Tid) -> Option<Place>
         requires { B.cpu_of self.now.lower ≡ self.now.cpu }
         ensures observed { (x : Place) → result ≡ Some x
-            → IsOwnPlace (B.cpu_of self.now.lower) (B.own self.now.lower).cv.lock.sleep.threads t x }
-        ensures away { result ≡ None → IsAway t (B.own self.now.lower).cv.lock.sleep.threads }
+            → IsOwnPlace (B.cpu_of self.now.lower) (B.threads self.now.lower) t x }
+        ensures away { result ≡ None → IsAway t (B.threads self.now.lower) }
     {
         if is_it(t, self.lower.current()) {
             return Some(Place::Running(self.cpu));
@@ -242,7 +238,7 @@ impl<B: OwnedBuffers> Ipc<B> {
     /// Whether the machine or the part tells that `t` stands in the pending queue of `d`.
     fn pends(&self, m: &B::Machine, d: CpuId, t: Tid) -> bool
         requires acts { (c : CpuId) × B.ActsFor m.now c }
-        requires queue { IsSome (B.opening m.now (Pending d)) }
+        requires home { (u : Tid) × (home_of (B.homes_of m.now) u ≡ Some d) }
         ensures { result ≡ pends_read t (B.queue_at m.now d) (B.queue_with self.now.lower d) }
     {
         says(B::pends_in(m, d, t)) || says(self.lower.pends_here(d, t))
@@ -285,7 +281,6 @@ impl<B: OpensBuffers> Owned for Ipc<B> {
     ghost use Rattle.layer_traits.proofs.OwnedLemmas.{read_under};
     ghost use Rattle.layer_traits.specs.BufferEffects.{contents_of};
     ghost use Rattle.layer_traits.specs.Places.{pending_by};
-    ghost use Rattle.layer_traits.specs.QueueBlocks.{homes_in};
     ghost use Rattle.ipc_calls.specs.Laws.PlaceLaws.{home_there, place_reads};
     ghost use Rattle.ipc_calls.specs.Parts.{IsSilentOf};
 
@@ -303,7 +298,7 @@ impl<B: OpensBuffers> Owned for Ipc<B> {
 
     ghost owner_here = { λ p b. B.owner_with p.lower b };
 
-    ghost IsSilent = { λ p m t. IsSilentOf t (B.own p.lower).cv.lock.sleep.threads (home_of (homes_in (B.opening m)) t) (length (B.caps m))
+    ghost IsSilent = { λ p m t. IsSilentOf t (B.threads p.lower) (home_of (B.homes_of m) t) (length (B.caps m))
         (B.queue_at m) (B.queue_with p.lower) (B.wait_lists_at m) (B.wait_lists_with p.lower) };
 
     fn open(
@@ -374,18 +369,18 @@ impl<B: OpensBuffers> Owned for Ipc<B> {
     ghost items_are = { B.items_are };
 
     ghost place = { λ p m t fits there.
-        let home = home_there (homes_in (B.opening m)) t there in
+        let home = home_there (B.homes_of m) t there in
         let acts = B.own_cpu p.lower m fits.0 in
         let cpu = B.cpu_of p.lower in
         place_reads (record {
           Fits = λ (q : Self). Self.Fits q m;
           cpu_of = λ (q : Self). B.cpu_of q.lower;
           IsInside = B.MayHold m;
-          homes = homes_in (B.opening m);
+          homes = B.homes_of m;
           moves = B.moves m;
           n = length (B.caps m);
           wait_lists = B.wait_lists m;
-          own = λ (q : Self). (B.own q.lower).cv.lock.sleep.threads;
+          own = λ (q : Self). B.threads q.lower;
           queue_at = B.queue_at m;
           queue_with = λ (q : Self). B.queue_with q.lower;
           wait_lists_at = B.wait_lists_at m;
@@ -397,7 +392,7 @@ impl<B: OpensBuffers> Owned for Ipc<B> {
               (λ (q : Self). B.cpu_of q.lower) (B.MayHold m)
               (B.MayHold m) (λ q. B.queue_with q d) (B.queue_at m d)
               (pending_by (B.moves m) d) (λ q fit. fit.0) (λ q fit. refl) (λ d inside. inside)
-              (B.queues m cpu d acts ((B.opens m cpu acts).queues u d at));
+              (B.queues m cpu d acts (u, at));
           waiters_law = λ b within. read_under (λ (q : Self). q.lower) (λ q. B.Fits q m) (λ (q : Self). Self.Fits q m) (λ q. B.cpu_of q)
               (λ (q : Self). B.cpu_of q.lower) (B.MayHold m)
               (B.MayHold m) (λ q. B.wait_lists_with q b) (B.wait_lists_at m b)

@@ -13,7 +13,7 @@ use arrayvec::ArrayVec;
 use condvar::Cond;
 use event_log::{BufId, CAPACITY, CpuId, Msg, NoMemory, Tid};
 use fifo_buffer::Fifo;
-use layer_traits::{Call, IpcLayer, Owned, OwnedLocks, Pass, Place, Reply};
+use layer_traits::{Call, CallLayer, IpcLaw, Owned, OwnedLocks, Pass, Place, Reply};
 use plain_machine::Plain;
 use queuing_lock::QLock;
 use scheduler::Sched;
@@ -26,7 +26,7 @@ use std::process::Abort;
 use std::test::Fail;
 
 /// Lets thread `t`, the first that is ready, run.
-fn starts<I: IpcLayer>(rt: &impl Abort, part: &mut I, m: &mut I::Machine, t: Tid)
+fn starts<I: CallLayer<IpcLaw>>(rt: &impl Abort, part: &mut I, m: &mut I::Machine, t: Tid)
     requires fits { I.Fits part.old m.old }
     requires room { 0 < I.room m.old }
     requires under_way { I.under_way part.old ≡ None }
@@ -48,7 +48,7 @@ fn starts<I: IpcLayer>(rt: &impl Abort, part: &mut I, m: &mut I::Machine, t: Tid
 }
 
 /// Of two buffers, 0 and 1, a call on 2 is refused, and nothing is done.
-fn refuses<I: IpcLayer>(rt: &impl Abort, part: &mut I, m: &mut I::Machine, t: Tid)
+fn refuses<I: CallLayer<IpcLaw>>(rt: &impl Abort, part: &mut I, m: &mut I::Machine, t: Tid)
     requires fits { I.Fits part.old m.old }
     requires room { 0 < I.room m.old }
     requires buffers { length (I.caps m.old) ≡ 2 }
@@ -64,7 +64,7 @@ fn refuses<I: IpcLayer>(rt: &impl Abort, part: &mut I, m: &mut I::Machine, t: Ti
 }
 
 /// Polls a call of `t`, which runs, until it answers or its thread sleeps, at most so many times.
-fn called<I: IpcLayer>(
+fn called<I: CallLayer<IpcLaw>>(
     part: &mut I,
     m: &mut I::Machine,
     t: Tid,
@@ -148,7 +148,7 @@ where
 }
 
 /// Whether a thread of a part is ready, none runs, and nothing is under way.
-fn is_ready<I: IpcLayer + Drop>(part: I) -> bool {
+fn is_ready<I: CallLayer<IpcLaw> + Drop>(part: I) -> bool {
     part.has_ready() && part.current().is_none() && !part.is_busy()
 }
 

@@ -19,10 +19,10 @@ use condvar::Cond;
 use event_log::{CpuId, LockId, NoMemory};
 use fifo_buffer::{Fifo, empty_blocks};
 use layer_traits::{
-    BufferBlock, BufferEdit, BufferOut, CvEdit, CvLaw, CvLeave, CvOut, IpcLayer, Layer, LockLaw,
-    LockStateOf, LockingOf, OwnedLocks, QLockLaw, QOut, QueueBlock, QueueEdit, QueueEvent,
-    QueueLaw, SchedCall, SchedLaw, SectionOf, SleepLaw, SleepStateOf, SleepingOf, ThreadsOf,
-    WaitingOf,
+    BufferBlock, BufferEdit, BufferLaw, BufferOut, CallLayer, CvEdit, CvLaw, CvLeave, CvOut,
+    IpcLaw, Layer, LockLaw, LockStateOf, LockingOf, OwnedLocks, QLockLaw, QOut, QueueBlock,
+    QueueEdit, QueueEvent, QueueLaw, SchedCall, SchedLaw, SectionOf, SleepLaw, SleepStateOf,
+    SleepingOf, ThreadsOf, WaitingOf,
 };
 use queuing_lock::{QBlock, QLock, QLockEdit, lock_blocks};
 use scheduler::Sched;
@@ -67,6 +67,8 @@ pub type TowerLaws = PhantomData<
         LockingOf<CvOut<BufferOut>>,
         CvLaw<BufferEdit>,
         WaitingOf<BufferOut>,
+        BufferLaw,
+        IpcLaw,
     ),
 >;
 
@@ -117,10 +119,10 @@ pub fn part_over<L: Layer<LockLaw<TowerEdit>>>(
     requires homes { homes_in (L.opening m.now) ≡ homes.now }
     requires queue { IsSome (L.opening m.now (Pending cpu)) }
     requires locks { inner (viewed nested_lock_of (viewed state_of (L.opening m.now))) ≡ opening_locks caps.now }
-    ensures cpu { ⟦<Ipc<TowerOver<L>> as IpcLayer>⟧.cpu_of result ≡ cpu }
-    ensures under_way { ⟦<Ipc<TowerOver<L>> as IpcLayer>⟧.under_way result ≡ None }
-    ensures call_states { ⟦<Ipc<TowerOver<L>> as IpcLayer>⟧.call_states result ≡ replicate THREADS no_call }
-    ensures fits { ⟦<Ipc<TowerOver<L>> as IpcLayer>⟧.Fits result m.now }
+    ensures cpu { ⟦<Ipc<TowerOver<L>> as CallLayer<IpcLaw>>⟧.cpu_of result ≡ cpu }
+    ensures under_way { ⟦<Ipc<TowerOver<L>> as CallLayer<IpcLaw>>⟧.under_way result ≡ None }
+    ensures call_states { ⟦<Ipc<TowerOver<L>> as CallLayer<IpcLaw>>⟧.call_states result ≡ replicate THREADS no_call }
+    ensures fits { ⟦<Ipc<TowerOver<L>> as CallLayer<IpcLaw>>⟧.Fits result m.now }
 {
     let _ = m;
     let _laws: TowerLaws = PhantomData;

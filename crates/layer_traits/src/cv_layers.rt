@@ -3,6 +3,22 @@
 //! No call takes memory, and none waits.
 
 ghost use Rattle.std.specs.Prelude.{◌≡◌, ◌⊎◌, ◌≤◌, [], IsSome, None, length, map};
+ghost use Rattle.layer_traits.specs.CvLaw.{Waiting, waiting_at_start, CvPolled, MayCallCond, MustStay, cv_plan, cv_pass_plan};
+ghost use Rattle.event_log.specs.declared.ids.LockId.TheVariants.{Buffer, Pending};
+ghost use Rattle.event_log.specs.declared.ids.TheConstants.{THREADS};
+ghost use Rattle.event_log.specs.Sections.{sections_in};
+ghost use Rattle.layer_traits.specs.Conditions.{cv_rules};
+ghost use Rattle.layer_traits.specs.LockLaw.{LockAgrees, lock_kernel, slept_for, is_handed};
+ghost use Rattle.layer_traits.specs.Locking.{AreAtRest, lock_caller, lock_moves, lock_rules};
+ghost use Rattle.layer_traits.specs.Payloads.{cv_brought, cv_carried, lock_brought, lock_carried};
+ghost use Rattle.layer_traits.specs.Places.{AreMoves};
+ghost use Rattle.layer_traits.specs.Plans.{table_of};
+ghost use Rattle.layer_traits.specs.QueueBlocks.{StartsWell, homes_in, inner};
+ghost use Rattle.layer_traits.specs.QueueRules.{AreProper, queue_rules};
+ghost use Rattle.layer_traits.specs.Queues.{QueueAllowed, cpu_of_queue_event, event_of, moves_in};
+ghost use Rattle.layer_traits.specs.Scheds.{SchedPolled};
+ghost use Rattle.layer_traits.specs.SleepLaw.{done_if};
+ghost use Rattle.layer_traits.specs.declared.scheds.SchedCall.TheVariants as sched;
 
 use crate::conditions::{CvEdit, CvLeave, CvOut, Guarded};
 use crate::layers::Law;
@@ -22,9 +38,6 @@ pub struct WaitingOf<O> {
 }
 
 impl<O> Model for WaitingOf<O> {
-    ghost use Rattle.std.specs.Prelude.{[]};
-    ghost use Rattle.layer_traits.specs.CvLaw.{Waiting, waiting_at_start};
-
     ghost Value = { Waiting O };
 
     ghost view = { λ _. waiting_at_start [] (record { 0 = 0 }) };
@@ -41,21 +54,6 @@ pub struct CvLaw<G> {
 }
 
 impl<G: Guarded> Law for CvLaw<G> {
-    ghost use Rattle.event_log.specs.declared.ids.LockId.TheVariants.{Buffer, Pending};
-    ghost use Rattle.event_log.specs.declared.ids.TheConstants.{THREADS};
-    ghost use Rattle.event_log.specs.Sections.{sections_in};
-    ghost use Rattle.layer_traits.specs.declared.scheds.SchedCall.TheVariants as sched;
-    ghost use Rattle.layer_traits.specs.Conditions.{cv_rules};
-    ghost use Rattle.layer_traits.specs.CvLaw.{CvPolled, MayCallCond, MustStay, cv_plan, waiting_at_start};
-    ghost use Rattle.layer_traits.specs.LockLaw.{LockAgrees, lock_kernel, slept_for};
-    ghost use Rattle.layer_traits.specs.Locking.{AreAtRest, lock_caller, lock_moves, lock_rules};
-    ghost use Rattle.layer_traits.specs.Payloads.{cv_brought, cv_carried, lock_brought, lock_carried};
-    ghost use Rattle.layer_traits.specs.Places.{AreMoves};
-    ghost use Rattle.layer_traits.specs.Plans.{table_of};
-    ghost use Rattle.layer_traits.specs.QueueBlocks.{StartsWell, homes_in, inner};
-    ghost use Rattle.layer_traits.specs.QueueRules.{AreProper, queue_rules};
-    ghost use Rattle.layer_traits.specs.Queues.{QueueAllowed, cpu_of_queue_event, event_of, moves_in};
-
     type Call = BufferCall<QEdit<CvEdit<G>, CvLeave>>;
 
     type Answer = Outcome<QOut<CvOut<G::Out>>>;
@@ -122,15 +120,6 @@ impl<G: Guarded> Law for CvLaw<G> {
 }
 
 impl<G: Guarded> ThreadLaw for CvLaw<G> {
-    ghost use Rattle.layer_traits.specs.declared.scheds.SchedCall.TheVariants as sched;
-    ghost use Rattle.layer_traits.specs.Conditions.{cv_rules};
-    ghost use Rattle.layer_traits.specs.CvLaw.{cv_pass_plan};
-    ghost use Rattle.layer_traits.specs.LockLaw.{is_handed, lock_kernel};
-    ghost use Rattle.layer_traits.specs.Locking.{lock_moves};
-    ghost use Rattle.layer_traits.specs.QueueBlocks.{homes_in};
-    ghost use Rattle.layer_traits.specs.Scheds.{SchedPolled};
-    ghost use Rattle.layer_traits.specs.SleepLaw.{done_if};
-
     ghost threads_of = { λ own. own.lock.sleep.threads };
 
     ghost at_once = { λ own. is_handed own.lock.slept own.lock.sleep.threads.current };

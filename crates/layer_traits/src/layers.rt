@@ -3,18 +3,21 @@
 //! No call takes memory, and none waits.
 
 ghost use Rattle.std.specs.Prelude.{◌≡◌, ℕ, ◌<◌, true, false, Bool, List, [], Option, None, Some, IsSome, IfSome, OnSome, is_some, if◌then◌else◌};
+ghost use Rattle.event_log.specs.declared.ids.CpuId.{CpuId};
+ghost use Rattle.event_log.specs.declared.ids.LockId.{LockId};
+ghost use Rattle.event_log.specs.Actions.{Action, AreLegal, phase};
+ghost use Rattle.layer_traits.specs.declared.payloads.Payload.{Payload};
+ghost use Rattle.layer_traits.specs.Plans.{Plan, Table, Follows, is_in_section};
+ghost use Rattle.event_log.specs.declared.ids.TheConstants.{CPUS};
+ghost use Rattle.event_log.specs.History.{IsLawful, Grows};
+ghost use Rattle.layer_traits.specs.Framed.{Framed};
+ghost use Rattle.layer_traits.specs.Looks.{Tries};
 
 use crate::payloads::Payload;
 use event_log::{CpuId, LockId};
 
 /// What a layer promises of its calls. The rest, which every layer promises, is in `Layer`.
 pub trait Law {
-    ghost use Rattle.event_log.specs.declared.ids.CpuId.{CpuId};
-    ghost use Rattle.event_log.specs.declared.ids.LockId.{LockId};
-    ghost use Rattle.event_log.specs.Actions.{Action};
-    ghost use Rattle.layer_traits.specs.declared.payloads.Payload.{Payload};
-    ghost use Rattle.layer_traits.specs.Plans.{Plan, Table};
-
     /// A call.
     type Call: Drop;
 
@@ -115,15 +118,6 @@ pub trait Law {
 ///
 /// No call takes memory.
 pub trait Layer<L: Law> {
-    ghost use Rattle.event_log.specs.declared.ids.CpuId.{CpuId};
-    ghost use Rattle.event_log.specs.declared.ids.LockId.{LockId};
-    ghost use Rattle.event_log.specs.declared.ids.TheConstants.{CPUS};
-    ghost use Rattle.event_log.specs.Actions.{Action, AreLegal, phase};
-    ghost use Rattle.event_log.specs.History.{IsLawful, Grows};
-    ghost use Rattle.layer_traits.specs.Framed.{Framed};
-    ghost use Rattle.layer_traits.specs.Looks.{Tries};
-    ghost use Rattle.layer_traits.specs.Plans.{Follows, is_in_section};
-
     /// What lies beneath.
     type Machine;
 

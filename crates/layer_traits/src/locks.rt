@@ -3,6 +3,10 @@
 //! No call takes memory, and none waits.
 
 ghost use Rattle.std.specs.Prelude.{◌≡◌, IsSome};
+ghost use Rattle.event_log.specs.Sections.{Section, cpu_of_section, sections_in};
+ghost use Rattle.layer_traits.specs.Protocol.{section};
+ghost use Rattle.layer_traits.specs.Plans.{section_plan, table_of};
+ghost use Rattle.layer_traits.specs.Polls.{MayPoll, Polled, until_answered};
 
 use crate::edits::Edit;
 use crate::layers::{Law, Layer};
@@ -25,9 +29,6 @@ pub struct SectionOf<E> {
 }
 
 impl<E> Model for SectionOf<E> {
-    ghost use Rattle.event_log.specs.Sections.{Section};
-    ghost use Rattle.layer_traits.specs.Protocol.{section};
-
     ghost Value = { Section E };
 
     ghost view = { λ s. section s.cpu s.call.lock s.call.edit };
@@ -40,11 +41,6 @@ pub struct LockLaw<E> {
 }
 
 impl<E: Edit> Law for LockLaw<E> {
-    ghost use Rattle.event_log.specs.Sections.{cpu_of_section, sections_in};
-    ghost use Rattle.layer_traits.specs.Plans.{section_plan, table_of};
-    ghost use Rattle.layer_traits.specs.Polls.{MayPoll, Polled, until_answered};
-    ghost use Rattle.layer_traits.specs.Protocol.{section};
-
     type Call = LockCall<E>;
 
     type Answer = E::Out;

@@ -4,15 +4,16 @@
 
 ghost use Rattle.std.specs.Prelude.{◌≡◌, ◌⊎◌, ◌<◌, Bool, [], List, Option, Some, None, IfOk, length, option_map, slice_index};
 
+use crate::call_layers::CallLayer;
 use crate::calls::Place;
-use crate::ipc_layers::IpcLayer;
+use crate::ipc_layers::IpcLaw;
 use arrayvec::ArrayVec;
 use event_log::{BufId, CAPACITY, CpuId, Msg, NoMemory, Tid};
 use std::alloc::Global;
 
 /// The top of a tower whose machine is opened with its blocks and tells of those that are at home,
 /// and whose parts tell of those in their CPU's hands, and of where a thread stands.
-pub trait Owned: IpcLayer {
+pub trait Owned: CallLayer<IpcLaw> {
     ghost use Rattle.std.specs.List.{AllByRecursion};
     ghost use Rattle.event_log.specs.declared.ids.BufId.{BufId};
     ghost use Rattle.event_log.specs.declared.ids.CpuId.{CpuId};

@@ -2,20 +2,20 @@
 //!
 //! No call takes memory, and none waits.
 
-ghost use Rattle.std.specs.Prelude.{◌≡◌, ◌<◌, Bool, List, Option, IsSome, length, option_and_then, option_map, slice_index};
+ghost use Rattle.std.specs.Prelude.{◌≡◌, ◌<◌, Bool, List, Option, Some, length, option_and_then, option_map, slice_index};
 
-use crate::buffer_layers::BufferLayer;
+use crate::buffer_layers::BufferLaw;
+use crate::call_layers::CallLayer;
 use crate::moves::WaitList;
 use arrayvec::ArrayVec;
 use event_log::{BufId, CAPACITY, CpuId, Msg, Tid};
 
 /// A layer of buffers whose machine tells of the blocks that are at home, and whose parts tell of
 /// those in their CPU's hands.
-pub trait OwnedBuffers: BufferLayer {
+pub trait OwnedBuffers: CallLayer<BufferLaw> {
     ghost use Rattle.std.specs.List.{AllByRecursion};
     ghost use Rattle.event_log.specs.declared.ids.BufId.{BufId};
     ghost use Rattle.event_log.specs.declared.ids.CpuId.{CpuId};
-    ghost use Rattle.event_log.specs.declared.ids.LockId.TheVariants.{Pending};
     ghost use Rattle.event_log.specs.declared.ids.Tid.{Tid};
     ghost use Rattle.event_log.specs.declared.ids.TheConstants.{CPUS};
     ghost use Rattle.event_log.specs.Buffers.{items_of};
@@ -25,7 +25,7 @@ pub trait OwnedBuffers: BufferLayer {
     ghost use Rattle.layer_traits.specs.Acted.{ItemsAre, owner_after};
     ghost use Rattle.layer_traits.specs.BufferEffects.{contents_of};
     ghost use Rattle.layer_traits.specs.Owned.{wait_list_among};
-    ghost use Rattle.layer_traits.specs.Places.{pending_by};
+    ghost use Rattle.layer_traits.specs.Places.{home_of, pending_by};
     ghost use Rattle.layer_traits.specs.Observed.{IsObservedAs};
     ghost use Rattle.thread_blocks.specs.Queues.{is_in};
 
@@ -64,11 +64,11 @@ pub trait OwnedBuffers: BufferLayer {
 
     /// Whether `t` is ready on this CPU.
     fn is_ready(&self, t: Tid) -> bool
-        ensures { result ≡ is_in t (Self.own self.now).cv.lock.sleep.threads.ready };
+        ensures { result ≡ is_in t (Self.threads self.now).ready };
 
     /// Whether `t` has ended on this CPU.
     fn has_ended(&self, t: Tid) -> bool
-        ensures { result ≡ is_in t (Self.own self.now).cv.lock.sleep.threads.ended };
+        ensures { result ≡ is_in t (Self.threads self.now).ended };
 
     /// The items of the buffer `b`, first in front; `None` where its block is in the hands of a CPU.
     ///
@@ -122,10 +122,10 @@ pub trait OwnedBuffers: BufferLayer {
     /// Whether `t` stands in the pending queue of `d`; `None` where that queue is in the hands of a
     /// CPU.
     ///
-    /// Requires: the machine's holder acts for some CPU, and the queue is there.
+    /// Requires: the machine's holder acts for some CPU, and `d` is the home of a thread.
     fn pends_in(m: &Self::Machine, d: CpuId, t: Tid) -> Option<bool>
         requires acts { (c : CpuId) × Self.ActsFor m.now c }
-        requires queue { IsSome (Self.opening m.now (Pending d)) }
+        requires home { (u : Tid) × (home_of (Self.homes_of m.now) u ≡ Some d) }
         ensures { result ≡ option_map (λ queue. is_in t queue) (queue_at m.now d) };
 
     /// The same of a queue in this CPU's hands; `None` where it is not there.
@@ -175,7 +175,7 @@ pub trait OwnedBuffers: BufferLayer {
 
     /// Law: the threads that the machine or a part tells of a pending queue are those that the moves
     /// leave in it.
-    ghost queues: { (m : Self.Machine) (c d : CpuId) → Self.ActsFor m c → IsSome (Self.opening m (Pending d))
+    ghost queues: { (m : Self.Machine) (c d : CpuId) → Self.ActsFor m c → (u : Tid) × (home_of (Self.homes_of m) u ≡ Some d)
         → IsObservedAs (λ (p : Self). Self.Fits p m) (λ p. Self.cpu_of p) (Self.MayHold m)
         (λ p. queue_with p d) (queue_at m d)
         (pending_by (Self.moves m) d) };

@@ -3,6 +3,20 @@
 //! No call takes memory, and none waits.
 
 ghost use Rattle.std.specs.Prelude.{◌≡◌, ◌≤◌, [], IsSome, None, length, map};
+ghost use Rattle.layer_traits.specs.Locking.{LockState, AreAtRest, lock_caller, lock_moves, lock_rules};
+ghost use Rattle.layer_traits.specs.LockLaw.{Locking, at_start, LockAgrees, LockPolled, MayCallLock, MustWait, lock_kernel, lock_plan, slept_for, is_handed, lock_pass_plan};
+ghost use Rattle.event_log.specs.declared.ids.LockId.TheVariants.{Buffer, Pending};
+ghost use Rattle.event_log.specs.declared.ids.TheConstants.{THREADS};
+ghost use Rattle.event_log.specs.Sections.{sections_in};
+ghost use Rattle.layer_traits.specs.Payloads.{lock_brought, lock_carried};
+ghost use Rattle.layer_traits.specs.Places.{AreMoves};
+ghost use Rattle.layer_traits.specs.Plans.{table_of};
+ghost use Rattle.layer_traits.specs.QueueBlocks.{StartsWell, homes_in, inner};
+ghost use Rattle.layer_traits.specs.QueueRules.{AreProper, queue_rules};
+ghost use Rattle.layer_traits.specs.Queues.{QueueAllowed, cpu_of_queue_event, event_of, moves_in};
+ghost use Rattle.layer_traits.specs.Scheds.{SchedPolled};
+ghost use Rattle.layer_traits.specs.SleepLaw.{done_if};
+ghost use Rattle.layer_traits.specs.declared.scheds.SchedCall.TheVariants as sched;
 
 use crate::layers::Law;
 use crate::locked::{Locked, QEdit, QOut};
@@ -20,9 +34,6 @@ pub struct LockStateOf<B> {
 }
 
 impl<B> Model for LockStateOf<B> {
-    ghost use Rattle.std.specs.Prelude.{[], None};
-    ghost use Rattle.layer_traits.specs.Locking.{LockState};
-
     ghost Value = { LockState B };
 
     ghost view = { λ s. record { owner = None; sleepers = []; receivers = []; senders = []; above = s.above } };
@@ -34,9 +45,6 @@ pub struct LockingOf<O> {
 }
 
 impl<O> Model for LockingOf<O> {
-    ghost use Rattle.std.specs.Prelude.{[]};
-    ghost use Rattle.layer_traits.specs.LockLaw.{Locking, at_start};
-
     ghost Value = { Locking O };
 
     ghost view = { λ _. at_start [] (record { 0 = 0 }) };
@@ -54,19 +62,6 @@ pub struct QLockLaw<F> {
 }
 
 impl<F: Locked> Law for QLockLaw<F> {
-    ghost use Rattle.event_log.specs.declared.ids.LockId.TheVariants.{Buffer, Pending};
-    ghost use Rattle.event_log.specs.declared.ids.TheConstants.{THREADS};
-    ghost use Rattle.event_log.specs.Sections.{sections_in};
-    ghost use Rattle.layer_traits.specs.declared.scheds.SchedCall.TheVariants as sched;
-    ghost use Rattle.layer_traits.specs.LockLaw.{LockAgrees, LockPolled, MayCallLock, MustWait, at_start, lock_kernel, lock_plan, slept_for};
-    ghost use Rattle.layer_traits.specs.Locking.{AreAtRest, lock_caller, lock_moves, lock_rules};
-    ghost use Rattle.layer_traits.specs.Payloads.{lock_brought, lock_carried};
-    ghost use Rattle.layer_traits.specs.Places.{AreMoves};
-    ghost use Rattle.layer_traits.specs.Plans.{table_of};
-    ghost use Rattle.layer_traits.specs.QueueBlocks.{StartsWell, homes_in, inner};
-    ghost use Rattle.layer_traits.specs.QueueRules.{AreProper, queue_rules};
-    ghost use Rattle.layer_traits.specs.Queues.{QueueAllowed, cpu_of_queue_event, event_of, moves_in};
-
     type Call = BufferCall<QEdit<F, F::Release>>;
 
     type Answer = Outcome<QOut<F::Out>>;
@@ -130,13 +125,6 @@ impl<F: Locked> Law for QLockLaw<F> {
 }
 
 impl<F: Locked> ThreadLaw for QLockLaw<F> {
-    ghost use Rattle.layer_traits.specs.declared.scheds.SchedCall.TheVariants as sched;
-    ghost use Rattle.layer_traits.specs.LockLaw.{is_handed, lock_kernel, lock_pass_plan};
-    ghost use Rattle.layer_traits.specs.Locking.{lock_moves};
-    ghost use Rattle.layer_traits.specs.QueueBlocks.{homes_in};
-    ghost use Rattle.layer_traits.specs.Scheds.{SchedPolled};
-    ghost use Rattle.layer_traits.specs.SleepLaw.{done_if};
-
     ghost threads_of = { λ own. own.sleep.threads };
 
     ghost at_once = { λ own. is_handed own.slept own.sleep.threads.current };

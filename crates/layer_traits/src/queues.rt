@@ -3,6 +3,13 @@
 //! No call takes memory, and none waits.
 
 ghost use Rattle.std.specs.Prelude.{◌≡◌, IsSome, map};
+ghost use Rattle.event_log.specs.Sections.{sections_in};
+ghost use Rattle.layer_traits.specs.Payloads.{call_carried, queue_brought};
+ghost use Rattle.layer_traits.specs.Plans.{table_of};
+ghost use Rattle.layer_traits.specs.Polls.{until_answered};
+ghost use Rattle.layer_traits.specs.QueueBlocks.{StartsWell};
+ghost use Rattle.layer_traits.specs.QueueRules.{AreProper, queue_rules};
+ghost use Rattle.layer_traits.specs.Queues.{MayQueue, QueueAllowed, QueuePolled, cpu_of_queue_event, event, event_of, kernel, lock_of, queue_plan};
 
 use crate::layers::{Law, Layer};
 use crate::moves::Moves;
@@ -51,14 +58,6 @@ pub struct QueueLaw<E> {
 }
 
 impl<E: Moves> Law for QueueLaw<E> {
-    ghost use Rattle.event_log.specs.Sections.{sections_in};
-    ghost use Rattle.layer_traits.specs.Payloads.{call_carried, queue_brought};
-    ghost use Rattle.layer_traits.specs.Plans.{table_of};
-    ghost use Rattle.layer_traits.specs.Polls.{until_answered};
-    ghost use Rattle.layer_traits.specs.QueueBlocks.{StartsWell};
-    ghost use Rattle.layer_traits.specs.QueueRules.{AreProper, queue_rules};
-    ghost use Rattle.layer_traits.specs.Queues.{MayQueue, QueueAllowed, QueuePolled, cpu_of_queue_event, event, event_of, kernel, lock_of, queue_plan};
-
     type Call = QueueCall<E>;
 
     type Answer = QueueAnswer<E::Out>;

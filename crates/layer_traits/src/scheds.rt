@@ -1,6 +1,18 @@
 //! The layer of schedulers.
 
 ghost use Rattle.std.specs.Prelude.{◌≡◌, ◌≢◌, ◌≤◌, true, false, length, [], IsSome, map};
+ghost use Rattle.layer_traits.specs.Places.{Threads, at_boot, Stands};
+ghost use Rattle.event_log.specs.declared.ids.LockId.TheVariants.{Pending};
+ghost use Rattle.event_log.specs.declared.ids.TheConstants.{THREADS};
+ghost use Rattle.event_log.specs.Sections.{sections_in};
+ghost use Rattle.layer_traits.specs.Payloads.{sched_brought, sched_carried};
+ghost use Rattle.layer_traits.specs.Plans.{table_of};
+ghost use Rattle.layer_traits.specs.Polls.{until_answered};
+ghost use Rattle.layer_traits.specs.QueueBlocks.{StartsWell, homes_in};
+ghost use Rattle.layer_traits.specs.QueueRules.{AreProper, queue_rules};
+ghost use Rattle.layer_traits.specs.Queues.{QueueAllowed, cpu_of_queue_event, event_of, kernel, moves_in};
+ghost use Rattle.layer_traits.specs.Scheds.{BufferIsThere, IsLocal, MaySched, SchedPolled, sched_plan};
+ghost use Rattle.thread_blocks.specs.Queues.{is_in};
 
 use crate::layers::{Law, Layer};
 use crate::moves::Moves;
@@ -35,9 +47,6 @@ pub struct ThreadsOf {
 }
 
 impl Model for ThreadsOf {
-    ghost use Rattle.std.specs.Prelude.{[]};
-    ghost use Rattle.layer_traits.specs.Places.{Threads, at_boot};
-
     ghost Value = { Threads };
 
     ghost view = { λ _. at_boot [] (record { 0 = 0 }) };
@@ -52,18 +61,6 @@ pub struct SchedLaw<E> {
 }
 
 impl<E: Moves> Law for SchedLaw<E> {
-    ghost use Rattle.event_log.specs.declared.ids.LockId.TheVariants.{Pending};
-    ghost use Rattle.event_log.specs.declared.ids.TheConstants.{THREADS};
-    ghost use Rattle.event_log.specs.Sections.{sections_in};
-    ghost use Rattle.layer_traits.specs.Payloads.{sched_brought, sched_carried};
-    ghost use Rattle.layer_traits.specs.Places.{Stands, at_boot};
-    ghost use Rattle.layer_traits.specs.Plans.{table_of};
-    ghost use Rattle.layer_traits.specs.Polls.{until_answered};
-    ghost use Rattle.layer_traits.specs.QueueBlocks.{StartsWell, homes_in};
-    ghost use Rattle.layer_traits.specs.QueueRules.{AreProper, queue_rules};
-    ghost use Rattle.layer_traits.specs.Queues.{QueueAllowed, cpu_of_queue_event, event_of, kernel, moves_in};
-    ghost use Rattle.layer_traits.specs.Scheds.{BufferIsThere, IsLocal, MaySched, SchedPolled, sched_plan};
-
     type Call = SchedCall<E>;
 
     type Answer = SchedAnswer<E::Out>;
@@ -122,8 +119,6 @@ impl<E: Moves> Law for SchedLaw<E> {
 /// One CPU's part of a layer of schedulers. A poll does at most one atomic action of the call. To the
 /// layers above a call is one event.
 pub trait SchedLayer<E: Moves>: Layer<SchedLaw<E>> {
-    ghost use Rattle.thread_blocks.specs.Queues.{is_in};
-
     /// The thread that runs; `None` if none does.
     fn current(&self) -> Option<Tid>
         ensures { result ≡ (Self.own self.now).current };

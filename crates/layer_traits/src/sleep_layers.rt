@@ -2,7 +2,21 @@
 //!
 //! No call takes memory, and none waits.
 
-ghost use Rattle.std.specs.Prelude.{◌≡◌, ◌≤◌, [], IsSome, None, length, map};
+ghost use Rattle.std.specs.Prelude.{◌≡◌, ◌≤◌, [], IsSome, None, length, map, false};
+ghost use Rattle.layer_traits.specs.Sleeping.{SleepState, NobodySleeps, sleep_moves, sleep_rules};
+ghost use Rattle.layer_traits.specs.Places.{at_boot, AreMoves};
+ghost use Rattle.layer_traits.specs.SleepLaw.{Sleeping, MayCall, MaySleep, MustSend, SleepPolled, sleep_kernel, sleep_plan, done_if, pass_plan};
+ghost use Rattle.event_log.specs.declared.ids.LockId.TheVariants.{Buffer, Pending};
+ghost use Rattle.event_log.specs.declared.ids.TheConstants.{THREADS};
+ghost use Rattle.event_log.specs.Sections.{sections_in};
+ghost use Rattle.layer_traits.specs.ListsAgree.{SleepAgrees};
+ghost use Rattle.layer_traits.specs.Plans.{table_of};
+ghost use Rattle.layer_traits.specs.Polls.{until_answered};
+ghost use Rattle.layer_traits.specs.QueueBlocks.{StartsWell, homes_in, inner};
+ghost use Rattle.layer_traits.specs.QueueRules.{AreProper, queue_rules};
+ghost use Rattle.layer_traits.specs.Queues.{QueueAllowed, cpu_of_queue_event, event_of, moves_in};
+ghost use Rattle.layer_traits.specs.Scheds.{SchedPolled};
+ghost use Rattle.layer_traits.specs.declared.scheds.SchedCall.TheVariants as sched;
 
 use crate::layers::Law;
 use crate::queue_edits::{QueueBlock, QueueEdit};
@@ -28,9 +42,6 @@ pub struct SleepStateOf<B> {
 }
 
 impl<B> Model for SleepStateOf<B> {
-    ghost use Rattle.std.specs.Prelude.{[]};
-    ghost use Rattle.layer_traits.specs.Sleeping.{SleepState};
-
     ghost Value = { SleepState B };
 
     ghost view = { λ s. record { sleepers = []; receivers = []; senders = []; above = s.above } };
@@ -42,10 +53,6 @@ pub struct SleepingOf<O> {
 }
 
 impl<O> Model for SleepingOf<O> {
-    ghost use Rattle.std.specs.Prelude.{[], None};
-    ghost use Rattle.layer_traits.specs.Places.{at_boot};
-    ghost use Rattle.layer_traits.specs.SleepLaw.{Sleeping};
-
     ghost Value = { Sleeping O };
 
     ghost view = { λ _. record { threads = at_boot [] (record { 0 = 0 }); deferred = None } };
@@ -66,20 +73,6 @@ pub struct SleepLaw<E> {
 }
 
 impl<E: Sleeps> Law for SleepLaw<E> {
-    ghost use Rattle.event_log.specs.declared.ids.LockId.TheVariants.{Buffer, Pending};
-    ghost use Rattle.event_log.specs.declared.ids.TheConstants.{THREADS};
-    ghost use Rattle.event_log.specs.Sections.{sections_in};
-    ghost use Rattle.layer_traits.specs.declared.scheds.SchedCall.TheVariants as sched;
-    ghost use Rattle.layer_traits.specs.ListsAgree.{SleepAgrees};
-    ghost use Rattle.layer_traits.specs.Places.{AreMoves, at_boot};
-    ghost use Rattle.layer_traits.specs.Plans.{table_of};
-    ghost use Rattle.layer_traits.specs.Polls.{until_answered};
-    ghost use Rattle.layer_traits.specs.QueueBlocks.{StartsWell, homes_in, inner};
-    ghost use Rattle.layer_traits.specs.QueueRules.{AreProper, queue_rules};
-    ghost use Rattle.layer_traits.specs.Queues.{QueueAllowed, cpu_of_queue_event, event_of, moves_in};
-    ghost use Rattle.layer_traits.specs.SleepLaw.{MayCall, MaySleep, MustSend, SleepPolled, sleep_kernel, sleep_plan};
-    ghost use Rattle.layer_traits.specs.Sleeping.{NobodySleeps, sleep_moves, sleep_rules};
-
     type Call = BufferCall<E>;
 
     type Answer = Outcome<E::Out>;
@@ -142,13 +135,6 @@ impl<E: Sleeps> Law for SleepLaw<E> {
 }
 
 impl<E: Sleeps> ThreadLaw for SleepLaw<E> {
-    ghost use Rattle.std.specs.Prelude.{false};
-    ghost use Rattle.layer_traits.specs.declared.scheds.SchedCall.TheVariants as sched;
-    ghost use Rattle.layer_traits.specs.QueueBlocks.{homes_in};
-    ghost use Rattle.layer_traits.specs.Scheds.{SchedPolled};
-    ghost use Rattle.layer_traits.specs.SleepLaw.{done_if, pass_plan, sleep_kernel};
-    ghost use Rattle.layer_traits.specs.Sleeping.{sleep_moves};
-
     ghost threads_of = { λ own. own.threads };
 
     ghost at_once = { λ _. false };

@@ -7,6 +7,20 @@
 //! No call takes memory, and none waits.
 
 ghost use Rattle.std.specs.Prelude.{◌≡◌, ◌≢◌, ℕ, ◌<◌, true, false, Bool, List, [], Option, None, Some, IsSome, IfSome, OnSome, is_some, if◌then◌else◌};
+ghost use Rattle.event_log.specs.declared.ids.CpuId.{CpuId};
+ghost use Rattle.event_log.specs.declared.ids.LockId.{LockId};
+ghost use Rattle.layer_traits.specs.declared.passes.Pass.{Pass};
+ghost use Rattle.layer_traits.specs.Places.{Threads};
+ghost use Rattle.layer_traits.specs.Plans.{Plan, Follows, is_in_section};
+ghost use Rattle.event_log.specs.declared.ids.TheConstants.{CPUS};
+ghost use Rattle.event_log.specs.Actions.{Action, AreLegal, phase};
+ghost use Rattle.event_log.specs.History.{IsLawful, Grows};
+ghost use Rattle.layer_traits.specs.Framed.{Framed};
+ghost use Rattle.layer_traits.specs.Looks.{Tries};
+ghost use Rattle.layer_traits.specs.Passes.{IsLocalPass, MayPass};
+ghost use Rattle.layer_traits.specs.Polls.{until_answered};
+ghost use Rattle.layer_traits.specs.SleepLaw.{MayCall};
+ghost use Rattle.thread_blocks.specs.Queues.{is_in};
 
 use crate::layers::Law;
 use crate::passes::Pass;
@@ -15,12 +29,6 @@ use event_log::{CpuId, LockId, Tid};
 
 /// The law of a layer whose parts hold threads, and that passes calls on to its scheduler.
 pub trait ThreadLaw: Law {
-    ghost use Rattle.event_log.specs.declared.ids.CpuId.{CpuId};
-    ghost use Rattle.event_log.specs.declared.ids.LockId.{LockId};
-    ghost use Rattle.layer_traits.specs.declared.passes.Pass.{Pass};
-    ghost use Rattle.layer_traits.specs.Places.{Threads};
-    ghost use Rattle.layer_traits.specs.Plans.{Plan};
-
     /// The threads of the part's CPU.
     ghost threads_of: { Self.State → Threads };
 
@@ -47,19 +55,6 @@ pub trait ThreadLaw: Law {
 ///
 /// No call takes memory.
 pub trait ThreadLayer<L: ThreadLaw> {
-    ghost use Rattle.event_log.specs.declared.ids.CpuId.{CpuId};
-    ghost use Rattle.event_log.specs.declared.ids.LockId.{LockId};
-    ghost use Rattle.event_log.specs.declared.ids.TheConstants.{CPUS};
-    ghost use Rattle.event_log.specs.Actions.{Action, AreLegal, phase};
-    ghost use Rattle.event_log.specs.History.{IsLawful, Grows};
-    ghost use Rattle.layer_traits.specs.Framed.{Framed};
-    ghost use Rattle.layer_traits.specs.Looks.{Tries};
-    ghost use Rattle.layer_traits.specs.Passes.{IsLocalPass, MayPass};
-    ghost use Rattle.layer_traits.specs.Plans.{Follows, is_in_section};
-    ghost use Rattle.layer_traits.specs.Polls.{until_answered};
-    ghost use Rattle.layer_traits.specs.SleepLaw.{MayCall};
-    ghost use Rattle.thread_blocks.specs.Queues.{is_in};
-
     /// What lies beneath.
     type Machine;
 

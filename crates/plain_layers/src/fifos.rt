@@ -10,8 +10,8 @@ use crate::wholes::whole;
 use arrayvec::ArrayVec;
 use event_log::{BufId, CAPACITY, CpuId, Kind, Msg, THREADS, Tid};
 use layer_traits::{
-    BufferLayer, Call, CallState, Effect, Outcome, OwnedBuffers, OwnedSleeps, Pass, Payload, Reply,
-    SleepLaw, Stage, ThreadLayer, WaitList,
+    BufferLaw, Call, CallLayer, CallState, Effect, Outcome, OwnedBuffers, OwnedSleeps, Pass,
+    Payload, Reply, SleepLaw, Stage, ThreadLayer, WaitList,
 };
 
 /// One CPU's part of first-in first-out blocking buffers as they are meant, over a part `S` of sleep
@@ -101,16 +101,13 @@ fn reply(call: &Call, effect: &Option<Effect>) -> Option<Reply>
     }
 }
 
-impl<S: ThreadLayer<SleepLaw<Attempt>>> BufferLayer for PlainFifo<S> {
-    ghost use Rattle.std.specs.Prelude.{◌/◌, length, refl};
-    ghost use Rattle.layer_traits.specs.IpcLaw.{WaitListsAgree};
+impl<S: ThreadLayer<SleepLaw<Attempt>>> CallLayer<BufferLaw> for PlainFifo<S> {
+    ghost use Rattle.std.specs.Prelude.{◌/◌, IsSome, refl};
+    ghost use Rattle.event_log.specs.declared.ids.LockId.TheVariants.{Pending};
     ghost use Rattle.plain_layers.specs.Laws.FifoLaws.{plain_wait_lists};
     ghost use Rattle.plain_layers.specs.Laws.FifoTallies.{plain_lawful};
-    ghost use Rattle.std.proofs.Common.{subst, sym};
-    ghost use Rattle.layer_traits.proofs.KernelRenaming.{homes_viewed, starts_viewed};
-    ghost use Rattle.layer_traits.specs.Places.{AreMoves, Stands};
-    ghost use Rattle.layer_traits.specs.BufferLaw.{buffering};
-    ghost use Rattle.layer_traits.specs.QueueBlocks.{inner};
+    ghost use Rattle.layer_traits.proofs.KernelRenaming.{homes_viewed};
+    ghost use Rattle.layer_traits.specs.QueueBlocks.{homes_in, inner};
     ghost use Rattle.layer_traits.specs.Queues.{buffer_sections, moves_in};
     ghost use Rattle.layer_traits.specs.Renaming.{viewed};
     ghost use Rattle.layer_traits.specs.SleepLaw.{sleep_kernel};
@@ -119,9 +116,9 @@ impl<S: ThreadLayer<SleepLaw<Attempt>>> BufferLayer for PlainFifo<S> {
 
     type Machine = S::Machine;
 
-    ghost opening = { λ m. viewed shown (S.opening m) };
-
     ghost caps = { λ m. caps_in (inner (S.opening m)) };
+
+    ghost homes_of = { λ m. homes_in (S.opening m) };
 
     ghost seen = { λ m. entries_in (inner (S.opening m)) (buffer_sections (S.seen m)) };
 
@@ -135,13 +132,18 @@ impl<S: ThreadLayer<SleepLaw<Attempt>>> BufferLayer for PlainFifo<S> {
 
     ghost site = { λ m. S.site m };
 
-    ghost IsOutside = { λ m c. S.IsOutside m c };
+    ghost IsFresh = { λ m homes c. (S.ActsFor m c × S.IsWhole × IsOwned (λ d. S.ActsFor m d) (inner (S.opening m))) × S.IsOutside m c
+        × (entries_in (inner (S.opening m)) (buffer_sections (S.seen m)) ≡ [])
+        × (moves_in (sleep_kernel attempts (S.opening m)) (S.seen m) ≡ [])
+        × (homes_in (S.opening m) ≡ homes) × IsSome (S.opening m (Pending c)) };
 
     ghost MayHold = { λ m c. S.MayHold m c };
 
     ghost cpu_of = { λ p. S.cpu_of p.lower };
 
-    ghost own = { λ p. own_of (S.own p.lower).threads p.call_states };
+    ghost threads = { λ p. (S.own p.lower).threads };
+
+    ghost call_states = { λ p. p.call_states };
 
     ghost is_inside = { λ p. false };
 
@@ -154,7 +156,11 @@ impl<S: ThreadLayer<SleepLaw<Attempt>>> BufferLayer for PlainFifo<S> {
 
     ghost IsStepwise = { ⊥ };
 
+    ghost opening = { λ m. viewed shown (S.opening m) };
+
     ghost acts = { λ m. [] };
+
+    ghost own = { λ p. own_of (S.own p.lower).threads p.call_states };
 
     fn part(cpu: CpuId, homes: &[CpuId], buffers: u8) -> Self {
         PlainFifo {
@@ -218,17 +224,15 @@ impl<S: ThreadLayer<SleepLaw<Attempt>>> BufferLayer for PlainFifo<S> {
 
     ghost lawful = { λ m c acts. plain_lawful (inner (S.opening m)) (caps_in (inner (S.opening m))) (buffer_sections (S.seen m)) acts.2.fresh };
 
-    ghost stands = { λ p m fits. subst (λ h. Stands h (S.cpu_of p.lower) (moves_in (sleep_kernel attempts (S.opening m)) (S.seen m)) (S.own p.lower).threads)
-        (sym (homes_viewed shown (S.opening m))) (S.stands p.lower m fits.0).stands };
+    ghost stands = { λ p m fits. (S.stands p.lower m fits.0).stands };
 
-    ghost moves_legal = { λ m c acts. subst (λ h. AreMoves h (moves_in (sleep_kernel attempts (S.opening m)) (S.seen m)))
-        (sym (homes_viewed shown (S.opening m))) (S.moves_legal m c acts.0) };
+    ghost moves_legal = { λ m c acts. S.moves_legal m c acts.0 };
 
-    ghost lists = { λ p m fits. subst (λ h. WaitListsAgree (length (caps_in (inner (S.opening m)))) h (moves_in (sleep_kernel attempts (S.opening m)) (S.seen m))
-        (wait_lists_in (inner (S.opening m)) (buffer_sections (S.seen m)))) (sym (homes_viewed shown (S.opening m)))
-        (plain_wait_lists (S.opening m) (S.seen m) fits.2.fresh (S.stands p.lower m fits.0).lists) };
+    ghost lists = { λ p m fits. plain_wait_lists (S.opening m) (S.seen m) fits.2.fresh (S.stands p.lower m fits.0).lists };
 
-    ghost opens = { λ m c acts. starts_viewed shown (S.opening m) (S.opens m c acts.0) };
+    ghost reads_own = { λ step p. (refl, refl) };
+
+    ghost reads_homes = { λ step m. homes_viewed shown (S.opening m) };
 
     ghost legal = { λ m c acts. tt };
 
@@ -239,25 +243,26 @@ impl<S: ThreadLayer<SleepLaw<Attempt>>> BufferLayer for PlainFifo<S> {
     ghost busy = { λ p m fits step. absurd step };
 
     ghost idle = { λ p m fits none. refl };
+
+    ghost opens = { λ step m homes c fresh. absurd step };
 }
 
 impl<S: OwnedSleeps<Attempt>> OwnedBuffers for PlainFifo<S> {
     ghost use Rattle.std.specs.Prelude.{option_map};
     ghost use Rattle.std.proofs.Common.{sym};
-    ghost use Rattle.event_log.specs.declared.ids.LockId.TheVariants.{Buffer, Pending};
+    ghost use Rattle.event_log.specs.declared.ids.LockId.TheVariants.{Buffer};
     ghost use Rattle.event_log.specs.Buffers.{items_of};
     ghost use Rattle.event_log.specs.Runs.{is_closed};
     ghost use Rattle.layer_traits.specs.BufferEffects.{contents_of};
     ghost use Rattle.layer_traits.specs.Places.{pending_by};
     ghost use Rattle.layer_traits.specs.QueueBlocks.{inner};
     ghost use Rattle.layer_traits.specs.Queues.{buffer_sections, moves_in};
-    ghost use Rattle.layer_traits.specs.Renaming.{viewed_block};
     ghost use Rattle.layer_traits.specs.SleepLaw.{sleep_kernel};
     ghost use Rattle.plain_layers.specs.Attempts.{attempts};
     ghost use Rattle.plain_layers.specs.Fifos.{caps_in, entries_in, wait_lists_in, locked_after, shown};
     ghost use Rattle.plain_layers.specs.FifoOwned.{closed_of, items_in, wait_lists_of, nobody, nothing_read};
     ghost use Rattle.plain_layers.specs.Laws.FifoOwned.{buffer_there, closed_read, entries_known, items_read, wait_lists_read};
-    ghost use Rattle.plain_layers.specs.Laws.FifoOwned.{nobody_owns, pending_read, there_viewed, view_read};
+    ghost use Rattle.plain_layers.specs.Laws.FifoOwned.{nobody_owns, pending_read, view_read};
 
     ghost owner = { λ m b. nobody };
 
@@ -378,5 +383,5 @@ impl<S: OwnedSleeps<Attempt>> OwnedBuffers for PlainFifo<S> {
         (S.MayHold m) (S.MayHold m) (λ p fits. fits.0)
         (λ d held. held) (λ p. S.queue_with p d) (S.queue_at m d)
         (pending_by (moves_in (sleep_kernel attempts (S.opening m)) (S.seen m)) d)
-        (S.queues m c d acts.0 (there_viewed (viewed_block shown) (S.opening m (Pending d)) there)) };
+        (S.queues m c d acts.0 ((S.opens m c acts.0).queues there.0 d there.1)) };
 }

@@ -8,7 +8,7 @@ use crate::fifos::PlainFifo;
 use crate::sleepers::PlainSleep;
 use event_log::{CpuId, NoMemory};
 use ipc_calls::{Ipc, OpensBuffers, WholeBuffers};
-use layer_traits::IpcLayer;
+use layer_traits::{CallLayer, IpcLaw};
 use std::alloc::Global;
 
 /// One CPU's part of message calls in one step: a call takes effect at the first poll at which its
@@ -37,5 +37,5 @@ impl<S: OpensAttempts> WholeBuffers for PlainFifo<S> {
 
 /// Law: each poll of one-step message calls is one call, and not one action.
 pub fn ipc_is_whole()
-    ensures { IsCoarse ⟦<PlainIpc as IpcLayer>⟧.IsWhole ⟦<PlainIpc as IpcLayer>⟧.IsStepwise }
+    ensures { IsCoarse ⟦<PlainIpc as CallLayer<IpcLaw>>⟧.IsWhole ⟦<PlainIpc as CallLayer<IpcLaw>>⟧.IsStepwise }
 {}

@@ -7,7 +7,7 @@ ghost use Rattle.cpu_workers.specs.Callers.{IsSameCaller};
 use arrayvec::ArrayVec;
 use cpu_workers::{Caller, Native, NativeReport, run_native};
 use event_log::{BufId, Msg};
-use layer_traits::IpcLayer;
+use layer_traits::{CallLayer, IpcLaw};
 use std::sync::Wait;
 use std::test::Fail;
 use std::thread::Threads;
@@ -46,7 +46,7 @@ impl Peer {
 }
 
 /// Sends so many numbers, from this one up, and keeps what was sent. It ends where the buffer is closed.
-fn send_all<I: IpcLayer + Drop, R: Wait>(
+fn send_all<I: CallLayer<IpcLaw> + Drop, R: Wait>(
     rt: &R,
     caller: &mut Caller<I>,
     first: u64,
@@ -73,7 +73,7 @@ where
 }
 
 /// Receives so many messages, and keeps them. It ends where the buffer is closed and empty.
-fn receive_all<I: IpcLayer + Drop, R: Wait>(
+fn receive_all<I: CallLayer<IpcLaw> + Drop, R: Wait>(
     rt: &R,
     caller: &mut Caller<I>,
     count: u8,
@@ -98,7 +98,7 @@ where
 }
 
 /// Closes the buffer, if it is to be closed.
-fn close_if<I: IpcLayer + Drop, R: Wait>(rt: &R, caller: &mut Caller<I>, closes: bool)
+fn close_if<I: CallLayer<IpcLaw> + Drop, R: Wait>(rt: &R, caller: &mut Caller<I>, closes: bool)
 where
     I::Machine: Drop,
     requires buffer { 0 < length caller.old.caps }
@@ -119,7 +119,7 @@ impl Native for Peer {
 
     ghost Kept = { λ peer after caller. (after.sent.items ≡ sent_to 0 caller.calls) × (after.taken.items ≡ taken_from 0 caller.calls) };
 
-    fn run<I: IpcLayer + Drop, R: Wait>(&mut self, rt: &R, caller: &mut Caller<I>)
+    fn run<I: CallLayer<IpcLaw> + Drop, R: Wait>(&mut self, rt: &R, caller: &mut Caller<I>)
     where
         I::Machine: Drop,
     {

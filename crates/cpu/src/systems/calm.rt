@@ -6,11 +6,11 @@ ghost use Rattle.cpu.specs.Calm.{rests};
 
 use crate::systems::System;
 use event_log::CpuId;
-use layer_traits::{IpcLayer, Owned, Reason};
+use layer_traits::{CallLayer, IpcLaw, Owned, Reason};
 
 /// Whether a CPU of this part has no section under way, nobody runs or is ready on it, and its hand
 /// is empty.
-fn rests<I: IpcLayer>(part: &I) -> bool
+fn rests<I: CallLayer<IpcLaw>>(part: &I) -> bool
     ensures { result ≡ rests (I.is_inside part.now) (I.threads part.now) }
 {
     !part.is_busy() && part.current().is_none() && part.hand().is_none() && !part.has_ready()

@@ -11,10 +11,10 @@ use crate::guest_tables::Guests;
 use crate::guests::Guest;
 use crate::systems::System;
 use event_log::{CpuId, NoMemory};
-use layer_traits::{IpcLayer, Owned};
+use layer_traits::{CallLayer, IpcLaw, Owned};
 use std::alloc::Global;
 
-impl<I: IpcLayer> Cpu<I> {
+impl<I: CallLayer<IpcLaw>> Cpu<I> {
     /// A CPU before its first step, with the guests of its home threads, in a machine of threads of
     /// these homes and of so many buffers. Its trace has room for `limit` entries.
     ///
@@ -53,7 +53,7 @@ impl<I: IpcLayer> Cpu<I> {
 }
 
 /// Puts one CPU more behind the others, for which there is room.
-fn put_cpu<I: IpcLayer + Drop>(cpus: &mut Vec<Cpu<I>>, cpu: Cpu<I>)
+fn put_cpu<I: CallLayer<IpcLaw> + Drop>(cpus: &mut Vec<Cpu<I>>, cpu: Cpu<I>)
     requires { length cpus.old.items + 1 ≤ vec_capacity cpus.old }
     ensures items { cpus.new.items ≡ cpus.old.items ++ cpu ∷ [] }
     ensures capacity { vec_capacity cpus.old ≤ vec_capacity cpus.new }
@@ -62,7 +62,7 @@ fn put_cpu<I: IpcLayer + Drop>(cpus: &mut Vec<Cpu<I>>, cpu: Cpu<I>)
 }
 
 /// The CPUs of a machine before their first step, one for each table of guests.
-fn cpus_at_boot<I: IpcLayer + Drop>(
+fn cpus_at_boot<I: CallLayer<IpcLaw> + Drop>(
     alloc: Global,
     homes: &[CpuId],
     buffers: u8,

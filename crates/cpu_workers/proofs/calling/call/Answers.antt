@@ -19,7 +19,7 @@ loop-init g c = record {
 
 pub loop-preserved : goal.loop-preserved
 loop-preserved g c =
-    let I = g.I.IpcLayer in
+    let I = g.I.CallLayer in
     let known = c.loop.invariant in
     let e = c.poll_once.ensures in
     let goes = c.in-Err.ensures.goes in

@@ -4,8 +4,8 @@ use Rattle.cpu_workers.proofs.calling.poll_call.Goals as goal
 
 pub returns-in-Some-clause-ends : goal.returns-in-Some-clause-ends
 returns-in-Some-clause-ends g c =
-    let I = g.I.IpcLayer in
-    let acts = g.met.I.IpcLayer.own_cpu c.args.part.now c.args.m.now c.requires.fits in
+    let I = g.I.CallLayer in
+    let acts = g.met.I.CallLayer.own_cpu c.args.part.now c.args.m.now c.requires.fits in
     let cpu = I.cpu_of c.args.part.now in
     let e = c.poll.ensures in
     let called = e.called c.requires.buffer in (
@@ -16,8 +16,8 @@ returns-in-Some-clause-ends g c =
 
 pub returns-in-None-clause-goes : goal.returns-in-None-clause-goes
 returns-in-None-clause-goes g c =
-    let I = g.I.IpcLayer in
-    let acts = g.met.I.IpcLayer.own_cpu c.args.part.now c.args.m.now c.requires.fits in
+    let I = g.I.CallLayer in
+    let acts = g.met.I.CallLayer.own_cpu c.args.part.now c.args.m.now c.requires.fits in
     let e = c.poll.ensures in
     let some : is_some ((I.threads c.poll.new.self).current) ≡ true = search rules in
     let runs = runs_on c.args.t _ (I.threads c.poll.new.self) c.poll.result (e.runs c.requires.buffer) some in (
@@ -29,8 +29,8 @@ returns-in-None-clause-goes g c =
 
 pub returns-in-None-2-clause-goes : goal.returns-in-None-2-clause-goes
 returns-in-None-2-clause-goes g c =
-    let I = g.I.IpcLayer in
-    let acts = g.met.I.IpcLayer.own_cpu c.args.part.now c.args.m.now c.requires.fits in
+    let I = g.I.CallLayer in
+    let acts = g.met.I.CallLayer.own_cpu c.args.part.now c.args.m.now c.requires.fits in
     let e = c.poll.ensures in
     let none : is_some ((I.threads c.poll.new.self).current) ≡ false = search rules in (
       e.under_way c.requires.buffer ∙ sleeps c.args.t _ c.poll.result c.in-None-2.is none,

@@ -8,11 +8,11 @@ use Rattle.cpu_workers.proofs.calling.poll_once.Goals as goal
 -- a look leaves what is under way, and the call
 pub returns-then-look-clause-goes : goal.returns-then-look-clause-goes
 returns-then-look-clause-goes g c =
-    let I = g.I.IpcLayer in
+    let I = g.I.CallLayer in
     let m = c.args.m.now in
     let p = c.args.part.now in
     let e = c.look.ensures in
-    let acts = g.met.I.IpcLayer.own_cpu p m c.requires.fits in (
+    let acts = g.met.I.CallLayer.own_cpu p m c.requires.fits in (
       e.under_way ∙ c.requires.under_way,
       subst (λ (own : Threads). MayPoll c.args.t own c.args.begun) (sym e.threads) c.requires.may,
       subst (λ (l : List CallState). KeepsOn (I.cpu_of p) c.args.t c.args.call.now (I.call_states p) l (I.seen m) (I.seen c.look.new.m))
@@ -23,7 +23,7 @@ returns-then-look-clause-goes g c =
 -- no look: nothing has changed
 pub returns-in-Calls-clause-goes : goal.returns-in-Calls-clause-goes
 returns-in-Calls-clause-goes g c =
-    let I = g.I.IpcLayer in
+    let I = g.I.CallLayer in
     let still = c.look.ensures.still c.if-look.false in
     let q = c.poll_call.new.part in
     let n = c.poll_call.new.m in
@@ -35,7 +35,7 @@ returns-in-Calls-clause-goes g c =
 
 pub returns-in-Passes-clause-goes : goal.returns-in-Passes-clause-goes
 returns-in-Passes-clause-goes g c =
-    let I = g.I.IpcLayer in
+    let I = g.I.CallLayer in
     let still = c.look.ensures.still c.if-look.false in
     let q = c.poll_pass.new.part in
     let n = c.poll_pass.new.m in (

@@ -8,20 +8,20 @@ use Rattle.cpu_workers.proofs.calling.poll_pass.Goals as goal
 
 pub returns-in-Some-clause-on : goal.returns-in-Some-clause-on
 returns-in-Some-clause-on g c =
-    let I = g.I.IpcLayer in
+    let I = g.I.CallLayer in
     let m = c.args.m.now in
     let p = c.args.part.now in
-    let acts = g.met.I.IpcLayer.own_cpu p m c.requires.fits in
+    let acts = g.met.I.CallLayer.own_cpu p m c.requires.fits in
     subst (λ (l : List CallState). KeepsOn (I.cpu_of p) c.args.t c.args.call.now (I.call_states p) l (I.seen m) (I.seen c.pass.new.m))
     (sym c.pass.ensures.call_states)
     (λ old on. on_goes (λ d. I.ActsFor m d) (I.cpu_of p) acts c.args.t c.args.call.now _ old _ _ c.pass.ensures.seen on)
 
 pub returns-in-None-clause-on : goal.returns-in-None-clause-on
 returns-in-None-clause-on g c =
-    let I = g.I.IpcLayer in
+    let I = g.I.CallLayer in
     let m = c.args.m.now in
     let p = c.args.part.now in
-    let acts = g.met.I.IpcLayer.own_cpu p m c.requires.fits in
+    let acts = g.met.I.CallLayer.own_cpu p m c.requires.fits in
     subst (λ (l : List CallState). KeepsOn (I.cpu_of p) c.args.t c.args.call.now (I.call_states p) l (I.seen m) (I.seen c.pass.new.m))
     (sym c.pass.ensures.call_states)
     (λ old on. on_goes (λ d. I.ActsFor m d) (I.cpu_of p) acts c.args.t c.args.call.now _ old _ _ c.pass.ensures.seen on)

@@ -20,7 +20,7 @@ push_reserved-requires g c =
 
 pub loop-one-preserved : goal.loop-one-preserved
 loop-one-preserved g c =
-    let I = g.I.IpcLayer in
+    let I = g.I.CallLayer in
     let e = c.left_by-alone.ensures in
     record {
       all = yield_more c.loop-one.yielded c.loop-one.one-iterator.rest.items c.next.new.self.rest.items c.args.done.items c.in-Some.one
@@ -35,7 +35,7 @@ loop-one-preserved g c =
 
 pub returns : goal.returns
 returns g c =
-    let I = g.I.IpcLayer in
+    let I = g.I.CallLayer in
     let rest = c.loop-one.one-iterator.rest in
     let whole : c.loop-one.yielded ≡ c.args.done.items
     = no_more c.loop-one.yielded rest.items c.args.done.items rest.len c.loop-one.invariant.all rest.ok.0 c.in-None.ensures.steps.0 in

@@ -36,7 +36,7 @@ returns-clause-owns g c = λ k x at.
     let d = both_back _ c.in_ok-done.done.items c.all_left.result.items c.all_left.ensures k x at in
     let e = both_back _ c.in_ok-tasks.tasks.items c.in_ok-done.done.items c.in_ok-done.ensures k d.0 d.1 in
     let n = c.in_ok-tasks.ensures.each k e.0 e.1 in
-    subst (λ (i : CpuId). g.I.IpcLayer.ActsFor x.machine i) (e.2.same.cpu ∙ n.0.cpu_is) d.2.1
+    subst (λ (i : CpuId). g.I.CallLayer.ActsFor x.machine i) (e.2.same.cpu ∙ n.0.cpu_is) d.2.1
 
 pub returns-clause-left : goal.returns-clause-left
 returns-clause-left g c = λ k x n at there.

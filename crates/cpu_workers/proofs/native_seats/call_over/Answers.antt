@@ -27,7 +27,10 @@ call_each-requires-clause-unused g c = λ κs within k m at.
     let tower = opens_tower c.args.caps.now c.args.homes.now (cpu_at k) (g.L.Layer.opening m) c.requires.buffers opens.homes_are
     (opens.queues (cpu_at k) (found_within c.args.machines.items k m at)) opens.locks in
     record {
-      fresh = (((ready.acts, opens.starts), tower.boots), ready.rests, rw ready.unseen refl, rw ready.unseen refl, tower.homes_are, tower.queue, tower.boots);
+      fresh = (
+        (((ready.acts, opens.starts), tower.boots), ready.rests, rw ready.unseen refl, rw ready.unseen refl, tower.homes_are, tower.queue, tower.boots),
+        tower.homes_are,
+      );
       homes = tower.homes_are;
       caps = tower.caps_are;
       unseen = rw ready.unseen refl;

@@ -79,7 +79,7 @@ push_reserved-requires g c =
 
 pub loop-number-preserved : goal.loop-number-preserved
 loop-number-preserved g c =
-    let I = g.I.IpcLayer in
+    let I = g.I.CallLayer in
     let inv = c.loop-number.invariant in
     let machines = c.args.machines.items in
     let natives = c.args.natives.items in

@@ -11,5 +11,5 @@ invariant-loop-number g l = record {
   so_many : length l.tasks.items ≡ l.number;
   has_room : length l.fn.machines.items ≤ vec_capacity l.tasks;
   each : (k : ℕ) (t : _) → slice_get l.tasks.items k ≡ Some t → IsNewCaller l.caps (cpu_at k) t.caller × (slice_get l.fn.natives.items k ≡ Some t.native)
-      × ((m : g.row.I-Machine.Denot) → slice_get l.fn.machines.items k ≡ Some m → t.caller.site ≡ g.I.IpcLayer.site m);
+      × ((m : g.row.I-Machine.Denot) → slice_get l.fn.machines.items k ≡ Some m → t.caller.site ≡ g.I.CallLayer.site m);
 }

@@ -34,7 +34,7 @@ returns-clause-owns g c = λ k x at.
     let d = both_back _ c.in_ok-came.came.items c.all_apart.result.items c.all_apart.ensures k x at in
     let e = both_back _ c.in_ok-workers.workers.items c.in_ok-came.came.items c.in_ok-came.ensures k d.0 d.1 in
     let n = c.in_ok-workers.ensures.each k e.0 e.1 in
-    subst (λ (i : CpuId). g.I.IpcLayer.ActsFor x.machine i) (e.2.same.cpu ∙ n.0.cpu_is) d.2.1
+    subst (λ (i : CpuId). g.I.CallLayer.ActsFor x.machine i) (e.2.same.cpu ∙ n.0.cpu_is) d.2.1
 
 pub returns-clause-left : goal.returns-clause-left
 returns-clause-left g c = λ k x at.

@@ -31,7 +31,10 @@ run_each-requires-clause-unused g c = λ κs within k m at.
     let tower = opens_tower caps (homes_for c.args.boot.now) (cpu_at k) (g.L.Layer.opening m) c.requires.plan.caps.most opens.homes
     (opens.queues (cpu_at k) (omega (arith, short, count))) opens.locks in
     record {
-      fresh = (((ready.acts, opens.starts), tower.boots), ready.rests, rw ready.unseen refl, rw ready.unseen refl, tower.homes_are, tower.queue, tower.boots);
+      fresh = (
+        (((ready.acts, opens.starts), tower.boots), ready.rests, rw ready.unseen refl, rw ready.unseen refl, tower.homes_are, tower.queue, tower.boots),
+        tower.homes_are,
+      );
       homes = tower.homes_are;
       caps = tower.caps_are;
       unseen = rw ready.unseen refl;

@@ -9,7 +9,7 @@ use Rattle.cpu_workers.proofs.seating.worker_over.Goals as goal
 -- nothing was done in the machine
 pub at_boot-requires-clause-fresh : goal.at_boot-requires-clause-fresh
 at_boot-requires-clause-fresh g c =
-    subst (λ (l : List CpuId). g.I.IpcLayer.IsFresh c.args.machine l c.args.number) (sym (c.as_slice.ensures.value ∙ c.homes_of-homes.ensures))
+    subst (λ (l : List CpuId). g.I.CallLayer.IsFresh c.args.machine l c.args.number) (sym (c.as_slice.ensures.value ∙ c.homes_of-homes.ensures))
     c.requires.unused.fresh
 
 pub at_boot-requires-clause-homes : goal.at_boot-requires-clause-homes
@@ -40,6 +40,6 @@ returns-clause-at_boot g c =
     let plan = c.args.boot.now in
     let unused = c.requires.unused in
     let e = c.at_boot.ensures in
-    at_boot_if plan c.args.number c.as_slice.result.now _ (g.I.IpcLayer.acts c.args.machine) c.at_boot.result
+    at_boot_if plan c.args.number c.as_slice.result.now _ (g.I.CallLayer.acts c.args.machine) c.at_boot.result
     (planned_by plan c.caps.ensures.within c.args.number.0 _ _ c.in_ok-guests.guests.items c.trace-limit.result unused.homes unused.caps
     c.in_ok-guests.ensures c.trace-limit.ensures.trace) (c.as_slice.ensures.value ∙ c.homes_of-homes.ensures) unused.idle e.cpu e.plan e.boots e.acts

@@ -11,5 +11,5 @@ invariant-loop-number g l = record {
   so_many : length l.workers.items ≡ l.number;
   has_room : length l.fn.machines.items ≤ vec_capacity l.workers;
   each : (k : ℕ) (w : Working) → slice_get l.workers.items k ≡ Some w → IsAtBoot l.boot (cpu_at k) w
-      × ((m : g.row.I-Machine.Denot) → slice_get l.fn.machines.items k ≡ Some m → w.site ≡ g.I.IpcLayer.site m);
+      × ((m : g.row.I-Machine.Denot) → slice_get l.fn.machines.items k ≡ Some m → w.site ≡ g.I.CallLayer.site m);
 }

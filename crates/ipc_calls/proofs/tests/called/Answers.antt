@@ -5,7 +5,7 @@ use Rattle.ipc_calls.proofs.tests.called.Goals as goal
 
 pub loop-init : goal.loop-init
 loop-init g c =
-    let I = g.I.IpcLayer in
+    let I = g.I.CallLayer in
     let room = c.requires.room in
     let enough : c.args.polls ≤ I.room c.args.m.now + 0 = omega (arith, room) in (
       c.requires.fits,

@@ -4,7 +4,7 @@ use Rattle.ipc_calls.proofs.tests.called.Given as goal
 
 abbrev pub invariant-loop : goal.invariant-loop
 invariant-loop g l =
-    let I = g.I.IpcLayer in
+    let I = g.I.CallLayer in
     I.Fits l.part l.m × (l.polls ≤ I.room l.m + l.counter) × ((I.threads l.part).current ≡ Some l.t)
     × (I.under_way l.part ≡ None → (I.threads l.part).hand ≡ None) × MayPollCall (call_state_of (I.call_states l.part) l.t) l.call × MayGoOn
     (I.under_way l.part) (Calling l.t)

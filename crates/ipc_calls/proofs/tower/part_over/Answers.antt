@@ -16,13 +16,17 @@ returns-clause-fits g c =
     let few : length c.args.caps.now ≤ 256 = omega (arith, most) in
     let boots = boots_well (viewed nested_lock_of (viewed state_of opening)) c.args.caps.now c.requires.locks few in
     let caps = caps_are (viewed nested_lock_of (viewed state_of opening)) c.args.caps.now c.requires.locks few in
+    let homes_are = homes_viewed nested_lock_of (viewed state_of opening) ∙ homes_viewed state_of opening ∙ c.requires.homes in
     c.part.ensures.fits m (
-      ((c.requires.acts, c.requires.starts), boots),
-      c.requires.outside,
-      rw c.requires.fresh refl,
-      rw c.requires.fresh refl,
-      homes_viewed nested_lock_of (viewed state_of opening) ∙ homes_viewed state_of opening ∙ c.requires.homes,
-      viewed_there nested_lock_of (viewed state_of opening) (Pending c.args.cpu) (viewed_there state_of opening (Pending c.args.cpu) c.requires.queue),
-      boots,
+      (
+        ((c.requires.acts, c.requires.starts), boots),
+        c.requires.outside,
+        rw c.requires.fresh refl,
+        rw c.requires.fresh refl,
+        homes_are,
+        viewed_there nested_lock_of (viewed state_of opening) (Pending c.args.cpu) (viewed_there state_of opening (Pending c.args.cpu) c.requires.queue),
+        boots,
+      ),
+      homes_are,
     )
     (ap length caps)

@@ -9,15 +9,15 @@ pub reason-requires : goal.reason-requires
 reason-requires g c =
     let m = c.args.m.now in
     let p = c.args.self.now in
-    let cpu = layered (laws_of g.met.I.IpcLayer) m p c.requires.fits c.requires.number c.requires.is c.requires.table in
+    let cpu = layered (laws_of g.met.I.CallLayer) m p c.requires.fits c.requires.number c.requires.is c.requires.table in
     current_within (valid_cpu c.requires.is) (runs_home cpu)
 
 pub returns-in-Some-clause-leaves : goal.returns-in-Some-clause-leaves
-returns-in-Some-clause-leaves g c = left_alone g.I.IpcLayer c.args.m.now c.args.self.now _ c.requires.number refl refl refl refl
+returns-in-Some-clause-leaves g c = left_alone g.I.CallLayer c.args.m.now c.args.self.now _ c.requires.number refl refl refl refl
 
 pub returns-in-Some-clause-steps : goal.returns-in-Some-clause-steps
 returns-in-Some-clause-steps g c = λ step.
     let m = c.args.m.now in
     let p = c.args.self.now in
-    let cpu = layered (laws_of g.met.I.IpcLayer) m p c.requires.fits c.requires.number c.requires.is c.requires.table in
+    let cpu = layered (laws_of g.met.I.CallLayer) m p c.requires.fits c.requires.number c.requires.is c.requires.table in
     stopped_steps (observed_cpu cpu step) _ _ (observed_outset cpu step) c.in-Some.reason (sym (sym c.in-Some.is ∙ c.reason.ensures))

@@ -12,7 +12,7 @@ use Rattle.cpu.proofs.cpus.Cpu.compute.Goals as goal
 
 pub returns-clause-is : goal.returns-clause-is
 returns-clause-is g c =
-    let I = g.I.IpcLayer in
+    let I = g.I.CallLayer in
     let m = c.args.m.now in
     let p = c.args.self.now in
     subst (λ (l : List (Option Guest)). IsCpu (I.homes_of m) (length (I.caps m)) (I.seen m) (I.threads p.part) (I.call_states p.part)
@@ -23,23 +23,23 @@ returns-clause-is g c =
 pub returns-clause-leaves : goal.returns-clause-leaves
 returns-clause-leaves g c =
     let programs = ap programs_of c.note_compute.ensures ∙ programs_with c.args.self.now.guests.items c.args.thread.0 _ (λ x. refl) in
-    left_alone g.I.IpcLayer c.args.m.now c.args.self.now _ c.requires.number refl refl refl programs
+    left_alone g.I.CallLayer c.args.m.now c.args.self.now _ c.requires.number refl refl refl programs
 
 pub returns-clause-table : goal.returns-clause-table
 returns-clause-table g c = λ step.
-    let I = g.I.IpcLayer in
+    let I = g.I.CallLayer in
     let m = c.args.m.now in
     let p = c.args.self.now in
-    let cpu = layered (laws_of g.met.I.IpcLayer) m p c.requires.fits c.requires.number c.requires.is c.requires.table in
+    let cpu = layered (laws_of g.met.I.CallLayer) m p c.requires.fits c.requires.number c.requires.is c.requires.table in
     subst (λ (l : List (Option Guest)). IsTabled (I.homes_of m) (I.caps m) p.number (I.own p.part) (I.under_way p.part) l (I.opening m))
     (sym c.note_compute.ensures) (computed_tabled (observed_cpu cpu step) c.args.thread c.requires.chosen)
 
 pub returns-clause-steps : goal.returns-clause-steps
 returns-clause-steps g c = λ step.
-    let I = g.I.IpcLayer in
+    let I = g.I.CallLayer in
     let m = c.args.m.now in
     let p = c.args.self.now in
-    let cpu = layered (laws_of g.met.I.IpcLayer) m p c.requires.fits c.requires.number c.requires.is c.requires.table in
+    let cpu = layered (laws_of g.met.I.CallLayer) m p c.requires.fits c.requires.number c.requires.is c.requires.table in
     subst (λ (l : List (Option Guest)). WentByTable (λ d. I.ActsFor m d) (I.homes_of m) (I.caps m) p.number p.limit (I.own p.part) (I.own p.part)
     p.guests.items l p.trace.items p.trace.items (I.acts m) (I.acts m) Stepped) (sym c.note_compute.ensures)
     (computed_steps (observed_cpu cpu step) _ _ (observed_outset cpu step) c.args.thread c.requires.chosen c.requires.live)

@@ -9,8 +9,8 @@ use Rattle.cpu.proofs.cpus.Cpu.look.Goals as goal
 
 pub returns-clause-is : goal.returns-clause-is
 returns-clause-is g c =
-    let I = g.I.IpcLayer in
-    let law = g.met.I.IpcLayer in
+    let I = g.I.CallLayer in
+    let law = g.met.I.CallLayer in
     let m = c.args.m.now in
     let p = c.args.self.now in
     let acts = law.own_cpu p.part m c.requires.fits in
@@ -21,7 +21,7 @@ returns-clause-is g c =
 
 pub returns-clause-leaves : goal.returns-clause-leaves
 returns-clause-leaves g c =
-    let I = g.I.IpcLayer in
+    let I = g.I.CallLayer in
     let m = c.args.m.now in
     let e = c.look.ensures in
     record {
@@ -51,7 +51,7 @@ returns-clause-table g c = λ step.
 
 pub returns-clause-steps : goal.returns-clause-steps
 returns-clause-steps g c = λ step looked.
-    let I = g.I.IpcLayer in
+    let I = g.I.CallLayer in
     let m = c.args.m.now in
     let p = c.args.self.now in
     looked_steps (λ d. I.ActsFor m d) (I.homes_of m) (I.caps m) (I.cpu_of p.part) p.number p.limit (I.own p.part) (I.own c.look.new.self) p.guests.items

@@ -18,22 +18,22 @@ pub pass-done-requires-clause-may : goal.pass-done-requires-clause-may
 pass-done-requires-clause-may g c =
     let m = c.args.m.now in
     let p = c.args.self.now in
-    let cpu = layered (laws_of g.met.I.IpcLayer) m p c.requires.fits c.requires.number c.requires.is c.requires.table in
+    let cpu = layered (laws_of g.met.I.CallLayer) m p c.requires.fits c.requires.number c.requires.is c.requires.table in
     may_pass (valid_cpu c.requires.is) c.args.pass (runs_home cpu) c.requires.chosen
 
 pub note_pass-requires : goal.note_pass-requires
 note_pass-requires g c = λ t runs.
     let m = c.args.m.now in
     let p = c.args.self.now in
-    let cpu = layered (laws_of g.met.I.IpcLayer) m p c.requires.fits c.requires.number c.requires.is c.requires.table in
+    let cpu = layered (laws_of g.met.I.CallLayer) m p c.requires.fits c.requires.number c.requires.is c.requires.table in
     current_within (valid_cpu c.requires.is) (runs_home cpu) t (sym c.current-runs.ensures ∙ runs)
 
 pub returns-then-is_some-clause-is : goal.returns-then-is_some-clause-is
 returns-then-is_some-clause-is g c =
-    let I = g.I.IpcLayer in
+    let I = g.I.CallLayer in
     let m = c.args.m.now in
     let p = c.args.self.now in
-    let cpu = layered (laws_of g.met.I.IpcLayer) m p c.requires.fits c.requires.number c.requires.is c.requires.table in
+    let cpu = layered (laws_of g.met.I.CallLayer) m p c.requires.fits c.requires.number c.requires.is c.requires.table in
     let some : is_some c.pass-done.result ≡ true = search rules in
     let told = c.pass-done.ensures.passed in
     rw (c.pass-done.ensures.homes, c.pass-done.ensures.caps, c.pass-done.ensures.call_states)
@@ -46,7 +46,7 @@ returns-then-is_some-clause-is g c =
 
 pub returns-then-is_some-clause-leaves : goal.returns-then-is_some-clause-leaves
 returns-then-is_some-clause-leaves g c =
-    let I = g.I.IpcLayer in
+    let I = g.I.CallLayer in
     let m = c.args.m.now in
     let e = c.pass-done.ensures in
     record {
@@ -71,10 +71,10 @@ returns-then-is_some-clause-leaves g c =
 
 pub returns-else-is_some-clause-is : goal.returns-else-is_some-clause-is
 returns-else-is_some-clause-is g c =
-    let I = g.I.IpcLayer in
+    let I = g.I.CallLayer in
     let m = c.args.m.now in
     let p = c.args.self.now in
-    let cpu = layered (laws_of g.met.I.IpcLayer) m p c.requires.fits c.requires.number c.requires.is c.requires.table in
+    let cpu = layered (laws_of g.met.I.CallLayer) m p c.requires.fits c.requires.number c.requires.is c.requires.table in
     let none : is_some c.pass-done.result ≡ false = search rules in
     let told = c.pass-done.ensures.passed in
     rw (c.pass-done.ensures.homes, c.pass-done.ensures.caps, c.pass-done.ensures.call_states)
@@ -86,7 +86,7 @@ returns-else-is_some-clause-is g c =
 
 pub returns-else-is_some-clause-leaves : goal.returns-else-is_some-clause-leaves
 returns-else-is_some-clause-leaves g c =
-    let I = g.I.IpcLayer in
+    let I = g.I.CallLayer in
     let m = c.args.m.now in
     let e = c.pass-done.ensures in
     record {
@@ -110,12 +110,12 @@ returns-else-is_some-clause-leaves g c =
     }
 
 -- what a poll that ended the pass leaves of the CPU over the tower
-abbrev done_observed : (g : Over) (c : goal.After-note_pass g) (step : g.I.IpcLayer.IsStepwise)
-    → let cpu = layered (laws_of g.met.I.IpcLayer) c.args.m.now c.args.self.now c.requires.fits c.requires.number c.requires.is c.requires.table in
-    ObservedPass (λ d. g.I.IpcLayer.ActsFor c.args.m.now d) (observed_cpu cpu step) c.args.pass (g.I.IpcLayer.acts c.args.m.now)
+abbrev done_observed : (g : Over) (c : goal.After-note_pass g) (step : g.I.CallLayer.IsStepwise)
+    → let cpu = layered (laws_of g.met.I.CallLayer) c.args.m.now c.args.self.now c.requires.fits c.requires.number c.requires.is c.requires.table in
+    ObservedPass (λ d. g.I.CallLayer.ActsFor c.args.m.now d) (observed_cpu cpu step) c.args.pass (g.I.CallLayer.acts c.args.m.now)
 done_observed g c step =
-    let I = g.I.IpcLayer in
-    let law = g.met.I.IpcLayer in
+    let I = g.I.CallLayer in
+    let law = g.met.I.CallLayer in
     let m = c.args.m.now in
     let p = c.args.self.now in
     let q = c.pass-done.new.self in
@@ -146,7 +146,7 @@ pub returns-then-is_some-clause-table : goal.returns-then-is_some-clause-table
 returns-then-is_some-clause-table g c = λ step.
     let m = c.args.m.now in
     let p = c.args.self.now in
-    let cpu = layered (laws_of g.met.I.IpcLayer) m p c.requires.fits c.requires.number c.requires.is c.requires.table in
+    let cpu = layered (laws_of g.met.I.CallLayer) m p c.requires.fits c.requires.number c.requires.is c.requires.table in
     rw (c.pass-done.ensures.homes, c.pass-done.ensures.caps, c.pass-done.ensures.framed.stays.opening)
     (passed_tabled (observed_cpu cpu step) _ _ (observed_outset cpu step) c.args.pass c.requires.chosen c.requires.live (done_observed g c step))
 
@@ -154,16 +154,16 @@ pub returns-then-is_some-clause-steps : goal.returns-then-is_some-clause-steps
 returns-then-is_some-clause-steps g c = λ step.
     let m = c.args.m.now in
     let p = c.args.self.now in
-    let cpu = layered (laws_of g.met.I.IpcLayer) m p c.requires.fits c.requires.number c.requires.is c.requires.table in
+    let cpu = layered (laws_of g.met.I.CallLayer) m p c.requires.fits c.requires.number c.requires.is c.requires.table in
     passed_steps (observed_cpu cpu step) _ _ (observed_outset cpu step) c.args.pass c.requires.chosen c.requires.live (done_observed g c step)
 
 -- and what one leaves that did not
-abbrev wait_observed : (g : Over) (c : goal.Else-is_some g) (step : g.I.IpcLayer.IsStepwise)
-    → let cpu = layered (laws_of g.met.I.IpcLayer) c.args.m.now c.args.self.now c.requires.fits c.requires.number c.requires.is c.requires.table in
-    ObservedPass (λ d. g.I.IpcLayer.ActsFor c.args.m.now d) (observed_cpu cpu step) c.args.pass (g.I.IpcLayer.acts c.args.m.now)
+abbrev wait_observed : (g : Over) (c : goal.Else-is_some g) (step : g.I.CallLayer.IsStepwise)
+    → let cpu = layered (laws_of g.met.I.CallLayer) c.args.m.now c.args.self.now c.requires.fits c.requires.number c.requires.is c.requires.table in
+    ObservedPass (λ d. g.I.CallLayer.ActsFor c.args.m.now d) (observed_cpu cpu step) c.args.pass (g.I.CallLayer.acts c.args.m.now)
 wait_observed g c step =
-    let I = g.I.IpcLayer in
-    let law = g.met.I.IpcLayer in
+    let I = g.I.CallLayer in
+    let law = g.met.I.CallLayer in
     let m = c.args.m.now in
     let p = c.args.self.now in
     let q = c.pass-done.new.self in
@@ -193,7 +193,7 @@ pub returns-else-is_some-clause-table : goal.returns-else-is_some-clause-table
 returns-else-is_some-clause-table g c = λ step.
     let m = c.args.m.now in
     let p = c.args.self.now in
-    let cpu = layered (laws_of g.met.I.IpcLayer) m p c.requires.fits c.requires.number c.requires.is c.requires.table in
+    let cpu = layered (laws_of g.met.I.CallLayer) m p c.requires.fits c.requires.number c.requires.is c.requires.table in
     rw (c.pass-done.ensures.homes, c.pass-done.ensures.caps, c.pass-done.ensures.framed.stays.opening)
     (passed_tabled (observed_cpu cpu step) _ _ (observed_outset cpu step) c.args.pass c.requires.chosen c.requires.live (wait_observed g c step))
 
@@ -201,5 +201,5 @@ pub returns-else-is_some-clause-steps : goal.returns-else-is_some-clause-steps
 returns-else-is_some-clause-steps g c = λ step.
     let m = c.args.m.now in
     let p = c.args.self.now in
-    let cpu = layered (laws_of g.met.I.IpcLayer) m p c.requires.fits c.requires.number c.requires.is c.requires.table in
+    let cpu = layered (laws_of g.met.I.CallLayer) m p c.requires.fits c.requires.number c.requires.is c.requires.table in
     passed_steps (observed_cpu cpu step) _ _ (observed_outset cpu step) c.args.pass c.requires.chosen c.requires.live (wait_observed g c step)

@@ -25,11 +25,11 @@ note_poll-fresh-requires g c = poll_within (valid_cpu c.requires.is) c.args.thre
 
 pub note_effect-requires : goal.note_effect-requires
 note_effect-requires g c = λ f some.
-    let I = g.I.IpcLayer in
+    let I = g.I.CallLayer in
     let m = c.args.m.now in
     let p = c.args.self.now in
     let t = c.args.thread in
-    let cpu = layered (laws_of g.met.I.IpcLayer) m p c.requires.fits c.requires.number c.requires.is c.requires.table in
+    let cpu = layered (laws_of g.met.I.CallLayer) m p c.requires.fits c.requires.number c.requires.is c.requires.table in
     let runs = (polls_at (valid_cpu c.requires.is) t c.args.call.now c.requires.chosen).runs in
     let less = poll_buffer (valid_cpu c.requires.is) t c.args.call.now c.requires.chosen in
     let effect = c.effect_here-effect.ensures in
@@ -60,11 +60,11 @@ note_effect-requires g c = λ f some.
 
 pub returns-clause-is : goal.returns-clause-is
 returns-clause-is g c =
-    let I = g.I.IpcLayer in
+    let I = g.I.CallLayer in
     let m = c.args.m.now in
     let p = c.args.self.now in
     let t = c.args.thread in
-    let cpu = layered (laws_of g.met.I.IpcLayer) m p c.requires.fits c.requires.number c.requires.is c.requires.table in
+    let cpu = layered (laws_of g.met.I.CallLayer) m p c.requires.fits c.requires.number c.requires.is c.requires.table in
     let runs = (polls_at (valid_cpu c.requires.is) t c.args.call.now c.requires.chosen).runs in
     let less = poll_buffer (valid_cpu c.requires.is) t c.args.call.now c.requires.chosen in
     let effect = c.effect_here-effect.ensures in
@@ -95,7 +95,7 @@ returns-clause-is g c =
 
 pub returns-clause-leaves : goal.returns-clause-leaves
 returns-clause-leaves g c =
-    let I = g.I.IpcLayer in
+    let I = g.I.CallLayer in
     let m = c.args.m.now in
     let e = c.poll-answer.ensures in
     let less = poll_buffer (valid_cpu c.requires.is) c.args.thread c.args.call.now c.requires.chosen in
@@ -119,12 +119,12 @@ returns-clause-leaves g c =
     }
 
 -- what the poll leaves of the CPU over the tower
-abbrev observed_poll : (g : Over) (c : goal.After-note_effect g) (step : g.I.IpcLayer.IsStepwise)
-    → let cpu = layered (laws_of g.met.I.IpcLayer) c.args.m.now c.args.self.now c.requires.fits c.requires.number c.requires.is c.requires.table in
-    ObservedPoll (λ d. g.I.IpcLayer.ActsFor c.args.m.now d) (observed_cpu cpu step) c.args.thread c.args.call.now (g.I.IpcLayer.acts c.args.m.now)
+abbrev observed_poll : (g : Over) (c : goal.After-note_effect g) (step : g.I.CallLayer.IsStepwise)
+    → let cpu = layered (laws_of g.met.I.CallLayer) c.args.m.now c.args.self.now c.requires.fits c.requires.number c.requires.is c.requires.table in
+    ObservedPoll (λ d. g.I.CallLayer.ActsFor c.args.m.now d) (observed_cpu cpu step) c.args.thread c.args.call.now (g.I.CallLayer.acts c.args.m.now)
 observed_poll g c step =
-    let I = g.I.IpcLayer in
-    let law = g.met.I.IpcLayer in
+    let I = g.I.CallLayer in
+    let law = g.met.I.CallLayer in
     let m = c.args.m.now in
     let p = c.args.self.now in
     let q = c.poll-answer.new.self in
@@ -157,12 +157,12 @@ observed_poll g c step =
 
 pub returns-clause-table : goal.returns-clause-table
 returns-clause-table g c = λ step.
-    let cpu = layered (laws_of g.met.I.IpcLayer) c.args.m.now c.args.self.now c.requires.fits c.requires.number c.requires.is c.requires.table in
+    let cpu = layered (laws_of g.met.I.CallLayer) c.args.m.now c.args.self.now c.requires.fits c.requires.number c.requires.is c.requires.table in
     rw (c.poll-answer.ensures.homes, c.poll-answer.ensures.caps, c.poll-answer.ensures.framed.stays.opening)
     (call_tabled (observed_cpu cpu step) _ _ (observed_outset cpu step) c.args.thread c.args.call.now c.requires.chosen c.requires.live
     (observed_poll g c step))
 
 pub returns-clause-steps : goal.returns-clause-steps
 returns-clause-steps g c = λ step.
-    let cpu = layered (laws_of g.met.I.IpcLayer) c.args.m.now c.args.self.now c.requires.fits c.requires.number c.requires.is c.requires.table in
+    let cpu = layered (laws_of g.met.I.CallLayer) c.args.m.now c.args.self.now c.requires.fits c.requires.number c.requires.is c.requires.table in
     call_steps (observed_cpu cpu step) _ _ (observed_outset cpu step) c.args.thread c.args.call.now c.requires.chosen c.requires.live (observed_poll g c step)

@@ -20,7 +20,7 @@ use Rattle.cpu.proofs.LayeredSteps.{shown_by, observed_by, went_on, plan_preserv
 
 pub go-requires-clause-number : goal.go-requires-clause-number
 go-requires-clause-number g c =
-    let I = g.I.IpcLayer in
+    let I = g.I.CallLayer in
     let items = c.self.inside.cpus.items in
     let shown = shown_by I in
     let at = read_at shown items c.args.self.now.cpus c.from.result c.args.cpu.0 c.index_mut-at.result.now (ap (λ (s : Shown). s.cpus) c.self.view_is)
@@ -29,7 +29,7 @@ go-requires-clause-number g c =
 
 pub go-requires-clause-is : goal.go-requires-clause-is
 go-requires-clause-is g c =
-    let I = g.I.IpcLayer in
+    let I = g.I.CallLayer in
     let items = c.self.inside.cpus.items in
     let shown = shown_by I in
     let at = read_at shown items c.args.self.now.cpus c.from.result c.args.cpu.0 c.index_mut-at.result.now (ap (λ (s : Shown). s.cpus) c.self.view_is)
@@ -38,7 +38,7 @@ go-requires-clause-is g c =
 
 pub go-requires-clause-table : goal.go-requires-clause-table
 go-requires-clause-table g c =
-    let I = g.I.IpcLayer in
+    let I = g.I.CallLayer in
     let items = c.self.inside.cpus.items in
     let shown = shown_by I in
     let at = read_at shown items c.args.self.now.cpus c.from.result c.args.cpu.0 c.index_mut-at.result.now (ap (λ (s : Shown). s.cpus) c.self.view_is)
@@ -47,7 +47,7 @@ go-requires-clause-table g c =
 
 pub go-requires-clause-live : goal.go-requires-clause-live
 go-requires-clause-live g c =
-    let I = g.I.IpcLayer in
+    let I = g.I.CallLayer in
     let items = c.self.inside.cpus.items in
     let k = c.from.result in
     let x = c.index_mut-at.result.now in
@@ -61,7 +61,7 @@ go-requires-clause-live g c =
 
 pub invariant_of-self : goal.invariant_of-self
 invariant_of-self g c =
-    let I = g.I.IpcLayer in
+    let I = g.I.CallLayer in
     let m = c.self.inside.machine in
     let is = c.self.invariant in
     let items = c.self.inside.cpus.items in
@@ -70,7 +70,7 @@ invariant_of-self g c =
     c.from.ensures c.requires.exists c.index_mut-at.ensures.value in
     let e = c.go.ensures in
     let left = e.leaves in
-    let known = g.met.I.Owned.known c.go.new.m (I.cpu_of c.go.new.self.part) (g.met.I.IpcLayer.own_cpu c.go.new.self.part c.go.new.m e.fits) in
+    let known = g.met.I.Owned.known c.go.new.m (I.cpu_of c.go.new.self.part) (g.met.I.CallLayer.own_cpu c.go.new.self.part c.go.new.m e.fits) in
     let live : c.self.inside.taken < c.self.inside.room = live_room _ c.args.cpu (rw (← c.self.view_is) at c.requires.live) is.used in
     let k = c.from.result in
     let x = c.index_mut-at.result.now in
@@ -95,7 +95,7 @@ invariant_of-self g c =
       same = c.from.ensures;
     } in
     let reached : I.IsStepwise → IsReachedByTable (new_of one) = λ step.
-    let legal = g.met.I.IpcLayer.legal c.go.new.m (I.cpu_of y.part) (g.met.I.IpcLayer.own_cpu y.part c.go.new.m e.fits) in
+    let legal = g.met.I.CallLayer.legal c.go.new.m (I.cpu_of y.part) (g.met.I.CallLayer.own_cpu y.part c.go.new.m e.fits) in
     reached_on c.args.cpu (old_of one) (new_of one) Stepped within (same_plan one left.caps left.homes left.programs left.limit)
     (went_so one (λ d. I.ActsFor m d) (λ setup of.
     subst (λ (d : CpuId). IsStep (λ a. I.ActsFor m a) (cpu_step setup d) (shown x).private (shown y).private (named (I.acts m)) (named (I.acts
@@ -107,7 +107,7 @@ invariant_of-self g c =
 
 pub returns-clause-plan : goal.returns-clause-plan
 returns-clause-plan g c =
-    let I = g.I.IpcLayer in
+    let I = g.I.CallLayer in
     let items = c.self.inside.cpus.items in
     let at = read_at (shown_by I) items c.args.self.now.cpus c.from.result c.args.cpu.0 c.index_mut-at.result.now (ap (λ (s : Shown). s.cpus) c.self.view_is)
     c.from.ensures c.requires.exists c.index_mut-at.ensures.value in
@@ -116,7 +116,7 @@ returns-clause-plan g c =
 
 pub returns-clause-steps : goal.returns-clause-steps
 returns-clause-steps g c = λ step setup goes.
-    let I = g.I.IpcLayer in
+    let I = g.I.CallLayer in
     let m = c.self.inside.machine in
     let is = c.self.invariant in
     let items = c.self.inside.cpus.items in
@@ -127,7 +127,7 @@ returns-clause-steps g c = λ step setup goes.
     let at = read_at shown items c.args.self.now.cpus k c.args.cpu.0 x (ap (λ (s : Shown). s.cpus) c.self.view_is) c.from.ensures c.requires.exists
     c.index_mut-at.ensures.value in
     let e = c.go.ensures in
-    let legal = g.met.I.IpcLayer.legal c.go.new.m (I.cpu_of y.part) (g.met.I.IpcLayer.own_cpu y.part c.go.new.m e.fits) in
+    let legal = g.met.I.CallLayer.legal c.go.new.m (I.cpu_of y.part) (g.met.I.CallLayer.own_cpu y.part c.go.new.m e.fits) in
     let number : x.number ≡ c.args.cpu = (is.each k x at).number_is ∙ ap (λ (j : ℕ). cpu_at j) c.from.ensures in
     let of = (rw (← c.self.view_is) at goes).each k (shown x) (shows_at shown items k x at) in
     let room : c.self.inside.taken < c.self.inside.room = live_room _ c.args.cpu (rw (← c.self.view_is) at c.requires.live) is.used in

@@ -9,7 +9,7 @@ use Rattle.cpu.proofs.systems.System.alone.Goals as goal
 
 pub returns : goal.returns
 returns g c = λ step.
-    let I = g.I.IpcLayer in
+    let I = g.I.CallLayer in
     let is = c.self.invariant in
     let items = c.self.inside.cpus.items in
     let count = length-map items (λ (x : Cpu g.row.I.Denot g.row.I-Machine.Denot).

@@ -8,7 +8,7 @@ use Rattle.cpu.proofs.systems.System.are_calm.Goals as goal
 
 pub returns-then-not-is_calm : goal.returns-then-not-is_calm
 returns-then-not-is_calm g c =
-    let I = g.I.IpcLayer in
+    let I = g.I.CallLayer in
     let items = c.self.inside.cpus.items in
     let count = length-map items (λ (x : Cpu g.row.I.Denot g.row.I-Machine.Denot).
     cpu_shown (I.threads x.part) x.guests.items x.trace.items x.limit (I.is_inside x.part) (I.own x.part)) in

@@ -41,7 +41,7 @@ loop-at-preserved g c =
 
 pub returns : goal.returns
 returns g c =
-    let I = g.I.IpcLayer in
+    let I = g.I.CallLayer in
     let m = c.self.inside.machine in
     let is = c.self.invariant in
     let items = c.self.inside.cpus.items in

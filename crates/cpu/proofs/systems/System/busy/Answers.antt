@@ -21,7 +21,7 @@ returns-in-Some g c =
     let within = rw (← c.self.view_is) at c.requires in
     subst (λ (s : Shown). c.in-Some.owner ≡ slice_index_or s.owners c.args.buffer.0 None) c.self.view_is
     (told.by_machine c.in-Some.owner (sym c.busy_in.ensures ∙ c.in-Some.is)
-    ∙ sym (listed_there (λ b. g.I.Owned.owner m (buffer_at b)) (length (g.I.IpcLayer.caps m)) c.args.buffer.0 None within))
+    ∙ sym (listed_there (λ b. g.I.Owned.owner m (buffer_at b)) (length (g.I.CallLayer.caps m)) c.args.buffer.0 None within))
 
 pub returns-in-Some-busy_here : goal.returns-in-Some-busy_here
 returns-in-Some-busy_here g c =
@@ -35,7 +35,7 @@ returns-in-Some-busy_here g c =
     let within = rw (← c.self.view_is) at c.requires in
     subst (λ (s : Shown). c.in-Some-busy_here.owner ≡ slice_index_or s.owners c.args.buffer.0 None) c.self.view_is
     (told.by_part x.part c.in-Some-busy_here.owner (is.each c.loop-at.at-index x at).holds.0 (sym c.busy_here.ensures ∙ c.in-Some-busy_here.is)
-    ∙ sym (listed_there (λ b. g.I.Owned.owner m (buffer_at b)) (length (g.I.IpcLayer.caps m)) c.args.buffer.0 None within))
+    ∙ sym (listed_there (λ b. g.I.Owned.owner m (buffer_at b)) (length (g.I.CallLayer.caps m)) c.args.buffer.0 None within))
 
 pub loop-at-preserved : goal.loop-at-preserved
 loop-at-preserved g c =
@@ -45,7 +45,7 @@ loop-at-preserved g c =
 
 pub returns : goal.returns
 returns g c =
-    let I = g.I.IpcLayer in
+    let I = g.I.CallLayer in
     let m = c.self.inside.machine in
     let is = c.self.invariant in
     let items = c.self.inside.cpus.items in

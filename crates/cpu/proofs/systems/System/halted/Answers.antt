@@ -18,7 +18,7 @@ use Rattle.cpu.proofs.systems.System.halted.Goals as goal
 
 pub reason-requires : goal.reason-requires
 reason-requires g c =
-    let I = g.I.IpcLayer in
+    let I = g.I.CallLayer in
     let m = c.self.inside.machine in
     let items = c.self.inside.cpus.items in
     let p = c.index-at.result.now in
@@ -27,11 +27,11 @@ reason-requires g c =
     let at = read_at shown items c.args.self.now.cpus c.from.result c.args.cpu.0 p (ap (λ (s : Shown). s.cpus) c.self.view_is) c.from.ensures c.requires
     c.index-at.ensures in
     let is = (c.self.invariant.each c.from.result p at).holds in
-    current_within (valid_cpu is.2) (runs_home (layered (laws_of g.met.I.IpcLayer) m p is.0 is.1 is.2 is.3))
+    current_within (valid_cpu is.2) (runs_home (layered (laws_of g.met.I.CallLayer) m p is.0 is.1 is.2 is.3))
 
 pub returns-clause-is : goal.returns-clause-is
 returns-clause-is g c =
-    let I = g.I.IpcLayer in
+    let I = g.I.CallLayer in
     let items = c.self.inside.cpus.items in
     let p = c.index-at.result.now in
     let shown = λ (x : Cpu g.row.I.Denot g.row.I-Machine.Denot). cpu_shown (I.threads x.part) x.guests.items x.trace.items x.limit (I.is_inside x.part)
@@ -44,7 +44,7 @@ returns-clause-is g c =
 
 pub returns-clause-table : goal.returns-clause-table
 returns-clause-table g c =
-    let I = g.I.IpcLayer in
+    let I = g.I.CallLayer in
     let m = c.self.inside.machine in
     let items = c.self.inside.cpus.items in
     let p = c.index-at.result.now in
@@ -53,7 +53,7 @@ returns-clause-table g c =
     let at = read_at shown items c.args.self.now.cpus c.from.result c.args.cpu.0 p (ap (λ (s : Shown). s.cpus) c.self.view_is) c.from.ensures c.requires
     c.index-at.ensures in
     let one = c.self.invariant.each c.from.result p at in
-    let cpu = layered (laws_of g.met.I.IpcLayer) m p one.holds.0 one.holds.1 one.holds.2 one.holds.3 in
+    let cpu = layered (laws_of g.met.I.CallLayer) m p one.holds.0 one.holds.1 one.holds.2 one.holds.3 in
     let there = shows_at shown items c.from.result p at in
     let there_now = subst (λ (k : ℕ). slice_get (map shown items) k ≡ Some (shown p)) c.from.ensures there in
     let number_is : p.number ≡ c.args.cpu = one.number_is ∙ ap (λ (j : ℕ). cpu_at j) c.from.ensures in

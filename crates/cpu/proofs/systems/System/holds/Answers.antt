@@ -41,8 +41,8 @@ returns-clause-sound g c = λ step. subst (λ (s : Shown). SoundByTable s) c.sel
 
 pub returns-clause-agree : goal.returns-clause-agree
 returns-clause-agree g c =
-    let I = g.I.IpcLayer in
-    let law = g.met.I.IpcLayer in
+    let I = g.I.CallLayer in
+    let law = g.met.I.CallLayer in
     let m = c.self.inside.machine in
     let is = c.self.invariant in
     let some : 0 < CPUS = let least = is.some in let most = is.most in omega (arith, least, most) in
@@ -57,8 +57,8 @@ returns-clause-agree g c =
 
 pub returns-clause-observed : goal.returns-clause-observed
 returns-clause-observed g c = λ step.
-    let I = g.I.IpcLayer in
-    let law = g.met.I.IpcLayer in
+    let I = g.I.CallLayer in
+    let law = g.met.I.CallLayer in
     let m = c.self.inside.machine in
     let is = c.self.invariant in
     let items = c.self.inside.cpus.items in
@@ -89,7 +89,7 @@ returns-clause-observed g c = λ step.
     let at = (is.each j x there).holds in
     let number = (is.each j x there).number_is in
     let reads_own = law.reads_own step x.part in
-    let cpu = layered (laws_of g.met.I.IpcLayer) m x at.0 at.1 at.2 at.3 in
+    let cpu = layered (laws_of g.met.I.CallLayer) m x at.0 at.1 at.2 at.3 in
     let halted = halted_read (observed_cpu cpu step) setup (goes.goes.each j (shown x) (shows_at shown items j x there)) in
     let pending = pending_read setup machine x.number (I.opening m) (at.3 step).opens (caps setup goes) are in
     record {
@@ -122,8 +122,8 @@ returns-clause-observed g c = λ step.
 
 pub returns-clause-one_order : goal.returns-clause-one_order
 returns-clause-one_order g c =
-    let I = g.I.IpcLayer in
-    let law = g.met.I.IpcLayer in
+    let I = g.I.CallLayer in
+    let law = g.met.I.CallLayer in
     let m = c.self.inside.machine in
     let is = c.self.invariant in
     let some : 0 < CPUS = let least = is.some in let most = is.most in omega (arith, least, most) in
@@ -142,8 +142,8 @@ returns-clause-one_order g c =
 
 pub returns-clause-follow : goal.returns-clause-follow
 returns-clause-follow g c =
-    let I = g.I.IpcLayer in
-    let law = g.met.I.IpcLayer in
+    let I = g.I.CallLayer in
+    let law = g.met.I.CallLayer in
     let m = c.self.inside.machine in
     let is = c.self.invariant in
     let each = cpus_have I m c.self.inside.cpus.items is.each (λ part fits. law.stands part m fits) in
@@ -151,8 +151,8 @@ returns-clause-follow g c =
 
 pub returns-clause-stay : goal.returns-clause-stay
 returns-clause-stay g c =
-    let I = g.I.IpcLayer in
-    let law = g.met.I.IpcLayer in
+    let I = g.I.CallLayer in
+    let law = g.met.I.CallLayer in
     let m = c.self.inside.machine in
     let is = c.self.invariant in
     let each = cpus_have I m c.self.inside.cpus.items is.each (λ part fits. law.stands part m fits) in
@@ -160,8 +160,8 @@ returns-clause-stay g c =
 
 pub returns-clause-once : goal.returns-clause-once
 returns-clause-once g c =
-    let I = g.I.IpcLayer in
-    let law = g.met.I.IpcLayer in
+    let I = g.I.CallLayer in
+    let law = g.met.I.CallLayer in
     let m = c.self.inside.machine in
     let is = c.self.invariant in
     let some : 0 < CPUS = let least = is.some in let most = is.most in omega (arith, least, most) in

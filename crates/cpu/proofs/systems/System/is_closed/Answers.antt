@@ -15,7 +15,7 @@ closed_at_home-requires-clause-acts g c =
 
 pub returns-in-Some : goal.returns-in-Some
 returns-in-Some g c =
-    let I = g.I.IpcLayer in
+    let I = g.I.CallLayer in
     let m = c.self.inside.machine in
     let is = c.self.invariant in
     let some : 0 < CPUS = let least = is.some in let most = is.most in omega (arith, least, most) in
@@ -27,7 +27,7 @@ returns-in-Some g c =
 
 pub returns-in-Some-closed_in_hands : goal.returns-in-Some-closed_in_hands
 returns-in-Some-closed_in_hands g c =
-    let I = g.I.IpcLayer in
+    let I = g.I.CallLayer in
     let m = c.self.inside.machine in
     let is = c.self.invariant in
     let items = c.self.inside.cpus.items in
@@ -49,7 +49,7 @@ loop-at-preserved g c =
 
 pub returns : goal.returns
 returns g c =
-    let I = g.I.IpcLayer in
+    let I = g.I.CallLayer in
     let m = c.self.inside.machine in
     let is = c.self.invariant in
     let items = c.self.inside.cpus.items in

@@ -20,7 +20,7 @@ use Rattle.cpu.proofs.LayeredSteps.{shown_by, observed_by, went_on, works_by, pl
 
 pub look-requires-clause-number : goal.look-requires-clause-number
 look-requires-clause-number g c =
-    let I = g.I.IpcLayer in
+    let I = g.I.CallLayer in
     let items = c.self.inside.cpus.items in
     let shown = shown_by I in
     let at = read_at shown items c.args.self.now.cpus c.from.result c.args.cpu.0 c.index_mut-at.result.now (ap (λ (s : Shown). s.cpus) c.self.view_is)
@@ -29,7 +29,7 @@ look-requires-clause-number g c =
 
 pub look-requires-clause-is : goal.look-requires-clause-is
 look-requires-clause-is g c =
-    let I = g.I.IpcLayer in
+    let I = g.I.CallLayer in
     let items = c.self.inside.cpus.items in
     let shown = shown_by I in
     let at = read_at shown items c.args.self.now.cpus c.from.result c.args.cpu.0 c.index_mut-at.result.now (ap (λ (s : Shown). s.cpus) c.self.view_is)
@@ -38,7 +38,7 @@ look-requires-clause-is g c =
 
 pub look-requires-clause-table : goal.look-requires-clause-table
 look-requires-clause-table g c =
-    let I = g.I.IpcLayer in
+    let I = g.I.CallLayer in
     let items = c.self.inside.cpus.items in
     let shown = shown_by I in
     let at = read_at shown items c.args.self.now.cpus c.from.result c.args.cpu.0 c.index_mut-at.result.now (ap (λ (s : Shown). s.cpus) c.self.view_is)
@@ -47,7 +47,7 @@ look-requires-clause-table g c =
 
 pub invariant_of-self : goal.invariant_of-self
 invariant_of-self g c =
-    let I = g.I.IpcLayer in
+    let I = g.I.CallLayer in
     let m = c.self.inside.machine in
     let items = c.self.inside.cpus.items in
     let shown = shown_by I in
@@ -60,7 +60,7 @@ invariant_of-self g c =
 
 pub invariant_of-self-2 : goal.invariant_of-self-2
 invariant_of-self-2 g c =
-    let I = g.I.IpcLayer in
+    let I = g.I.CallLayer in
     let m = c.self.inside.machine in
     let is = c.self.invariant in
     let items = c.self.inside.cpus.items in
@@ -69,7 +69,7 @@ invariant_of-self-2 g c =
     c.from.ensures c.requires c.index_mut-at.ensures.value in
     let e = c.look.ensures in
     let left = e.leaves in
-    let known = g.met.I.Owned.known c.look.new.m (I.cpu_of c.look.new.self.part) (g.met.I.IpcLayer.own_cpu c.look.new.self.part c.look.new.m e.fits) in
+    let known = g.met.I.Owned.known c.look.new.m (I.cpu_of c.look.new.self.part) (g.met.I.CallLayer.own_cpu c.look.new.self.part c.look.new.m e.fits) in
     let live : c.self.inside.taken < c.self.inside.room = let used = is.used in let other = c.if-self.false in grind (arith, used, other) in
     let k = c.from.result in
     let x = c.index_mut-at.result.now in
@@ -94,7 +94,7 @@ invariant_of-self-2 g c =
       same = c.from.ensures;
     } in
     let reached : I.IsStepwise → IsReachedByTable (new_of one) = λ step.
-    let legal = g.met.I.IpcLayer.legal c.look.new.m (I.cpu_of y.part) (g.met.I.IpcLayer.own_cpu y.part c.look.new.m e.fits) in
+    let legal = g.met.I.CallLayer.legal c.look.new.m (I.cpu_of y.part) (g.met.I.CallLayer.own_cpu y.part c.look.new.m e.fits) in
     reached_on c.args.cpu (old_of one) (new_of one) Stepped within (same_plan one left.caps left.homes left.programs left.limit)
     (went_so one (λ d. I.ActsFor m d) (λ setup of.
     subst (λ (d : CpuId). IsStep (λ a. I.ActsFor m a) (cpu_step setup d) (shown x).private (shown y).private (named (I.acts m)) (named (I.acts
@@ -106,7 +106,7 @@ invariant_of-self-2 g c =
 
 pub returns-clause-live : goal.returns-clause-live
 returns-clause-live g c = λ looked.
-    let I = g.I.IpcLayer in
+    let I = g.I.CallLayer in
     let items = c.self.inside.cpus.items in
     let shown = shown_by I in
     let at = read_at shown items c.args.self.now.cpus c.from.result c.args.cpu.0 c.index_mut-at.result.now (ap (λ (s : Shown). s.cpus) c.self.view_is)
@@ -118,7 +118,7 @@ returns-clause-live g c = λ looked.
 
 pub returns-clause-plan : goal.returns-clause-plan
 returns-clause-plan g c =
-    let I = g.I.IpcLayer in
+    let I = g.I.CallLayer in
     let items = c.self.inside.cpus.items in
     let at = read_at (shown_by I) items c.args.self.now.cpus c.from.result c.args.cpu.0 c.index_mut-at.result.now (ap (λ (s : Shown). s.cpus) c.self.view_is)
     c.from.ensures c.requires c.index_mut-at.ensures.value in
@@ -128,7 +128,7 @@ returns-clause-plan g c =
 
 pub returns-then-not-look-clause-plan : goal.returns-then-not-look-clause-plan
 returns-then-not-look-clause-plan g c =
-    let I = g.I.IpcLayer in
+    let I = g.I.CallLayer in
     let items = c.self.inside.cpus.items in
     let at = read_at (shown_by I) items c.args.self.now.cpus c.from.result c.args.cpu.0 c.index_mut-at.result.now (ap (λ (s : Shown). s.cpus) c.self.view_is)
     c.from.ensures c.requires c.index_mut-at.ensures.value in
@@ -138,7 +138,7 @@ returns-then-not-look-clause-plan g c =
 
 pub returns-clause-steps : goal.returns-clause-steps
 returns-clause-steps g c = λ step looked setup goes.
-    let I = g.I.IpcLayer in
+    let I = g.I.CallLayer in
     let m = c.self.inside.machine in
     let is = c.self.invariant in
     let items = c.self.inside.cpus.items in
@@ -149,7 +149,7 @@ returns-clause-steps g c = λ step looked setup goes.
     let at = read_at shown items c.args.self.now.cpus k c.args.cpu.0 x
     (ap (λ (s : Shown). s.cpus) c.self.view_is) c.from.ensures c.requires c.index_mut-at.ensures.value in
     let e = c.look.ensures in
-    let legal = g.met.I.IpcLayer.legal c.look.new.m (I.cpu_of y.part) (g.met.I.IpcLayer.own_cpu y.part c.look.new.m e.fits) in
+    let legal = g.met.I.CallLayer.legal c.look.new.m (I.cpu_of y.part) (g.met.I.CallLayer.own_cpu y.part c.look.new.m e.fits) in
     let number : x.number ≡ c.args.cpu = (is.each k x at).number_is ∙ ap (λ (j : ℕ). cpu_at j) c.from.ensures in
     let of = (rw (← c.self.view_is) at goes).each k (shown x) (shows_at shown items k x at) in
     let went : IsStep (λ d. I.ActsFor m d) (cpu_step setup c.args.cpu) (shown x).private (shown y).private

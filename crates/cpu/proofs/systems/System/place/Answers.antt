@@ -7,7 +7,7 @@ use Rattle.cpu.proofs.LayeredSteps.{shown_by}
 
 pub returns-in-Some : goal.returns-in-Some
 returns-in-Some g c =
-    let I = g.I.IpcLayer in
+    let I = g.I.CallLayer in
     let items = c.self.inside.cpus.items in
     let shown = shown_by I in
     let x = c.at-item.result in
@@ -24,8 +24,8 @@ loop-at-preserved g c =
 
 pub returns : goal.returns
 returns g c =
-    let I = g.I.IpcLayer in
-    let law = g.met.I.IpcLayer in
+    let I = g.I.CallLayer in
+    let law = g.met.I.CallLayer in
     let m = c.self.inside.machine in
     let is = c.self.invariant in
     let items = c.self.inside.cpus.items in

@@ -17,12 +17,12 @@ loop-cpu-preserved g c =
     let more = c.step.ensures.plan in
     record {
       plan = same_plans before more;
-      ran = ran_more g.I.IpcLayer.IsStepwise c.args.self.now c.loop-cpu.self c.step.new.self c.args.steps.now c.loop-cpu.cpu-index _ c.loop-cpu-test.true
+      ran = ran_more g.I.CallLayer.IsStepwise c.args.self.now c.loop-cpu.self c.step.new.self c.args.steps.now c.loop-cpu.cpu-index _ c.loop-cpu-test.true
           c.loop-cpu.invariant.ran
-          (went_on g.I.IpcLayer.IsStepwise _ c.loop-cpu.self c.step.new.self c.step.result c.step.ensures.answer c.step.ensures.still c.step.ensures.counted
+          (went_on g.I.CallLayer.IsStepwise _ c.loop-cpu.self c.step.new.self c.step.result c.step.ensures.answer c.step.ensures.still c.step.ensures.counted
           c.step.ensures.steps);
       table = λ step.
           ran_on c.args.self.now c.loop-cpu.self c.step.new.self c.args.steps.now c.loop-cpu.cpu-index _ c.step.result c.loop-cpu-test.true before
           (c.loop-cpu.invariant.table step)
-          (went_by g.I.IpcLayer.IsStepwise _ c.loop-cpu.self c.step.new.self c.step.result step c.step.ensures.steps c.step.ensures.halts);
+          (went_by g.I.CallLayer.IsStepwise _ c.loop-cpu.self c.step.new.self c.step.result step c.step.ensures.steps c.step.ensures.halts);
     }

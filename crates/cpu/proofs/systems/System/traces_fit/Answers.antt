@@ -7,7 +7,7 @@ use Rattle.cpu.proofs.LayeredSteps.{shown_by}
 
 pub returns : goal.returns
 returns g c =
-    let I = g.I.IpcLayer in
+    let I = g.I.CallLayer in
     let items = c.self.inside.cpus.items in
     let shown = shown_by I in
     subst (λ (s : Shown). TracesFit s) c.self.view_is

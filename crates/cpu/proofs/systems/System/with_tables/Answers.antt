@@ -20,7 +20,7 @@ use Rattle.cpu.proofs.systems.System.with_tables.Goals as goal
 
 pub assembled-requires : goal.assembled-requires
 assembled-requires g c =
-    let I = g.I.IpcLayer in
+    let I = g.I.CallLayer in
     let m = c.in_ok-machine.machine in
     let cpus = c.in_ok-cpus.cpus.items in
     let homes = c.args.homes.now in
@@ -65,7 +65,7 @@ assembled-requires g c =
             one.1,
             one.2,
             λ step.
-                let opened = g.met.I.IpcLayer.opens step m homes number (e.fresh number below) in
+                let opened = g.met.I.CallLayer.opens step m homes number (e.fresh number below) in
                 subst (λ z. z) (λ i. IsTabled (sym e.opened.homes_are i) (I.caps m) (sym b.booted.number_is i) (sym (b.own_is step) i) (sym b.nothing_done i)
                 (sym b.booted.guests_are i) (I.opening m)) (boots_tabled homes (I.caps m) number
                 (slice_index_or tables k []) (length c.args.caps.now) (I.opening m) are opened),

@@ -9,7 +9,7 @@ use Rattle.cpu.proofs.systems.opening.cpus_at_boot.Goals as goal
 
 pub loop-number-preserved : goal.loop-number-preserved
 loop-number-preserved g c =
-    let I = g.I.IpcLayer in
+    let I = g.I.CallLayer in
     let inv = c.loop-number.invariant in
     let tables = c.args.tables.items in
     let n = c.loop-number.number in

@@ -13,8 +13,8 @@ use Rattle.cpu_workers.proofs.callers.Caller.into_machine.Goals as goal
 
 pub returns-clause-trace : goal.returns-clause-trace
 returns-clause-trace g c = λ step.
-    let I = g.I.IpcLayer in
-    let law = g.met.I.IpcLayer in
+    let I = g.I.CallLayer in
+    let law = g.met.I.CallLayer in
     let x = c.self.inside in
     let is = c.self.invariant in
     let seen = law.seen_is step x.machine ∙ ap (λ o. effects_in o (buffer_sections (map event_of (sections_in (I.acts x.machine))))) is.opens in
@@ -23,8 +23,8 @@ returns-clause-trace g c = λ step.
 
 pub returns-clause-rests : goal.returns-clause-rests
 returns-clause-rests g c = λ step.
-    let I = g.I.IpcLayer in
-    let law = g.met.I.IpcLayer in
+    let I = g.I.CallLayer in
+    let law = g.met.I.CallLayer in
     let x = c.self.inside in
     let is = c.self.invariant in
     subst (λ (w : CallerView). is_in_section (phase w.cpu (I.acts x.machine)) ≡ false) c.self.view_is

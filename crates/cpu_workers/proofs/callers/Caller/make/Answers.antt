@@ -12,7 +12,7 @@ use Rattle.cpu_workers.proofs.callers.Caller.make.Goals as goal
 
 pub invariant_of-self : goal.invariant_of-self
 invariant_of-self g c =
-    let I = g.I.IpcLayer in
+    let I = g.I.CallLayer in
     let x = c.self.inside in
     let is = c.self.invariant in
     let e = c.call-reply.ensures in
@@ -32,8 +32,8 @@ invariant_of-self g c =
 
 pub returns-then-self-lt-MOST_CALLS : goal.returns-then-self-lt-MOST_CALLS
 returns-then-self-lt-MOST_CALLS g c =
-    let I = g.I.IpcLayer in
-    let law = g.met.I.IpcLayer in
+    let I = g.I.CallLayer in
+    let law = g.met.I.CallLayer in
     let x = c.self.inside in
     let n = c.call-reply.new.m in
     let is = c.self.invariant in

@@ -13,7 +13,7 @@ new-requires-clause-tabled g c =
     let r = c.requires in
     let e = c.in_ok-cpu.ensures in
     tabled_over (made_of c.args.homes.now c.args.buffers c.args.number c.args.guests.items c.args.limit _ _ _ _ _) r.guests e.booted _ _ _ _ _ r.homes
-    (e.own r.stepwise) e.under_way (g.met.I.IpcLayer.opens r.stepwise c.args.machine c.args.homes.now c.args.number r.fresh)
+    (e.own r.stepwise) e.under_way (g.met.I.CallLayer.opens r.stepwise c.args.machine c.args.homes.now c.args.number r.fresh)
 
 pub returns-clause-boots : goal.returns-clause-boots
 returns-clause-boots g c =

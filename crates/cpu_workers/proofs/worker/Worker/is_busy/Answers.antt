@@ -9,8 +9,8 @@ use Rattle.cpu_workers.proofs.worker.Worker.is_busy.Goals as goal
 
 pub returns : goal.returns
 returns g c =
-    let I = g.I.IpcLayer in
-    let law = g.met.I.IpcLayer in
+    let I = g.I.CallLayer in
+    let law = g.met.I.CallLayer in
     let m = c.self.inside.machine in
     let p = c.self.inside.cpu in
     let is = c.self.invariant in

@@ -12,8 +12,8 @@ use Rattle.cpu_workers.proofs.worker.Worker.keeps.Goals as goal
 
 pub returns-clause-trace : goal.returns-clause-trace
 returns-clause-trace g c =
-    let I = g.I.IpcLayer in
-    let law = g.met.I.IpcLayer in
+    let I = g.I.CallLayer in
+    let law = g.met.I.CallLayer in
     let m = c.self.inside.machine in
     let p = c.self.inside.cpu in
     let is = c.self.invariant in
@@ -23,8 +23,8 @@ returns-clause-trace g c =
 
 pub returns-clause-legal : goal.returns-clause-legal
 returns-clause-legal g c =
-    let I = g.I.IpcLayer in
-    let law = g.met.I.IpcLayer in
+    let I = g.I.CallLayer in
+    let law = g.met.I.CallLayer in
     let m = c.self.inside.machine in
     let p = c.self.inside.cpu in
     let is = c.self.invariant in
@@ -32,9 +32,9 @@ returns-clause-legal g c =
 
 pub returns-clause-follows : goal.returns-clause-follows
 returns-clause-follows g c =
-    let I = g.I.IpcLayer in
+    let I = g.I.CallLayer in
     let m = c.self.inside.machine in
     let p = c.self.inside.cpu in
     let is = c.self.invariant in
-    let cpu = layered (laws_of g.met.I.IpcLayer) m p is.fits is.number is.is (λ step. is.tabled) in
+    let cpu = layered (laws_of g.met.I.CallLayer) m p is.fits is.number is.is (λ step. is.tabled) in
     subst (λ (w : Working). HasFollowed w) c.self.view_is (has_followed (observed_cpu cpu is.stepwise) (I.acts m) (I.site m))

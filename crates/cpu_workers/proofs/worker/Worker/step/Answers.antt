@@ -24,8 +24,8 @@ invariant_of-self g c =
 
 pub returns-clause-turned : goal.returns-clause-turned
 returns-clause-turned g c =
-    let I = g.I.IpcLayer in
-    let law = g.met.I.IpcLayer in
+    let I = g.I.CallLayer in
+    let law = g.met.I.CallLayer in
     let m = c.self.inside.machine in
     let p = c.self.inside.cpu in
     let q = c.step.new.self in

@@ -2,18 +2,22 @@ use Rattle.std.proofs.Common.{◌≡◌, true, false, length, Some, inr, refl, a
 use Rattle.std.proofs.lemmas.Option.{same_Some}
 use Rattle.layer_traits.specs.Places.{Asleep, At, Pend, home_of, where_is}
 use Rattle.event_log.specs.declared.ids.LockId.TheVariants.{Buffer}
-use Rattle.layer_traits.specs.QueueBlocks.{homes_in}
 use Rattle.layer_traits.specs.Observed.{queue_place}
 use Rattle.ipc_calls.specs.Laws.PlaceLaws.{sleeps_there, read_pends, read_sleeps}
 use Rattle.ipc_calls.specs.Parts.{pends_read}
 use Rattle.ipc_calls.proofs.ipc.IpcOwned.place_at.Goals as goal
 
+-- the queue that is read is that of the thread's home
+pub pends-requires-clause-home : goal.pends-requires-clause-home
+pends-requires-clause-home g c =
+    (c.args.t, subst (λ homes. home_of homes c.args.t ≡ Some c.home-home.result) c.requires.fits.1.homes_are c.home-home.ensures)
+
 -- who is told to stand in the pending queue of its home stands there
 pub returns-then-pends-clause-observed : goal.returns-then-pends-clause-observed
 returns-then-pends-clause-observed g c x is =
-    let B = g.B.BufferLayer in
+    let B = g.B.CallLayer in
     let O = g.B.OwnedBuffers in
-    let law = g.met.B.BufferLayer in
+    let law = g.met.B.CallLayer in
     let m = c.args.m.now in
     let p = c.args.self.now.lower in
     let t = c.args.t in
@@ -21,23 +25,23 @@ returns-then-pends-clause-observed g c x is =
     let cpu = B.cpu_of p in
     let acts = law.own_cpu p m fits.0 in
     let home = c.home-home.result in
-    let home_is : home_of (homes_in (B.opening m)) t ≡ Some home = subst (λ homes. home_of homes t ≡ Some home) fits.1.homes_are c.home-home.ensures in
-    let pends : where_is (homes_in (B.opening m)) (B.moves m) t ≡ Pend home
-    = read_pends (λ q. B.Fits q m) (λ q. B.cpu_of q) (B.MayHold m) (homes_in (B.opening m)) (B.moves m)
+    let home_is : home_of (B.homes_of m) t ≡ Some home = subst (λ homes. home_of homes t ≡ Some home) fits.1.homes_are c.home-home.ensures in
+    let pends : where_is (B.homes_of m) (B.moves m) t ≡ Pend home
+    = read_pends (λ q. B.Fits q m) (λ q. B.cpu_of q) (B.MayHold m) (B.homes_of m) (B.moves m)
     t home p (λ q. O.queue_with q home) (O.queue_at m home) (law.moves_legal m cpu acts) fits.0
-    (g.met.B.OwnedBuffers.queues m cpu home acts ((law.opens m cpu acts).queues t home home_is)) (sym c.pends.ensures ∙ c.if-pends.true) in
+    (g.met.B.OwnedBuffers.queues m cpu home acts (t, home_is)) (sym c.pends.ensures ∙ c.if-pends.true) in
     inr (ap queue_place pends ∙ is)
 
 -- a part that finds nothing is silent
 pub returns-in_err-buffer-clause-silent : goal.returns-in_err-buffer-clause-silent
 returns-in_err-buffer-clause-silent g c none =
-    let B = g.B.BufferLayer in
+    let B = g.B.CallLayer in
     let O = g.B.OwnedBuffers in
     let m = c.args.m.now in
     let p = c.args.self.now.lower in
     let t = c.args.t in
     let home = c.home-home.result in
-    let home_is : home_of (homes_in (B.opening m)) t ≡ Some home
+    let home_is : home_of (B.homes_of m) t ≡ Some home
     = subst (λ homes. home_of homes t ≡ Some home) c.requires.fits.1.homes_are c.home-home.ensures in
     record {
       away = c.in_default.ensures.away refl;
@@ -49,9 +53,9 @@ returns-in_err-buffer-clause-silent g c none =
 -- who is told to stand in a line of a buffer sleeps there
 pub returns-clause-observed : goal.returns-clause-observed
 returns-clause-observed g c x is =
-    let B = g.B.BufferLayer in
+    let B = g.B.CallLayer in
     let O = g.B.OwnedBuffers in
-    let law = g.met.B.BufferLayer in
+    let law = g.met.B.CallLayer in
     let m = c.args.m.now in
     let p = c.args.self.now.lower in
     let t = c.args.t in
@@ -62,8 +66,8 @@ returns-clause-observed g c x is =
     let wait_list = c.in_ok-buffer.wait_list in
     let within = c.in_ok-buffer.ensures.within (buffer, wait_list) refl in
     let found = c.in_ok-buffer.ensures.found (buffer, wait_list) refl in
-    let sleeps : where_is (homes_in (B.opening m)) (B.moves m) t ≡ Asleep (At (Buffer buffer) wait_list)
-    = read_sleeps (λ q. B.Fits q m) (λ q. B.cpu_of q) (B.MayHold m) (homes_in (B.opening m)) (B.moves m)
+    let sleeps : where_is (B.homes_of m) (B.moves m) t ≡ Asleep (At (Buffer buffer) wait_list)
+    = read_sleeps (λ q. B.Fits q m) (λ q. B.cpu_of q) (B.MayHold m) (B.homes_of m) (B.moves m)
     (length (B.caps m)) (B.wait_lists m) (law.lists p m fits.0) buffer within t wait_list p (λ q. O.wait_lists_with q buffer) (O.wait_lists_at m buffer) fits.0
     (g.met.B.OwnedBuffers.waiters_law m cpu buffer acts within) found in
     inr (ap queue_place sleeps ∙ (sleeps_there buffer wait_list ∙ (ap Some (sym c.waiters_of.ensures) ∙ is)))

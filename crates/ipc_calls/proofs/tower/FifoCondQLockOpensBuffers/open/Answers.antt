@@ -1,12 +1,13 @@
-use Rattle.std.proofs.Common.{◌≡◌, [], ◌<◌, ◌≤◌, length, refl, ◌∙◌, arith}
+use Rattle.std.proofs.Common.{◌≡◌, [], ◌<◌, ◌≤◌, IsSome, length, refl, ◌∙◌, arith}
 use Rattle.std.proofs.lemmas.Result.{IfOk-weaker}
 use Rattle.event_log.specs.declared.ids.CpuId.{CpuId}
+use Rattle.event_log.specs.declared.ids.LockId.TheVariants.{Pending}
 use Rattle.event_log.specs.declared.ids.TheConstants.{CPUS}
 use Rattle.fifo_buffer.proofs.Opening.{boots_well, caps_are}
 use Rattle.layer_traits.specs.BufferEffects.{opening_locks}
 use Rattle.layer_traits.specs.QueueBlocks.{homes_in, inner}
 use Rattle.layer_traits.specs.Renaming.{viewed}
-use Rattle.layer_traits.proofs.KernelRenaming.{homes_viewed}
+use Rattle.layer_traits.proofs.KernelRenaming.{homes_viewed, viewed_there}
 use Rattle.queuing_lock.specs.Nested.{nested_lock_of}
 use Rattle.ipc_calls.proofs.Opened.{both_ok}
 use Rattle.ipc_calls.proofs.tower.FifoCondQLockOpensBuffers.open.Goals as goal
@@ -35,15 +36,33 @@ returns-clause-opened g c =
     (both_ok r (λ m. inner (viewed nested_lock_of (S.opening m)) ≡ opening_locks caps) (λ m. homes_in (S.opening m) ≡ homes) opens.locks opens.homes)
     (both_ok r (λ m. S.seen m ≡ []) (λ m. c.args.room ≤ S.room m) opens.seen opens.room))
 
--- its locks are those of the capacities that it tells
-pub returns-clause-boot : goal.returns-clause-boot
-returns-clause-boot g c =
+-- each CPU finds in it what its part needs
+pub returns-clause-fresh : goal.returns-clause-fresh
+returns-clause-fresh g c =
     let S = g.S.ThreadLayer in
+    let r = c.open.result in
+    let opens = c.open.ensures in
     let caps = c.args.caps.now in
+    let homes = c.args.homes.now in
     let most = c.requires.buffers in
     let few : length caps ≤ 256 = omega (arith, most) in
-    IfOk-weaker c.open.result (λ m. inner (viewed nested_lock_of (S.opening m)) ≡ opening_locks caps) _
-    (λ m is. boots_well (viewed nested_lock_of (S.opening m)) caps is few) c.open.ensures.locks
+    let cpus = c.requires.most_cpus in
+    IfOk-weaker r
+    (λ m. (((inner (viewed nested_lock_of (S.opening m)) ≡ opening_locks caps) × (homes_in (S.opening m) ≡ homes))
+    × ((S.seen m ≡ []) × ((d : CpuId) → d.0 < c.args.cpus → IsSome (S.opening m (Pending d)))))
+    × (((d : CpuId) → d.0 < CPUS → S.ActsFor m d) × ((d : CpuId) → S.IsOutside m d))) _
+    (λ m it d within.
+    let boots = boots_well (viewed nested_lock_of (S.opening m)) caps it.0.0.0 few in (
+      (it.1.0 d (omega (arith, within, cpus)), boots),
+      it.1.1 d,
+      rw it.0.1.0 refl,
+      rw it.0.1.0 refl,
+      homes_viewed nested_lock_of (S.opening m) ∙ it.0.0.1,
+      viewed_there nested_lock_of (S.opening m) (Pending d) (it.0.1.1 d within),
+      boots,
+    ))
+    (both_ok r _ _ (both_ok r _ _ (both_ok r _ _ opens.locks opens.homes) (both_ok r _ _ opens.seen opens.queues))
+    (both_ok r _ _ opens.acts opens.outside))
 
 -- and each CPU may act on it
 pub returns-clause-acts : goal.returns-clause-acts

@@ -11,7 +11,7 @@ returns-in_err-system g c =
     let steps = c.args.self.now.steps.now in
     let out = between g.O.Write.contents c.args.self.now.out.now c.run_text.new.sink in
     let fault = c.in_err-system.field-0.0 in
-    let runs = runs_text g.I.IpcLayer.IsStepwise NoCondition (λ always. g.met.I.Stepwise.steps) read steps (Err fault) out c.in_err-system.ensures in
+    let runs = runs_text g.I.CallLayer.IsStepwise NoCondition (λ always. g.met.I.Stepwise.steps) read steps (Err fault) out c.in_err-system.ensures in
     (refl, fault_told read steps fault _ out runs c.from_residual.ensures.1)
 
 pub returns : goal.returns
@@ -23,7 +23,7 @@ returns g c =
       refl,
       record {
         answer = Ok system;
-        runs = runs_text g.I.IpcLayer.IsStepwise NoCondition (λ always. g.met.I.Stepwise.steps) read steps (Ok system) out c.in_ok-system.ensures;
-        tells = state_of g.I.IpcLayer.IsStepwise NoCondition (λ always. g.met.I.Stepwise.steps) system c.state_of.result c.state_of.ensures;
+        runs = runs_text g.I.CallLayer.IsStepwise NoCondition (λ always. g.met.I.Stepwise.steps) read steps (Ok system) out c.in_ok-system.ensures;
+        tells = state_of g.I.CallLayer.IsStepwise NoCondition (λ always. g.met.I.Stepwise.steps) system c.state_of.result c.state_of.ensures;
       },
     )

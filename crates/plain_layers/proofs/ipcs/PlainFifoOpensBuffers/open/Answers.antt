@@ -1,12 +1,11 @@
-use Rattle.std.proofs.Common.{◌≡◌, [], ◌<◌, ◌≤◌, ◌*◌, length, refl, ◌∙◌, arith}
-use Rattle.std.proofs.lemmas.Result.{IfOk-weaker}
+use Rattle.std.proofs.Common.{◌≡◌, [], ◌<◌, ◌≤◌, ◌*◌, IsSome, length, refl, arith}
 use Rattle.event_log.specs.declared.ids.CpuId.{CpuId}
+use Rattle.event_log.specs.declared.ids.LockId.TheVariants.{Pending}
 use Rattle.event_log.specs.declared.ids.TheConstants.{CPUS}
 use Rattle.layer_traits.specs.QueueBlocks.{homes_in, inner}
-use Rattle.layer_traits.proofs.KernelRenaming.{homes_viewed}
-use Rattle.plain_layers.specs.Fifos.{fresh_buffers, shown}
+use Rattle.plain_layers.specs.Fifos.{fresh_buffers}
 use Rattle.plain_layers.proofs.OpeningLemmas.{both_ok}
-use Rattle.plain_layers.proofs.PlainOpenings.{boots_shown, caps_observed, fresh_read, half_room}
+use Rattle.plain_layers.proofs.PlainOpenings.{caps_observed, fresh_read, half_room}
 use Rattle.plain_layers.proofs.ipcs.PlainFifoOpensBuffers.open.Goals as goal
 
 -- the machine has the capacities and homes of the plan, and nothing was done in it
@@ -25,21 +24,40 @@ returns-clause-opened g c =
     (both_ok r (λ m. S.seen m ≡ []) (λ m. c.args.room * 2 ≤ S.room m) _ opens.seen opens.room (λ m one other. (one, other)))
     (λ m it been. record {
       caps_are = caps_observed (S.opening m) caps it.0 few;
-      homes_are = homes_viewed shown (S.opening m) ∙ it.1;
+      homes_are = it.1;
       none_seen = rw been.0 refl;
       none_moved = rw been.0 refl;
       room_is = half_room c.args.room (S.room m) been.1;
     })
 
--- its locks are those of the capacities that it tells
-pub returns-clause-boot : goal.returns-clause-boot
-returns-clause-boot g c =
+-- each CPU finds in it what its part needs
+pub returns-clause-fresh : goal.returns-clause-fresh
+returns-clause-fresh g c =
     let S = g.S.ThreadLayer in
+    let r = c.open.result in
+    let opens = c.open.ensures in
     let caps = c.args.caps.now in
+    let homes = c.args.homes.now in
     let most = c.requires.buffers in
     let few : length caps ≤ 256 = omega (arith, most) in
-    IfOk-weaker c.open.result (λ m. inner (S.opening m) ≡ fresh_buffers caps) _
-    (λ m fresh. boots_shown (S.opening m) caps fresh few) c.open.ensures.buffers
+    let cpus = c.requires.most_cpus in
+    both_ok r (λ m. ((inner (S.opening m) ≡ fresh_buffers caps) × (homes_in (S.opening m) ≡ homes))
+    × ((S.seen m ≡ []) × ((d : CpuId) → d.0 < c.args.cpus → IsSome (S.opening m (Pending d)))))
+    (λ m. ((d : CpuId) → d.0 < CPUS → S.ActsFor m d) × ((d : CpuId) → S.IsOutside m d)) _
+    (both_ok r (λ m. (inner (S.opening m) ≡ fresh_buffers caps) × (homes_in (S.opening m) ≡ homes))
+    (λ m. (S.seen m ≡ []) × ((d : CpuId) → d.0 < c.args.cpus → IsSome (S.opening m (Pending d)))) _
+    (both_ok r (λ m. inner (S.opening m) ≡ fresh_buffers caps) (λ m. homes_in (S.opening m) ≡ homes) _ opens.buffers opens.homes (λ m one other. (one, other)))
+    (both_ok r (λ m. S.seen m ≡ []) (λ m. (d : CpuId) → d.0 < c.args.cpus → IsSome (S.opening m (Pending d))) _ opens.seen opens.queues (λ m one other. (one, other)))
+    (λ m one other. (one, other)))
+    (both_ok r (λ m. (d : CpuId) → d.0 < CPUS → S.ActsFor m d) (λ m. (d : CpuId) → S.IsOutside m d) _ opens.acts opens.outside (λ m one other. (one, other)))
+    (λ m it may d within. (
+      (may.0 d (omega (arith, within, cpus)), g.met.S.OpensAttempts.whole.0, record { all = may.0; fresh = fresh_read (S.opening m) caps it.0.0 few }),
+      may.1 d,
+      rw it.1.0 refl,
+      rw it.1.0 refl,
+      it.0.1,
+      it.1.1 d within,
+    ))
 
 -- and each CPU may act on it
 pub returns-clause-acts : goal.returns-clause-acts

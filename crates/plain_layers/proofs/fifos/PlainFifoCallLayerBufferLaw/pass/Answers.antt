@@ -1,16 +1,15 @@
-use Rattle.std.proofs.Common.{ℕ, ◌+◌, ◌/◌, ◌≤◌, ap, arith, subst, subst₂, sym, ◌∙◌}
+use Rattle.std.proofs.Common.{ℕ, ◌+◌, ◌/◌, ◌≤◌, ap, arith, subst, sym, ◌∙◌}
 use Rattle.event_log.specs.declared.ids.CpuId.{CpuId}
 use Rattle.layer_traits.specs.BufferLaw.{OthersSeen}
 use Rattle.layer_traits.specs.Passes.{PassPolled}
-use Rattle.layer_traits.specs.QueueBlocks.{inner}
+use Rattle.layer_traits.specs.QueueBlocks.{homes_in, inner}
 use Rattle.layer_traits.specs.Queues.{buffer_sections, moves_in}
 use Rattle.layer_traits.specs.Renaming.{viewed}
 use Rattle.layer_traits.specs.SleepLaw.{sleep_kernel}
 use Rattle.plain_layers.specs.Attempts.{attempts}
-use Rattle.layer_traits.proofs.KernelRenaming.{homes_viewed}
 use Rattle.plain_layers.specs.Fifos.{IsOwned, entries_in, shown}
 use Rattle.plain_layers.proofs.FifoLemmas.{nothing_under, owned_after, passed_seen, passed_moves}
-use Rattle.plain_layers.proofs.fifos.PlainFifoBufferLayer.pass.Goals as goal
+use Rattle.plain_layers.proofs.fifos.PlainFifoCallLayerBufferLaw.pass.Goals as goal
 
 half_of_one : (n k : ℕ) → n ≤ k + 1 → n / 2 ≤ k / 2 + 1
 half_of_one n k less = omega (arith, less)
@@ -79,8 +78,9 @@ returns-clause-passed g c =
     let said = c.pass.ensures in
     let Acts = λ (d : CpuId). S.ActsFor m d × S.IsWhole × IsOwned (λ e. S.ActsFor m e) (inner (S.opening m)) in
     let known = g.met.S.ThreadLayer.known n (S.cpu_of lower) (said.framed.stays.acts (S.cpu_of lower) (g.met.S.ThreadLayer.own_cpu lower m fits.0)) in
-    subst₂ (λ h o. PassPolled h Acts (S.cpu_of lower) c.args.call c.pass.result (moves_in (sleep_kernel attempts (S.opening m)) (S.seen m))
-    (moves_in (sleep_kernel attempts o) (S.seen n)) (S.own lower).threads (S.own c.pass.new.self).threads)
-    (sym (homes_viewed shown (S.opening m))) (sym said.framed.stays.opening)
+    subst (λ o. PassPolled (homes_in (S.opening m)) Acts (S.cpu_of lower) c.args.call c.pass.result
+    (moves_in (sleep_kernel attempts (S.opening m)) (S.seen m)) (moves_in (sleep_kernel attempts o) (S.seen n)) (S.own lower).threads
+    (S.own c.pass.new.self).threads)
+    (sym said.framed.stays.opening)
     (passed_moves (S.opening m) (λ d. S.ActsFor m d) (S.cpu_of lower) c.args.call c.pass.result (S.seen m) (S.seen n)
     (S.own lower).threads (S.own c.pass.new.self).threads (record { all = fits.2.all; known = known; polled = said.seen }) Acts (λ d acts. acts.0))

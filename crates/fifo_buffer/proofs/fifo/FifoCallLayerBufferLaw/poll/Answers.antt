@@ -1,4 +1,4 @@
-use Rattle.std.proofs.Common.{◌≡◌, ◌∙◌, ap, sym, subst, refl, true, false, Some, inl, inr, ◌≤◌, ◌+◌, ◌++◌, None, if◌then◌else◌}
+use Rattle.std.proofs.Common.{ℕ, ◌<◌, arith, ◌≡◌, ◌∙◌, ap, sym, subst, refl, true, false, Some, inl, inr, ◌≤◌, ◌+◌, ◌++◌, None, if◌then◌else◌}
 use Rattle.event_log.specs.declared.ids.CpuId.{CpuId}
 use Rattle.event_log.specs.declared.ids.Tid.{Tid}
 use Rattle.layer_traits.specs.declared.calls.Reply.{Reply}
@@ -23,16 +23,19 @@ use Rattle.fifo_buffer.proofs.Parts.{moves_grown, other_part}
 use Rattle.fifo_buffer.proofs.SectionPollTaken.{taken}
 use Rattle.fifo_buffer.proofs.Twice.{apart_call_state, ended_of, next_going, completes_as, exit_free, marks_of, under_way_by}
 use Rattle.fifo_buffer.proofs.Twice.{later_call, later_effect, next_may, other_call_state, runs_by, sizes_of, why, why_slept}
-use Rattle.fifo_buffer.proofs.fifo.FifoBufferLayer.poll.Goals as goal
+use Rattle.fifo_buffer.proofs.fifo.FifoCallLayerBufferLaw.poll.Goals as goal
+
+there_not : {b n : ℕ} → n ≤ b → b < n → ⊥
+there_not least most = omega (arith, least, most)
 
 pub poll_section-done-requires-clause-buffer : goal.poll_section-done-requires-clause-buffer
 poll_section-done-requires-clause-buffer g c =
-    block_there (g.C.ThreadLayer.opening c.args.m.now) c.requires.fits.1.boots (buffer_of c.args.call.now) c.requires.buffer
+    block_there (g.C.ThreadLayer.opening c.args.m.now) c.requires.fits.1.boots (buffer_of c.args.call.now) c.requires.there
 
 pub poll_section-last-requires-clause-buffer : goal.poll_section-last-requires-clause-buffer
 poll_section-last-requires-clause-buffer g c =
     rw c.poll_section-done.ensures.framed.stays.opening (block_there (g.C.ThreadLayer.opening c.args.m.now) c.requires.fits.1.boots
-    (buffer_of c.args.call.now) c.requires.buffer)
+    (buffer_of c.args.call.now) c.requires.there)
 
 pub poll_section-done-requires-clause-may : goal.poll_section-done-requires-clause-may
 poll_section-done-requires-clause-may g c =
@@ -88,15 +91,22 @@ poll_section-last-requires-clause-may g c =
     (subst (λ (x : CallState). MayPollSection O (buffer_sections (C.seen m1)) t call x own1 under1) (sym next_is)
     (next_may pace1 c.at_once.result c.if-done.true at_once may.called))
 
+-- the buffer is there
+pub returns-clause-nothing : goal.returns-clause-nothing
+returns-clause-nothing g c none = absurd (there_not none c.requires.there)
+
+pub returns-then-at_once-clause-nothing : goal.returns-then-at_once-clause-nothing
+returns-then-at_once-clause-nothing g c none = absurd (there_not none c.requires.there)
+
 pub returns-clause-runs : goal.returns-clause-runs
-returns-clause-runs g c =
+returns-clause-runs g c there =
     let one = c.poll_section-done in
     let pace1 = taken one.ensures.section_polled in
     rw c.complete-2.ensures.lower (runs_by pace1 c.complete-2.result
     (completes_as pace1 c.next_stage-stage.result c.next_stage-stage.ensures c.complete-2.result c.complete-2.ensures.answer))
 
 pub returns-clause-under_way : goal.returns-clause-under_way
-returns-clause-under_way g c =
+returns-clause-under_way g c there =
     let one = c.poll_section-done in
     let pace1 = taken one.ensures.section_polled in
     rw (c.complete-2.ensures.calling, c.complete-2.ensures.lower)
@@ -178,7 +188,7 @@ returns-clause-framed g c =
     }
 
 pub returns-clause-called : goal.returns-clause-called
-returns-clause-called g c =
+returns-clause-called g c there =
     let C = g.C.ThreadLayer in
     let law = g.met.C.ThreadLayer in
     let m = c.args.m.now in
@@ -211,7 +221,7 @@ returns-clause-called g c =
     (completes_as pace1 c.next_stage-stage.result c.next_stage-stage.ensures c.complete-2.result c.complete-2.ensures.answer))
 
 pub returns-then-at_once-clause-runs : goal.returns-then-at_once-clause-runs
-returns-then-at_once-clause-runs g c =
+returns-then-at_once-clause-runs g c there =
     let one = c.poll_section-done in
     let paced1 = one.ensures.section_polled in
     let two = c.poll_section-last in
@@ -222,7 +232,7 @@ returns-then-at_once-clause-runs g c =
     rw c.complete.ensures.lower (record { current = run.current; hand = run.hand; ended = run.ended ∙ paced1.ended })
 
 pub returns-then-at_once-clause-under_way : goal.returns-then-at_once-clause-under_way
-returns-then-at_once-clause-under_way g c =
+returns-then-at_once-clause-under_way g c there =
     let one = c.poll_section-done in
     let two = c.poll_section-last in
     let paced2 = rw (one.ensures.framed.stays.opening, one.ensures.framed.cpu) at two.ensures.section_polled in
@@ -355,7 +365,7 @@ returns-then-at_once-clause-framed g c =
     }
 
 pub returns-then-at_once-clause-called : goal.returns-then-at_once-clause-called
-returns-then-at_once-clause-called g c =
+returns-then-at_once-clause-called g c there =
     let C = g.C.ThreadLayer in
     let law = g.met.C.ThreadLayer in
     let m = c.args.m.now in

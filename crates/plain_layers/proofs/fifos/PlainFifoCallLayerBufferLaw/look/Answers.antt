@@ -1,5 +1,5 @@
 use Rattle.std.proofs.Common.{[], refl}
-use Rattle.plain_layers.proofs.fifos.PlainFifoBufferLayer.look.Goals as goal
+use Rattle.plain_layers.proofs.fifos.PlainFifoCallLayerBufferLaw.look.Goals as goal
 
 pub returns-clause-seen : goal.returns-clause-seen
 returns-clause-seen g c = record { others = []; foreign = λ d acts. tt; is = refl }

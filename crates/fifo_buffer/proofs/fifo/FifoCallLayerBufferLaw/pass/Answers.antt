@@ -3,7 +3,7 @@ use Rattle.layer_traits.specs.QueueBlocks.{homes_in}
 use Rattle.layer_traits.specs.SleepLaw.{done_if}
 use Rattle.fifo_buffer.specs.SectionPolls.{BufferOutcome}
 use Rattle.fifo_buffer.proofs.Passes.{lawful_before, part_passed, pass_done, pass_events, pass_grown, pass_moved, pass_seen, passed_own}
-use Rattle.fifo_buffer.proofs.fifo.FifoBufferLayer.pass.Goals as goal
+use Rattle.fifo_buffer.proofs.fifo.FifoCallLayerBufferLaw.pass.Goals as goal
 
 pub returns-clause-seen : goal.returns-clause-seen
 returns-clause-seen g c =

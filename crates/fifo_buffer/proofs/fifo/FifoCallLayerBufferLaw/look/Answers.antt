@@ -1,7 +1,7 @@
 use Rattle.std.proofs.Common.{[]}
 use Rattle.layer_traits.specs.QueueBlocks.{inner}
 use Rattle.fifo_buffer.proofs.Parts.{moves_grown, part_grown, seen_grown}
-use Rattle.fifo_buffer.proofs.fifo.FifoBufferLayer.look.Goals as goal
+use Rattle.fifo_buffer.proofs.fifo.FifoCallLayerBufferLaw.look.Goals as goal
 
 pub returns-clause-seen : goal.returns-clause-seen
 returns-clause-seen g c =

@@ -15,10 +15,13 @@ use Rattle.plain_layers.specs.Attempts.{attempts, effect_in}
 use Rattle.plain_layers.specs.Fifos.{IsOwned, caps_in, entries_in, reply_to, call_state_after, shown}
 use Rattle.plain_layers.proofs.FifoLemmas.{buffer_there, done_called, done_deferred, done_moves, done_refused}
 use Rattle.plain_layers.proofs.FifoLemmas.{done_sleeps, owned_after, reply_none, runs_small, set_waits}
-use Rattle.plain_layers.proofs.fifos.PlainFifoBufferLayer.poll.Goals as goal
+use Rattle.plain_layers.proofs.fifos.PlainFifoCallLayerBufferLaw.poll.Goals as goal
 
 half_of_two : (n k : ℕ) → n ≤ k + 2 → n / 2 ≤ k / 2 + 1
 half_of_two n k less = omega (arith, less)
+
+there_not : {b n : ℕ} → n ≤ b → b < n → ⊥
+there_not least most = omega (arith, least, most)
 
 pub whole-outcome-requires-clause-buffer : goal.whole-outcome-requires-clause-buffer
 whole-outcome-requires-clause-buffer g c =
@@ -26,7 +29,7 @@ whole-outcome-requires-clause-buffer g c =
     let m = c.args.m.now in
     let fits = c.requires.fits in
     buffer_there (S.opening m) c.buffer_in.result fits.2.fresh
-    (subst (λ b. b.0 < length (caps_in (inner (S.opening m)))) (sym c.buffer_in.ensures) c.requires.buffer)
+    (subst (λ b. b.0 < length (caps_in (inner (S.opening m)))) (sym c.buffer_in.ensures) c.requires.there)
 
 pub bounds-self-from : goal.bounds-self-from
 bounds-self-from g c =
@@ -44,8 +47,12 @@ bounds-self-from g c =
 pub listed : goal.listed
 listed g c = subst (λ n. c.from.result < n) (sym c.requires.fits.3.slots) (bounds-self-from g c)
 
+-- the buffer is there
+pub returns-clause-nothing : goal.returns-clause-nothing
+returns-clause-nothing g c none = absurd (there_not none c.requires.there)
+
 pub returns-clause-called : goal.returns-clause-called
-returns-clause-called g c =
+returns-clause-called g c there =
     let S = g.S.ThreadLayer in
     let m = c.args.m.now in
     let n = c.whole-outcome.new.m in

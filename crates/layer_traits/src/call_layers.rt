@@ -1,0 +1,296 @@
+//! One trait for the two layers at the top, over the law that each of them meets: buffers, and message
+//! calls over them.
+//!
+//! No call takes memory, and none waits.
+
+ghost use Rattle.std.specs.Prelude.{◌≡◌, ◌≢◌, ℕ, ◌<◌, ◌≤◌, Bool, true, false, List, [], Option, Some, None, IsSome, length, map, replicate};
+ghost use Rattle.event_log.specs.declared.ids.CpuId.{CpuId};
+ghost use Rattle.event_log.specs.declared.ids.Tid.{Tid};
+ghost use Rattle.layer_traits.specs.declared.calls.Call.{Call};
+ghost use Rattle.layer_traits.specs.declared.calls.Reply.{Reply};
+ghost use Rattle.layer_traits.specs.BufferLaw.{BufferPlan, Buffering, Called, Calling, UnderWay, IsRefused, MayGoOn, MayPollCall, MovesGrow, OthersSeen, Passing, RunsOn, buffer_of, buffering_at_start, fifo_pass_plan, no_call, still_calling, still_passing, call_state_of};
+ghost use Rattle.event_log.specs.declared.entries.Entry.{Entry};
+ghost use Rattle.event_log.specs.declared.ids.BufId.{BufId};
+ghost use Rattle.event_log.specs.declared.ids.LockId.{LockId};
+ghost use Rattle.event_log.specs.declared.ids.TheConstants.{THREADS};
+ghost use Rattle.event_log.specs.History.{IsLawful};
+ghost use Rattle.event_log.specs.Actions.{Action, AreLegal, phase};
+ghost use Rattle.event_log.specs.Sections.{sections_in};
+ghost use Rattle.layer_traits.specs.declared.buffer_edits.BufferEdit.{BufferEdit};
+ghost use Rattle.layer_traits.specs.declared.moves.WaitList.{WaitList};
+ghost use Rattle.layer_traits.specs.declared.queue_edits.QueueEdit.{QueueEdit};
+ghost use Rattle.layer_traits.specs.declared.queue_edits.QueueBlock.{QueueBlock};
+ghost use Rattle.layer_traits.specs.declared.call_states.CallState.{CallState};
+ghost use Rattle.layer_traits.specs.Acted.{MovesAre};
+ghost use Rattle.layer_traits.specs.Conditions.{CvCall};
+ghost use Rattle.layer_traits.specs.Places.{Step, Stands, Threads, AreMoves, at_boot};
+ghost use Rattle.layer_traits.specs.Plans.{Follows, table_of, is_in_section};
+ghost use Rattle.layer_traits.specs.Framed.{Framed};
+ghost use Rattle.layer_traits.specs.Looks.{Tries};
+ghost use Rattle.layer_traits.specs.QueueBlocks.{homes_in, inner};
+ghost use Rattle.layer_traits.specs.Queues.{buffer_sections, event_of};
+ghost use Rattle.layer_traits.specs.QueueRules.{queue_rules};
+ghost use Rattle.layer_traits.specs.Passes.{MayPass, IsLocalPass, PassPolled};
+ghost use Rattle.layer_traits.specs.Locking.{lock_moves, lock_rules};
+ghost use Rattle.layer_traits.specs.BufferProtocol.{BufferLock, buffer_rules};
+ghost use Rattle.layer_traits.specs.BufferEffects.{MayTakeEffect, effects_in};
+ghost use Rattle.layer_traits.specs.IpcLaw.{WaitListsAgree, NothingDone, OpensSo};
+
+use crate::calls::{Call, Effect, Reply};
+use crate::passes::Pass;
+use event_log::{CpuId, Tid};
+
+/// The law of a layer whose calls send messages and receive them.
+pub trait CallLaw {
+    /// What the call is on is there, with buffers of these capacities.
+    ghost IsThere: { List ℕ → Call → Type 0 };
+
+    /// What a poll of a call is to do, where a poll is one action.
+    ghost plan: { ℕ → List CpuId → CpuId → Tid → Call → Buffering → BufferPlan Reply };
+}
+
+/// One CPU's part of a layer that meets the law `L` and in which threads send to first-in first-out
+/// buffers and receive from them. A message call is one event, its effect. A poll does at most one
+/// atomic action; if it returns `None` the same call is polled again, once its thread runs.
+///
+/// No call takes memory.
+pub trait CallLayer<L: CallLaw> {
+    /// What lies beneath.
+    type Machine;
+
+    /// The capacities of the buffers.
+    ghost caps: { Self.Machine → List ℕ };
+
+    /// The home of each thread.
+    ghost homes_of: { Self.Machine → List CpuId };
+
+    /// The effects that the holder of the machine has seen, newest first.
+    ghost seen: { Self.Machine → List Entry };
+
+    /// The moves of threads that it has seen, newest first.
+    ghost moves: { Self.Machine → List Step };
+
+    /// Who sleeps at a buffer, as its last section left it.
+    ghost wait_lists: { Self.Machine → BufId → WaitList → List Tid };
+
+    /// For which CPUs the holder of the machine acts. It carries that the machine is sound.
+    ghost ActsFor: { Self.Machine → CpuId → Type 0 };
+
+    /// For how many more events there is room.
+    ghost room: { Self.Machine → ℕ };
+
+    /// Which machine it is, as numbers; a machine that nobody has to know again needs none. No poll
+    /// changes it.
+    ghost site: { Self.Machine → List ℕ } = { λ _. [] };
+
+    /// Nothing was done in the machine, whose threads have these homes, and it has what a part of
+    /// this CPU needs.
+    ghost IsFresh: { Self.Machine → List CpuId → CpuId → Type 0 };
+
+    /// This CPU may hold a lock, as far as the machine tells.
+    ghost MayHold: { Self.Machine → CpuId → Type 0 };
+
+    /// Whose part it is.
+    ghost cpu_of: { Self → CpuId };
+
+    /// The CPU's threads.
+    ghost threads: { Self → Threads };
+
+    /// The call state of each thread.
+    ghost call_states: { Self → List CallState };
+
+    /// Whether a section is under way.
+    ghost is_inside: { Self → Bool };
+
+    /// What the CPU does that has not ended.
+    ghost under_way: { Self → Option UnderWay };
+
+    /// The part and the machine agree.
+    ghost Fits: { Self → Self.Machine → Type 0 };
+
+    /// Whether one poll is one call: it takes effect at the first poll at which its buffer allows
+    /// it.
+    ghost IsWhole: { Type 0 };
+
+    /// Whether one poll is one action, as in the tower. The three members below tell of the tower
+    /// alone.
+    ghost IsStepwise: { Type 0 };
+
+    /// The opening block of each lock; None where there is no such lock.
+    ghost opening: { Self.Machine → LockId → Option (QueueBlock BufferLock) };
+
+    /// The actions on the locks, newest first, each Give under its section's edit.
+    ghost acts: { Self.Machine → List (Action (QueueEdit (CvCall BufferEdit))) };
+
+    /// The CPU's own state.
+    ghost own: { Self → Buffering };
+
+    /// The part of `cpu` at boot: its threads are ready, and none has called. `homes` holds the
+    /// home of each thread, and the buffers are numbered from 0 to `buffers - 1`.
+    ///
+    /// Requires: there are at most `THREADS` homes.
+    fn part(cpu: CpuId, homes: &[CpuId], buffers: u8) -> Self
+        requires { length homes.now ≤ THREADS }
+        ensures cpu { cpu_of result ≡ cpu }
+        ensures threads { threads result ≡ at_boot homes.now cpu }
+        ensures call_states { call_states result ≡ replicate THREADS no_call }
+        ensures under_way { under_way result ≡ None }
+        ensures own { IsStepwise → own result ≡ buffering_at_start homes.now cpu }
+        ensures fits { (m : Self.Machine) → IsFresh m homes.now cpu → length (caps m) ≡ buffers → Fits result m };
+
+    /// Whether a section is under way.
+    fn is_busy(&self) -> bool
+        ensures { result ≡ is_inside self.now };
+
+    /// The thread that runs.
+    fn current(&self) -> Option<Tid>
+        ensures { result ≡ (threads self.now).current };
+
+    /// The thread that this CPU woke and has yet to send home.
+    fn hand(&self) -> Option<Tid>
+        ensures { result ≡ (threads self.now).hand };
+
+    /// Whether a thread is ready.
+    fn has_ready(&self) -> bool
+        ensures some { result ≡ true → (threads self.now).ready ≢ [] }
+        ensures none { result ≡ false → (threads self.now).ready ≡ [] };
+
+    /// The effect of this thread's newest call, from the poll in which it came until the thread's
+    /// next call begins.
+    ///
+    /// Requires: `t` is below `THREADS`.
+    fn effect(&self, t: Tid) -> Option<Effect>
+        requires { t.0 < THREADS }
+        ensures { result ≡ (call_state_of (call_states self.now) t).effect };
+
+    /// The same effect where it lies: nothing is copied.
+    ///
+    /// Requires: `t` is below `THREADS`.
+    fn effect_here(&self, t: Tid) -> &Option<Effect>
+        requires { t.0 < THREADS }
+        ensures { result.now ≡ (call_state_of (call_states self.now) t).effect };
+
+    /// Looks again for a section that waits at its lock, and tells whether it did: a poll that ends
+    /// nothing, so it needs no call and has no answer. Where it tells `false` nothing has changed,
+    /// and the call is to be polled; a layer may always tell that.
+    ///
+    /// Requires: part and machine agree, and there is room for an event.
+    fn look(&mut self, m: &mut Self::Machine) -> bool
+        requires fits { Fits self.old m.old }
+        requires room { 0 < room m.old }
+        ensures still { result ≡ false → (self.new ≡ self.old) × (m.new ≡ m.old) }
+        ensures waits { result ≡ true → is_inside self.old ≡ true }
+        ensures framed { Framed Fits cpu_of opening site room ActsFor MayHold self.old self.new m.old m.new }
+        ensures threads { threads self.new ≡ threads self.old }
+        ensures call_states { call_states self.new ≡ call_states self.old }
+        ensures own { IsStepwise → own self.new ≡ own self.old }
+        ensures inside { is_inside self.new ≡ is_inside self.old }
+        ensures under_way { under_way self.new ≡ under_way self.old }
+        ensures seen { OthersSeen (ActsFor m.old) (seen m.old) (seen m.new) }
+        ensures moves { MovesGrow (ActsFor m.old) (cpu_of self.old) (moves m.old) (moves m.new) }
+        ensures homes { homes_of m.new ≡ homes_of m.old }
+        ensures caps { caps m.new ≡ caps m.old }
+        ensures tries { IsStepwise → result ≡ true → Tries (ActsFor m.old) (cpu_of self.old) (acts m.old) (acts m.new) };
+
+    /// Does at most one action of the call of `t`. Gives the reply once the call has ended, and
+    /// `None` while the same call is to be polled again. `NoBuffer` comes exactly where the number
+    /// is no buffer's, and then nothing was done.
+    ///
+    /// Requires: what the call is on is there, part and machine agree, there is room for an event,
+    /// `t` runs here, the call is the one that `t` has begun or `t` is between calls, and the CPU has
+    /// nothing else under way. If it has nothing under way, no woken thread is in its hand.
+    fn poll(&mut self, m: &mut Self::Machine, t: Tid, call: &Call) -> Option<Reply>
+        requires fits { Fits self.old m.old }
+        requires there { L.IsThere (caps m.old) call.now }
+        requires room { 0 < room m.old }
+        requires runs { (threads self.old).current ≡ Some t }
+        requires hand { under_way self.old ≡ None → (threads self.old).hand ≡ None }
+        requires same { MayPollCall (call_state_of (call_states self.old) t) call.now }
+        requires goes_on { MayGoOn (under_way self.old) (Calling t) }
+        ensures nothing { length (caps m.old) ≤ (buffer_of call.now).0 → NothingDone m.old m.new self.old self.new result }
+        ensures called { (buffer_of call.now).0 < length (caps m.old)
+            → Called (ActsFor m.old) (cpu_of self.old) t call.now (call_states self.old) (call_states self.new) (seen m.old) (seen m.new) result }
+        ensures runs { (buffer_of call.now).0 < length (caps m.old) → RunsOn t (threads self.old) (threads self.new) result }
+        ensures under_way { (buffer_of call.now).0 < length (caps m.old)
+            → under_way self.new ≡ still_calling t (threads self.new).current result }
+        ensures moves { MovesGrow (ActsFor m.old) (cpu_of self.old) (moves m.old) (moves m.new) }
+        ensures prompt { IsWhole → result ≡ None
+            → IsRefused call.now (caps m.old) (seen m.new) × ((threads self.new).current ≡ None) }
+        ensures framed { Framed Fits cpu_of opening site room ActsFor MayHold self.old self.new m.old m.new }
+        ensures homes { homes_of m.new ≡ homes_of m.old }
+        ensures caps { caps m.new ≡ caps m.old }
+        ensures follows { IsStepwise
+            → Follows (ActsFor m.old) (table_of (queue_rules (lock_rules buffer_rules) (lock_moves buffer_rules)))
+            (opening m.old) (cpu_of self.old) (L.plan (length (caps m.old)) (homes_in (opening m.old)) (cpu_of self.old) t call.now (own self.old))
+            (acts m.old) (acts m.new) (record { own = own self.new; answer = result }) };
+
+    /// Passes a call on to the scheduler. The call states stay.
+    ///
+    /// Requires: part and machine agree, there is room for an event, the CPU's threads let the pass
+    /// come, and nothing else is under way.
+    fn pass(&mut self, m: &mut Self::Machine, call: Pass) -> Option<()>
+        requires fits { Fits self.old m.old }
+        requires room { 0 < room m.old }
+        requires may { MayPass call (threads self.old) }
+        requires goes_on { MayGoOn (under_way self.old) (Passing call) }
+        ensures seen { OthersSeen (ActsFor m.old) (seen m.old) (seen m.new) }
+        ensures passed { PassPolled (homes_of m.old) (ActsFor m.old) (cpu_of self.old) call result (moves m.old) (moves m.new)
+            (threads self.old) (threads self.new) }
+        ensures under_way { under_way self.new ≡ still_passing call result }
+        ensures call_states { call_states self.new ≡ call_states self.old }
+        ensures still { IsLocalPass call → m.new ≡ m.old }
+        ensures prompt { IsWhole → IsSome result }
+        ensures framed { Framed Fits cpu_of opening site room ActsFor MayHold self.old self.new m.old m.new }
+        ensures homes { homes_of m.new ≡ homes_of m.old }
+        ensures caps { caps m.new ≡ caps m.old }
+        ensures follows { IsStepwise
+            → Follows (ActsFor m.old) (table_of (queue_rules (lock_rules buffer_rules) (lock_moves buffer_rules)))
+            (opening m.old) (cpu_of self.old) (fifo_pass_plan (homes_in (opening m.old)) (cpu_of self.old) call (own self.old))
+            (acts m.old) (acts m.new) (record { own = own self.new; answer = result }) };
+
+    /// Law: a part that agrees with a machine is of a CPU for which the machine's holder acts.
+    ghost own_cpu: { (p : Self) (m : Self.Machine) → Fits p m → ActsFor m (cpu_of p) };
+
+    /// Law: each effect that was seen may come after those before it.
+    ghost lawful: { (m : Self.Machine) (c : CpuId) → ActsFor m c → IsLawful (MayTakeEffect (caps m)) (seen m) };
+
+    /// Law: a CPU's threads stand where the moves say.
+    ghost stands: { (p : Self) (m : Self.Machine) → Fits p m → Stands (homes_of m) (cpu_of p) (moves m) (threads p) };
+
+    /// Law: each move that was seen may follow those before it.
+    ghost moves_legal: { (m : Self.Machine) (c : CpuId) → ActsFor m c → AreMoves (homes_of m) (moves m) };
+
+    /// Law: the waiting lists of the buffers and the threads' places agree.
+    ghost lists: { (p : Self) (m : Self.Machine) → Fits p m → WaitListsAgree (length (caps m)) (homes_of m) (moves m) (wait_lists m) };
+
+    /// Law: where the CPU has nothing begun, no section is under way.
+    ghost idle: { (p : Self) (m : Self.Machine) → Fits p m → under_way p ≡ None → is_inside p ≡ false };
+
+    /// Law: where a poll is one action, the own state holds the threads and the call states.
+    ghost reads_own: { IsStepwise → (p : Self) → ((own p).cv.lock.sleep.threads ≡ threads p) × ((own p).call_states ≡ call_states p) };
+
+    /// Law: where a poll is one action, the opening blocks hold the homes.
+    ghost reads_homes: { IsStepwise → (m : Self.Machine) → homes_in (opening m) ≡ homes_of m };
+
+    /// Law: the actions are legal.
+    ghost legal: { (m : Self.Machine) (c : CpuId) → ActsFor m c → AreLegal (acts m) };
+
+    /// Law: where a poll is one action, the effects are those of the sections of the actions, so
+    /// each has the position that its thread drew.
+    ghost seen_is: { IsStepwise → (m : Self.Machine)
+        → seen m ≡ effects_in (inner (opening m)) (buffer_sections (map event_of (sections_in (acts m)))) };
+
+    /// Law: where a poll is one action, what the layer tells of threads, their moves and the waiting
+    /// lists, is what the sections of the actions make of it, and so are the pending queues.
+    ghost moves_are: { IsStepwise → (m : Self.Machine) (c : CpuId) → ActsFor m c
+        → MovesAre (opening m) (acts m) (moves m) (wait_lists m) };
+
+    /// Law: where a poll is one action, a part has a section under way exactly while its CPU waits
+    /// at a lock or holds one.
+    ghost busy: { (p : Self) (m : Self.Machine) → Fits p m → IsStepwise → is_inside p ≡ is_in_section (phase (cpu_of p) (acts m)) };
+
+    /// Law: where a poll is one action, a fresh machine's blocks are those of its capacities and
+    /// homes.
+    ghost opens: { IsStepwise → (m : Self.Machine) (homes : List CpuId) (c : CpuId) → IsFresh m homes c
+        → OpensSo (caps m) homes c (opening m) };
+}
