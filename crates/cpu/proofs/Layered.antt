@@ -51,7 +51,7 @@ laws_of law = record {
   moves_legal = law.moves_legal;
   idle = law.idle;
   busy = law.busy;
-  reads_own = law.reads_own;
+  reads_own = λ step. law.reads_own;
 }
 
 -- a CPU whose part fits the machine

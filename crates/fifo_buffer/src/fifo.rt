@@ -239,9 +239,11 @@ impl<C: ThreadLayer<CvLaw<BufferEdit>>> CallLayer<BufferLaw> for Fifo<C> {
 
     ghost lists = { λ p m fits. fifo_wait_lists (C.opening m) (C.seen m) fits.1.boots (C.stands p.lower m fits.0).lists };
 
-    ghost reads_own = { λ step p. (refl, refl) };
+    ghost reads_own = { λ p. (refl, refl) };
 
-    ghost reads_homes = { λ step m. refl };
+    ghost reads_homes = { λ m. refl };
+
+    ghost starts = { λ m c acts. C.opens m c acts.0 };
 
     ghost legal = { λ m c acts. C.legal m c acts.0 };
 

@@ -1,10 +1,10 @@
 //! Message calls over a layer of buffers, on an owned machine: what each takes, poll by poll.
 
 ghost use Rattle.std.specs.Prelude.{◌≡◌, ◌≢◌, ◌+◌, ◌<◌, ◌≤◌, [], ◌∷◌, true, Some, None, IsSome, IfOk, length};
+ghost use Rattle.event_log.specs.declared.ids.LockId.TheVariants.{Pending};
 ghost use Rattle.event_log.specs.declared.ids.TheConstants.{CPUS};
 ghost use Rattle.layer_traits.specs.declared.passes.Pass.TheVariants.{Drain};
 ghost use Rattle.layer_traits.specs.BufferLaw.{Calling, MayGoOn, MayPollCall, Passing, buffer_of, call_state_of};
-ghost use Rattle.layer_traits.specs.Places.{home_of};
 
 use crate::OpensBuffers;
 use event_log::{BufId, CpuId, Kind, Msg, NoMemory, Tid};
@@ -18,9 +18,9 @@ fn switch<B: CallLayer<BufferLaw>>(part: &mut B, m: &mut B::Machine) -> bool
     requires room { 0 < B.room m.old }
     ensures fits { B.Fits part.new m.new }
     ensures idle { result ≡ true → B.under_way part.new ≡ None }
-    ensures call_states { (B.call_states part.new) ≡ (B.call_states part.old) }
+    ensures call_states { B.call_states part.new ≡ B.call_states part.old }
     ensures cpu { B.cpu_of part.new ≡ B.cpu_of part.old }
-    ensures homes { B.homes_of m.new ≡ B.homes_of m.old }
+    ensures opening { B.opening m.new ≡ B.opening m.old }
     ensures caps { B.caps m.new ≡ B.caps m.old }
     ensures room { B.room m.old ≤ B.room m.new + 1 }
     ensures acts { (c : _) → B.ActsFor m.old c → B.ActsFor m.new c }
@@ -40,7 +40,7 @@ fn drain_poll<B: CallLayer<BufferLaw>>(part: &mut B, m: &mut B::Machine) -> Opti
     ensures fits { B.Fits part.new m.new }
     ensures goes_on { MayGoOn (B.under_way part.new) (Passing Drain) }
     ensures idle { IsSome result → B.under_way part.new ≡ None }
-    ensures call_states { (B.call_states part.new) ≡ (B.call_states part.old) }
+    ensures call_states { B.call_states part.new ≡ B.call_states part.old }
     ensures cpu { B.cpu_of part.new ≡ B.cpu_of part.old }
     ensures caps { B.caps m.new ≡ B.caps m.old }
     ensures room { B.room m.old ≤ B.room m.new + 1 }
@@ -60,7 +60,7 @@ fn drain<B: CallLayer<BufferLaw>>(part: &mut B, m: &mut B::Machine) -> bool
     requires room { 3 ≤ B.room m.old }
     ensures fits { B.Fits part.new m.new }
     ensures idle { result ≡ true → B.under_way part.new ≡ None }
-    ensures call_states { (B.call_states part.new) ≡ (B.call_states part.old) }
+    ensures call_states { B.call_states part.new ≡ B.call_states part.old }
     ensures cpu { B.cpu_of part.new ≡ B.cpu_of part.old }
     ensures caps { B.caps m.new ≡ B.caps m.old }
     ensures room { B.room m.old ≤ B.room m.new + 3 }
@@ -99,7 +99,7 @@ fn polls<B: CallLayer<BufferLaw>>(
     ensures goes_on { MayGoOn (B.under_way part.new) (Calling t) }
     ensures idle { (B.threads part.new).current ≡ None → B.under_way part.new ≡ None }
     ensures cpu { B.cpu_of part.new ≡ B.cpu_of part.old }
-    ensures homes { B.homes_of m.new ≡ B.homes_of m.old }
+    ensures opening { B.opening m.new ≡ B.opening m.old }
     ensures caps { B.caps m.new ≡ B.caps m.old }
     ensures room { B.room m.old ≤ B.room m.new + count }
     ensures acts { (c : _) → B.ActsFor m.old c → B.ActsFor m.new c }
@@ -444,7 +444,7 @@ fn read_in_hand<B: OwnedBuffers>(part: &mut B, m: &mut B::Machine) -> bool
     requires fits { B.Fits part.old m.old }
     requires acts { B.ActsFor m.old (record { 0 = 0 }) }
     requires buffer { 0 < length (B.caps m.old) }
-    requires home { (u : _) × (home_of (B.homes_of m.old) u ≡ Some (record { 0 = 1 })) }
+    requires queue { IsSome (B.opening m.old (Pending (record { 0 = 1 }))) }
     requires room { 10 ≤ B.room m.old }
     requires start { B.under_way part.old ≡ None }
     requires free { (next : _) → MayPollCall (call_state_of (B.call_states part.old) (record { 0 = 0 })) next }
@@ -496,8 +496,8 @@ fn ends<B: OwnedBuffers>(part: &mut B, m: &mut B::Machine) -> bool
 /// and thread 1 on CPU 1.
 fn machine<B: OpensBuffers>(alloc: Global) -> Result<B::Machine, NoMemory>
     ensures caps { IfOk result (λ m. B.caps m ≡ 1 ∷ []) }
-    ensures home { IfOk result (λ m. (u : _) × (home_of (B.homes_of m) u ≡ Some (record { 0 = 1 }))) }
     ensures room { IfOk result (λ m. 120 ≤ B.room m) }
+    ensures queues { IfOk result (λ m. (c : _) → c.0 < 2 → IsSome (B.opening m (Pending c))) }
     ensures fresh { IfOk result (λ m. (c : _) → c.0 < 2 → B.IsFresh m (record { 0 = 0 } ∷ record { 0 = 1 } ∷ []) c) }
     ensures acts { IfOk result (λ m. (c : _) → c.0 < CPUS → B.ActsFor m c) }
 {
@@ -507,7 +507,6 @@ fn machine<B: OpensBuffers>(alloc: Global) -> Result<B::Machine, NoMemory>
 /// The part of a CPU at boot.
 fn part<B: OpensBuffers>(m: &B::Machine, cpu: CpuId) -> B
     requires fresh { B.IsFresh m.now (record { 0 = 0 } ∷ record { 0 = 1 } ∷ []) cpu }
-    requires caps { B.caps m.now ≡ 1 ∷ [] }
     ensures fits { B.Fits result m.now }
     ensures cpu { B.cpu_of result ≡ cpu }
     ensures start { B.under_way result ≡ None }

@@ -187,9 +187,11 @@ impl<B: CallLayer<BufferLaw>> CallLayer<IpcLaw> for Ipc<B> {
 
     ghost idle = { λ p m fits. B.idle p.lower m fits.0 };
 
-    ghost reads_own = { λ step p. B.reads_own step p.lower };
+    ghost reads_own = { λ p. B.reads_own p.lower };
 
     ghost reads_homes = { B.reads_homes };
+
+    ghost starts = { B.starts };
 
     ghost legal = { B.legal };
 
@@ -238,7 +240,7 @@ impl<B: OwnedBuffers> Ipc<B> {
     /// Whether the machine or the part tells that `t` stands in the pending queue of `d`.
     fn pends(&self, m: &B::Machine, d: CpuId, t: Tid) -> bool
         requires acts { (c : CpuId) × B.ActsFor m.now c }
-        requires home { (u : Tid) × (home_of (B.homes_of m.now) u ≡ Some d) }
+        requires queue { IsSome (B.opening m.now (Pending d)) }
         ensures { result ≡ pends_read t (B.queue_at m.now d) (B.queue_with self.now.lower d) }
     {
         says(B::pends_in(m, d, t)) || says(self.lower.pends_here(d, t))
@@ -276,6 +278,7 @@ impl<B: OwnedBuffers> Ipc<B> {
 }
 
 impl<B: OpensBuffers> Owned for Ipc<B> {
+    ghost use Rattle.std.proofs.Common.{subst, sym};
     ghost use Rattle.event_log.specs.Buffers.{items_of};
     ghost use Rattle.event_log.specs.Runs.{is_closed};
     ghost use Rattle.layer_traits.proofs.OwnedLemmas.{read_under};
@@ -392,7 +395,7 @@ impl<B: OpensBuffers> Owned for Ipc<B> {
               (λ (q : Self). B.cpu_of q.lower) (B.MayHold m)
               (B.MayHold m) (λ q. B.queue_with q d) (B.queue_at m d)
               (pending_by (B.moves m) d) (λ q fit. fit.0) (λ q fit. refl) (λ d inside. inside)
-              (B.queues m cpu d acts (u, at));
+              (B.queues m cpu d acts ((B.starts m cpu acts).queues u d (subst (λ homes. home_of homes u ≡ Some d) (sym (B.reads_homes m)) at)));
           waiters_law = λ b within. read_under (λ (q : Self). q.lower) (λ q. B.Fits q m) (λ (q : Self). Self.Fits q m) (λ q. B.cpu_of q)
               (λ (q : Self). B.cpu_of q.lower) (B.MayHold m)
               (B.MayHold m) (λ q. B.wait_lists_with q b) (B.wait_lists_at m b)

@@ -11,8 +11,11 @@ use std::alloc::Global;
 /// A layer of buffers whose machine is opened with its buffers, and tells of its blocks.
 pub trait OpensBuffers: OwnedBuffers {
     ghost use Rattle.event_log.specs.declared.ids.CpuId.{CpuId};
+    ghost use Rattle.event_log.specs.declared.ids.LockId.TheVariants.{Pending};
     ghost use Rattle.event_log.specs.declared.ids.TheConstants.{CPUS};
+    ghost use Rattle.layer_traits.specs.BufferEffects.{opening_locks};
     ghost use Rattle.layer_traits.specs.Openings.{AreOpenable, Opened};
+    ghost use Rattle.layer_traits.specs.QueueBlocks.{inner};
 
     /// A machine of so many CPUs, with a buffer of each of these capacities and a thread of each of
     /// these homes, and with room for `room` polls. All memory is taken here.
@@ -31,6 +34,8 @@ pub trait OpensBuffers: OwnedBuffers {
         requires { AreOpenable cpus caps.now homes.now }
         ensures opened { IfOk result (λ m.
             Opened (Self.caps m) (Self.homes_of m) (Self.seen m) (Self.moves m) (Self.room m) caps.now homes.now room) }
+        ensures boot { IfOk result (λ m. inner (Self.opening m) ≡ opening_locks (Self.caps m)) }
+        ensures queues { IfOk result (λ m. (c : CpuId) → c.0 < cpus → IsSome (Self.opening m (Pending c))) }
         ensures fresh { IfOk result (λ m. (c : CpuId) → c.0 < cpus → Self.IsFresh m homes.now c) }
         ensures acts { IfOk result (λ m. (c : CpuId) → c.0 < CPUS → Self.ActsFor m c) }
         ensures none { IfOk result (λ m. Self.acts m ≡ []) }

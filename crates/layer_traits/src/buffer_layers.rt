@@ -13,6 +13,8 @@ pub struct BufferLaw;
 impl CallLaw for BufferLaw {
     ghost IsThere = { λ caps call. (buffer_of call).0 < length caps };
 
+    ghost IsCount = { λ caps buffers. Unit {0} };
+
     ghost plan = { λ buffers. fifo_plan };
 }
 

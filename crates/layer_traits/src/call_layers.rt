@@ -27,7 +27,7 @@ ghost use Rattle.layer_traits.specs.Places.{Step, Stands, Threads, AreMoves, at_
 ghost use Rattle.layer_traits.specs.Plans.{Follows, table_of, is_in_section};
 ghost use Rattle.layer_traits.specs.Framed.{Framed};
 ghost use Rattle.layer_traits.specs.Looks.{Tries};
-ghost use Rattle.layer_traits.specs.QueueBlocks.{homes_in, inner};
+ghost use Rattle.layer_traits.specs.QueueBlocks.{StartsWell, homes_in, inner};
 ghost use Rattle.layer_traits.specs.Queues.{buffer_sections, event_of};
 ghost use Rattle.layer_traits.specs.QueueRules.{queue_rules};
 ghost use Rattle.layer_traits.specs.Passes.{MayPass, IsLocalPass, PassPolled};
@@ -44,6 +44,9 @@ use event_log::{CpuId, Tid};
 pub trait CallLaw {
     /// What the call is on is there, with buffers of these capacities.
     ghost IsThere: { List ℕ → Call → Type 0 };
+
+    /// A part that was made for so many buffers fits buffers of these capacities.
+    ghost IsCount: { List ℕ → ℕ → Type 0 };
 
     /// What a poll of a call is to do, where a poll is one action.
     ghost plan: { ℕ → List CpuId → CpuId → Tid → Call → Buffering → BufferPlan Reply };
@@ -112,8 +115,7 @@ pub trait CallLayer<L: CallLaw> {
     /// it.
     ghost IsWhole: { Type 0 };
 
-    /// Whether one poll is one action, as in the tower. The three members below tell of the tower
-    /// alone.
+    /// Whether one poll is one action, as in the tower.
     ghost IsStepwise: { Type 0 };
 
     /// The opening block of each lock; None where there is no such lock.
@@ -135,8 +137,8 @@ pub trait CallLayer<L: CallLaw> {
         ensures threads { threads result ≡ at_boot homes.now cpu }
         ensures call_states { call_states result ≡ replicate THREADS no_call }
         ensures under_way { under_way result ≡ None }
-        ensures own { IsStepwise → own result ≡ buffering_at_start homes.now cpu }
-        ensures fits { (m : Self.Machine) → IsFresh m homes.now cpu → length (caps m) ≡ buffers → Fits result m };
+        ensures own { own result ≡ buffering_at_start homes.now cpu }
+        ensures fits { (m : Self.Machine) → IsFresh m homes.now cpu → L.IsCount (caps m) buffers → Fits result m };
 
     /// Whether a section is under way.
     fn is_busy(&self) -> bool
@@ -183,7 +185,7 @@ pub trait CallLayer<L: CallLaw> {
         ensures framed { Framed Fits cpu_of opening site room ActsFor MayHold self.old self.new m.old m.new }
         ensures threads { threads self.new ≡ threads self.old }
         ensures call_states { call_states self.new ≡ call_states self.old }
-        ensures own { IsStepwise → own self.new ≡ own self.old }
+        ensures own { own self.new ≡ own self.old }
         ensures inside { is_inside self.new ≡ is_inside self.old }
         ensures under_way { under_way self.new ≡ under_way self.old }
         ensures seen { OthersSeen (ActsFor m.old) (seen m.old) (seen m.new) }
@@ -266,11 +268,15 @@ pub trait CallLayer<L: CallLaw> {
     /// Law: where the CPU has nothing begun, no section is under way.
     ghost idle: { (p : Self) (m : Self.Machine) → Fits p m → under_way p ≡ None → is_inside p ≡ false };
 
-    /// Law: where a poll is one action, the own state holds the threads and the call states.
-    ghost reads_own: { IsStepwise → (p : Self) → ((own p).cv.lock.sleep.threads ≡ threads p) × ((own p).call_states ≡ call_states p) };
+    /// Law: the own state holds the threads and the call states.
+    ghost reads_own: { (p : Self) → ((own p).cv.lock.sleep.threads ≡ threads p) × ((own p).call_states ≡ call_states p) };
 
-    /// Law: where a poll is one action, the opening blocks hold the homes.
-    ghost reads_homes: { IsStepwise → (m : Self.Machine) → homes_in (opening m) ≡ homes_of m };
+    /// Law: the opening blocks hold the homes.
+    ghost reads_homes: { (m : Self.Machine) → homes_in (opening m) ≡ homes_of m };
+
+    /// Law: the opening blocks are those of a machine in which nothing was done, and each home of a
+    /// thread has its queue.
+    ghost starts: { (m : Self.Machine) (c : CpuId) → ActsFor m c → StartsWell (opening m) };
 
     /// Law: the actions are legal.
     ghost legal: { (m : Self.Machine) (c : CpuId) → ActsFor m c → AreLegal (acts m) };

@@ -1,5 +1,6 @@
 //! The layer of message calls.
 
+ghost use Rattle.std.specs.Prelude.{◌≡◌, length};
 ghost use Rattle.layer_traits.specs.IpcLaw.{ipc_plan};
 
 use crate::call_layers::{CallLaw, CallLayer};
@@ -10,6 +11,8 @@ pub struct IpcLaw;
 
 impl CallLaw for IpcLaw {
     ghost IsThere = { λ caps call. Unit {0} };
+
+    ghost IsCount = { λ caps buffers. length caps ≡ buffers };
 
     ghost plan = { ipc_plan };
 }

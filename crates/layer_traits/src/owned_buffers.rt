@@ -2,7 +2,7 @@
 //!
 //! No call takes memory, and none waits.
 
-ghost use Rattle.std.specs.Prelude.{◌≡◌, ◌<◌, Bool, List, Option, Some, length, option_and_then, option_map, slice_index};
+ghost use Rattle.std.specs.Prelude.{◌≡◌, ◌<◌, Bool, List, Option, IsSome, length, option_and_then, option_map, slice_index};
 
 use crate::buffer_layers::BufferLaw;
 use crate::call_layers::CallLayer;
@@ -16,6 +16,7 @@ pub trait OwnedBuffers: CallLayer<BufferLaw> {
     ghost use Rattle.std.specs.List.{AllByRecursion};
     ghost use Rattle.event_log.specs.declared.ids.BufId.{BufId};
     ghost use Rattle.event_log.specs.declared.ids.CpuId.{CpuId};
+    ghost use Rattle.event_log.specs.declared.ids.LockId.TheVariants.{Pending};
     ghost use Rattle.event_log.specs.declared.ids.Tid.{Tid};
     ghost use Rattle.event_log.specs.declared.ids.TheConstants.{CPUS};
     ghost use Rattle.event_log.specs.Buffers.{items_of};
@@ -25,7 +26,7 @@ pub trait OwnedBuffers: CallLayer<BufferLaw> {
     ghost use Rattle.layer_traits.specs.Acted.{ItemsAre, owner_after};
     ghost use Rattle.layer_traits.specs.BufferEffects.{contents_of};
     ghost use Rattle.layer_traits.specs.Owned.{wait_list_among};
-    ghost use Rattle.layer_traits.specs.Places.{home_of, pending_by};
+    ghost use Rattle.layer_traits.specs.Places.{pending_by};
     ghost use Rattle.layer_traits.specs.Observed.{IsObservedAs};
     ghost use Rattle.thread_blocks.specs.Queues.{is_in};
 
@@ -122,10 +123,10 @@ pub trait OwnedBuffers: CallLayer<BufferLaw> {
     /// Whether `t` stands in the pending queue of `d`; `None` where that queue is in the hands of a
     /// CPU.
     ///
-    /// Requires: the machine's holder acts for some CPU, and `d` is the home of a thread.
+    /// Requires: the machine's holder acts for some CPU, and the queue is there.
     fn pends_in(m: &Self::Machine, d: CpuId, t: Tid) -> Option<bool>
         requires acts { (c : CpuId) × Self.ActsFor m.now c }
-        requires home { (u : Tid) × (home_of (Self.homes_of m.now) u ≡ Some d) }
+        requires queue { IsSome (Self.opening m.now (Pending d)) }
         ensures { result ≡ option_map (λ queue. is_in t queue) (queue_at m.now d) };
 
     /// The same of a queue in this CPU's hands; `None` where it is not there.
@@ -175,7 +176,7 @@ pub trait OwnedBuffers: CallLayer<BufferLaw> {
 
     /// Law: the threads that the machine or a part tells of a pending queue are those that the moves
     /// leave in it.
-    ghost queues: { (m : Self.Machine) (c d : CpuId) → Self.ActsFor m c → (u : Tid) × (home_of (Self.homes_of m) u ≡ Some d)
+    ghost queues: { (m : Self.Machine) (c d : CpuId) → Self.ActsFor m c → IsSome (Self.opening m (Pending d))
         → IsObservedAs (λ (p : Self). Self.Fits p m) (λ p. Self.cpu_of p) (Self.MayHold m)
         (λ p. queue_with p d) (queue_at m d)
         (pending_by (Self.moves m) d) };

@@ -10,6 +10,7 @@ use Rattle.event_log.specs.declared.ids.LockId.TheVariants.{Pending, Buffer}
 use Rattle.event_log.specs.declared.ids.Tid.{Tid}
 use Rattle.layer_traits.specs.declared.queue_edits.QueueBlock.{QueueBlock}
 use Rattle.layer_traits.specs.declared.queue_edits.QueueBlock.TheVariants.{Queue}
+use Rattle.layer_traits.specs.BufferEffects.{fresh_lock, opening_locks}
 use Rattle.layer_traits.specs.QueueBlocks.{above_of, inner}
 use Rattle.layer_traits.specs.Renaming.{viewed}
 use Rattle.layer_traits.specs.Capacities.{caps_from}
@@ -19,7 +20,7 @@ use Rattle.sleep_wakeup.specs.declared.edits.SleepBlock.{SleepBlock}
 use Rattle.sleep_wakeup.specs.Nested.{resting, state_of}
 use Rattle.plain_layers.specs.declared.kernel.Opening.{Opening}
 use Rattle.plain_layers.specs.Attempts.{PlainState, empty_buffer}
-use Rattle.plain_layers.specs.Fifos.{PlainLocked, caps_in, fresh_buffer, fresh_buffers}
+use Rattle.plain_layers.specs.Fifos.{PlainLocked, caps_in, fresh_buffer, fresh_buffers, shown}
 use Rattle.plain_layers.specs.Kernels.{opening_of}
 
 -- the buffers of a machine of lists that opened with these blocks
@@ -56,6 +57,21 @@ module _ (opening : LockId → Option (QueueBlock PlainLocked)) (caps : List ℕ
 
   pub fresh_read : inner opening ≡ fresh_buffers (caps_in (inner opening))
   fresh_read = fresh ∙ ap fresh_buffers (sym caps_observed)
+
+  shown_fresh : (o : Option ℕ) → option_map shown (option_map fresh_buffer o) ≡ option_map fresh_lock o
+  shown_fresh None = refl
+  shown_fresh (Some capacity) = refl
+
+  by_shown : (lock : LockId) → option_map shown (fresh_buffers caps lock) ≡ opening_locks caps lock
+  by_shown (Pending c) = refl
+  by_shown (Buffer b) = shown_fresh (slice_get caps b.0)
+
+  at_lock : (lock : LockId) → inner (viewed shown opening) lock ≡ opening_locks caps lock
+  at_lock lock = inner_viewed shown opening lock ∙ ap (λ locks. option_map shown (locks lock)) fresh ∙ by_shown lock
+
+  -- and shows the locks of empty buffers
+  pub boots_shown : inner (viewed shown opening) ≡ opening_locks (caps_in (inner opening))
+  boots_shown = fun_ext at_lock ∙ ap opening_locks (sym caps_observed)
 
 -- there is room for so many calls where there is room for twice as many events
 pub half_room : (room events : ℕ) → room * 2 ≤ events → room ≤ events / 2

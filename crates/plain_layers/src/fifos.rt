@@ -106,7 +106,7 @@ impl<S: ThreadLayer<SleepLaw<Attempt>>> CallLayer<BufferLaw> for PlainFifo<S> {
     ghost use Rattle.event_log.specs.declared.ids.LockId.TheVariants.{Pending};
     ghost use Rattle.plain_layers.specs.Laws.FifoLaws.{plain_wait_lists};
     ghost use Rattle.plain_layers.specs.Laws.FifoTallies.{plain_lawful};
-    ghost use Rattle.layer_traits.proofs.KernelRenaming.{homes_viewed};
+    ghost use Rattle.layer_traits.proofs.KernelRenaming.{homes_viewed, starts_viewed};
     ghost use Rattle.layer_traits.specs.QueueBlocks.{homes_in, inner};
     ghost use Rattle.layer_traits.specs.Queues.{buffer_sections, moves_in};
     ghost use Rattle.layer_traits.specs.Renaming.{viewed};
@@ -230,9 +230,11 @@ impl<S: ThreadLayer<SleepLaw<Attempt>>> CallLayer<BufferLaw> for PlainFifo<S> {
 
     ghost lists = { λ p m fits. plain_wait_lists (S.opening m) (S.seen m) fits.2.fresh (S.stands p.lower m fits.0).lists };
 
-    ghost reads_own = { λ step p. (refl, refl) };
+    ghost reads_own = { λ p. (refl, refl) };
 
-    ghost reads_homes = { λ step m. homes_viewed shown (S.opening m) };
+    ghost reads_homes = { λ m. homes_viewed shown (S.opening m) };
+
+    ghost starts = { λ m c acts. starts_viewed shown (S.opening m) (S.opens m c acts.0) };
 
     ghost legal = { λ m c acts. tt };
 
@@ -250,19 +252,20 @@ impl<S: ThreadLayer<SleepLaw<Attempt>>> CallLayer<BufferLaw> for PlainFifo<S> {
 impl<S: OwnedSleeps<Attempt>> OwnedBuffers for PlainFifo<S> {
     ghost use Rattle.std.specs.Prelude.{option_map};
     ghost use Rattle.std.proofs.Common.{sym};
-    ghost use Rattle.event_log.specs.declared.ids.LockId.TheVariants.{Buffer};
+    ghost use Rattle.event_log.specs.declared.ids.LockId.TheVariants.{Buffer, Pending};
     ghost use Rattle.event_log.specs.Buffers.{items_of};
     ghost use Rattle.event_log.specs.Runs.{is_closed};
     ghost use Rattle.layer_traits.specs.BufferEffects.{contents_of};
     ghost use Rattle.layer_traits.specs.Places.{pending_by};
     ghost use Rattle.layer_traits.specs.QueueBlocks.{inner};
     ghost use Rattle.layer_traits.specs.Queues.{buffer_sections, moves_in};
+    ghost use Rattle.layer_traits.specs.Renaming.{viewed_block};
     ghost use Rattle.layer_traits.specs.SleepLaw.{sleep_kernel};
     ghost use Rattle.plain_layers.specs.Attempts.{attempts};
     ghost use Rattle.plain_layers.specs.Fifos.{caps_in, entries_in, wait_lists_in, locked_after, shown};
     ghost use Rattle.plain_layers.specs.FifoOwned.{closed_of, items_in, wait_lists_of, nobody, nothing_read};
     ghost use Rattle.plain_layers.specs.Laws.FifoOwned.{buffer_there, closed_read, entries_known, items_read, wait_lists_read};
-    ghost use Rattle.plain_layers.specs.Laws.FifoOwned.{nobody_owns, pending_read, view_read};
+    ghost use Rattle.plain_layers.specs.Laws.FifoOwned.{nobody_owns, pending_read, there_viewed, view_read};
 
     ghost owner = { λ m b. nobody };
 
@@ -383,5 +386,5 @@ impl<S: OwnedSleeps<Attempt>> OwnedBuffers for PlainFifo<S> {
         (S.MayHold m) (S.MayHold m) (λ p fits. fits.0)
         (λ d held. held) (λ p. S.queue_with p d) (S.queue_at m d)
         (pending_by (moves_in (sleep_kernel attempts (S.opening m)) (S.seen m)) d)
-        (S.queues m c d acts.0 ((S.opens m c acts.0).queues there.0 d there.1)) };
+        (S.queues m c d acts.0 (there_viewed (viewed_block shown) (S.opening m (Pending d)) there)) };
 }

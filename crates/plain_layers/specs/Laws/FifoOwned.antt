@@ -35,6 +35,11 @@ use Rattle.plain_layers.specs.FifoOwned.{closed_of, items_in, nobody, nothing_re
 use Rattle.plain_layers.specs.Fifos.{PlainLocked, caps_in, effect_by, entries_in, fresh_buffer, fresh_buffers, wait_lists_in, locked_after}
 use Rattle.plain_layers.specs.Laws.FifoTallies.{plain_tally}
 
+-- a block that is seen is there
+pub there_viewed : {A B : Type 0} (view : A → B) (o : Option A) → IsSome (option_map view o) → IsSome o
+there_viewed view None some = absurd cc
+there_viewed view (Some x) some = refl
+
 module _ (opening : LockId → Option (QueueBlock PlainLocked)) (fresh : inner opening ≡ fresh_buffers (caps_in (inner opening))) (b : BufId)
     (within : b.0 < length (caps_in (inner opening))) where
   -- a buffer of the capacities has a lock, at the start

@@ -1,10 +1,9 @@
-use Rattle.std.proofs.Common.{refl}
 use Rattle.ipc_calls.proofs.CallStates.{may_begin}
 use Rattle.ipc_calls.proofs.buffer_tests.part.Goals as goal
 
 -- nothing was done in the machine
 pub returns-clause-fits : goal.returns-clause-fits
-returns-clause-fits g c = c.part.ensures.fits c.args.m.now c.requires.fresh (rw c.requires.caps refl)
+returns-clause-fits g c = c.part.ensures.fits c.args.m.now c.requires.fresh tt
 
 -- and nobody has called
 pub returns-clause-free : goal.returns-clause-free

@@ -10,7 +10,7 @@ invariant-loop-done g l = record {
   goes : GoesOn l.t (g.B.CallLayer.threads l.part) (g.B.CallLayer.under_way l.part);
   same : MayPollCall (call_state_of (g.B.CallLayer.call_states l.part) l.t) l.call;
   cpu : g.B.CallLayer.cpu_of l.part ≡ g.B.CallLayer.cpu_of l.fn.part;
-  homes : g.B.CallLayer.homes_of l.m ≡ g.B.CallLayer.homes_of l.fn.m;
+  opening : g.B.CallLayer.opening l.m ≡ g.B.CallLayer.opening l.fn.m;
   caps : g.B.CallLayer.caps l.m ≡ g.B.CallLayer.caps l.fn.m;
   room : g.B.CallLayer.room l.fn.m ≤ g.B.CallLayer.room l.m + l.done;
   acts : (c : _) → g.B.CallLayer.ActsFor l.fn.m c → g.B.CallLayer.ActsFor l.m c;

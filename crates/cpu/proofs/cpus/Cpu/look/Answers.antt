@@ -46,7 +46,7 @@ returns-clause-leaves g c =
 
 pub returns-clause-table : goal.returns-clause-table
 returns-clause-table g c = λ step.
-    rw (c.look.ensures.homes, c.look.ensures.caps, c.look.ensures.own step, c.look.ensures.under_way, c.look.ensures.framed.stays.opening)
+    rw (c.look.ensures.homes, c.look.ensures.caps, c.look.ensures.own, c.look.ensures.under_way, c.look.ensures.framed.stays.opening)
     (c.requires.table step)
 
 pub returns-clause-steps : goal.returns-clause-steps
@@ -55,4 +55,4 @@ returns-clause-steps g c = λ step looked.
     let m = c.args.m.now in
     let p = c.args.self.now in
     looked_steps (λ d. I.ActsFor m d) (I.homes_of m) (I.caps m) (I.cpu_of p.part) p.number p.limit (I.own p.part) (I.own c.look.new.self) p.guests.items
-    p.trace.items (I.acts m) (I.acts c.look.new.m) c.requires.number (c.look.ensures.own step) (c.look.ensures.tries step looked)
+    p.trace.items (I.acts m) (I.acts c.look.new.m) c.requires.number (c.look.ensures.own) (c.look.ensures.tries step looked)

@@ -123,10 +123,10 @@ done_observed g c step =
     let done : is_some c.pass-done.result ≡ true = sym c.is_some.ensures ∙ c.if-is_some.true in
     record {
       homes = homes_in (I.opening m);
-      homes_are = law.reads_homes step m;
+      homes_are = law.reads_homes m;
       part = I.own q;
       own = I.threads q;
-      reads_own = (law.reads_own step q).0;
+      reads_own = (law.reads_own q).0;
       under_way = I.under_way q;
       guests = c.note_pass.new.self.items;
       new = I.acts n;
@@ -171,10 +171,10 @@ wait_observed g c step =
     let done : is_some c.pass-done.result ≡ false = sym c.is_some.ensures ∙ c.if-is_some.false in
     record {
       homes = homes_in (I.opening m);
-      homes_are = law.reads_homes step m;
+      homes_are = law.reads_homes m;
       part = I.own q;
       own = I.threads q;
-      reads_own = (law.reads_own step q).0;
+      reads_own = (law.reads_own q).0;
       under_way = I.under_way q;
       guests = p.guests.items;
       new = I.acts n;

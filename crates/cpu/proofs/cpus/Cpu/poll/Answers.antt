@@ -133,11 +133,11 @@ observed_poll g c step =
     let effect = c.effect_here-effect.ensures in
     record {
       homes = homes_in (I.opening m);
-      homes_are = law.reads_homes step m;
+      homes_are = law.reads_homes m;
       part = I.own q;
       own = I.threads q;
       call_states = I.call_states q;
-      reads_own = law.reads_own step q;
+      reads_own = law.reads_own q;
       under_way = I.under_way q;
       guests = c.note_poll-fresh.new.self.items;
       trace = c.note_effect.new.trace.items;

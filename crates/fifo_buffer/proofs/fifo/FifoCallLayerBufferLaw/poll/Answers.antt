@@ -25,9 +25,6 @@ use Rattle.fifo_buffer.proofs.Twice.{apart_call_state, ended_of, next_going, com
 use Rattle.fifo_buffer.proofs.Twice.{later_call, later_effect, next_may, other_call_state, runs_by, sizes_of, why, why_slept}
 use Rattle.fifo_buffer.proofs.fifo.FifoCallLayerBufferLaw.poll.Goals as goal
 
-there_not : {b n : ℕ} → n ≤ b → b < n → ⊥
-there_not least most = omega (arith, least, most)
-
 pub poll_section-done-requires-clause-buffer : goal.poll_section-done-requires-clause-buffer
 poll_section-done-requires-clause-buffer g c =
     block_there (g.C.ThreadLayer.opening c.args.m.now) c.requires.fits.1.boots (buffer_of c.args.call.now) c.requires.there
@@ -93,10 +90,12 @@ poll_section-last-requires-clause-may g c =
 
 -- the buffer is there
 pub returns-clause-nothing : goal.returns-clause-nothing
-returns-clause-nothing g c none = absurd (there_not none c.requires.there)
+returns-clause-nothing g c none =
+    let there = c.requires.there in absurd (omega (arith, none, there))
 
 pub returns-then-at_once-clause-nothing : goal.returns-then-at_once-clause-nothing
-returns-then-at_once-clause-nothing g c none = absurd (there_not none c.requires.there)
+returns-then-at_once-clause-nothing g c none =
+    let there = c.requires.there in absurd (omega (arith, none, there))
 
 pub returns-clause-runs : goal.returns-clause-runs
 returns-clause-runs g c there =

@@ -4,6 +4,6 @@ use Rattle.ipc_calls.proofs.ipc.IpcCallLayerIpcLaw.part.Goals as goal
 -- the part beneath fits a machine in which nothing was done, and the plan is that machine's
 pub returns-clause-fits : goal.returns-clause-fits
 returns-clause-fits g c m fresh count = (
-  c.part.ensures.fits m fresh.0 count,
+  c.part.ensures.fits m fresh.0 tt,
   record { number_is = c.part.ensures.cpu; homes_are = c.kept_homes.ensures ∙ sym fresh.1; count_is = count },
 )

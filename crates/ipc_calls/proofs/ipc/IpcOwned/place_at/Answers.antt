@@ -8,9 +8,13 @@ use Rattle.ipc_calls.specs.Parts.{pends_read}
 use Rattle.ipc_calls.proofs.ipc.IpcOwned.place_at.Goals as goal
 
 -- the queue that is read is that of the thread's home
-pub pends-requires-clause-home : goal.pends-requires-clause-home
-pends-requires-clause-home g c =
-    (c.args.t, subst (λ homes. home_of homes c.args.t ≡ Some c.home-home.result) c.requires.fits.1.homes_are c.home-home.ensures)
+pub pends-requires-clause-queue : goal.pends-requires-clause-queue
+pends-requires-clause-queue g c =
+    let law = g.met.B.CallLayer in
+    let m = c.args.m.now in
+    let acts = law.own_cpu c.args.self.now.lower m c.requires.fits.0 in
+    (law.starts m (g.B.CallLayer.cpu_of c.args.self.now.lower) acts).queues c.args.t c.home-home.result
+    (subst (λ homes. home_of homes c.args.t ≡ Some c.home-home.result) (c.requires.fits.1.homes_are ∙ sym (law.reads_homes m)) c.home-home.ensures)
 
 -- who is told to stand in the pending queue of its home stands there
 pub returns-then-pends-clause-observed : goal.returns-then-pends-clause-observed
@@ -29,7 +33,8 @@ returns-then-pends-clause-observed g c x is =
     let pends : where_is (B.homes_of m) (B.moves m) t ≡ Pend home
     = read_pends (λ q. B.Fits q m) (λ q. B.cpu_of q) (B.MayHold m) (B.homes_of m) (B.moves m)
     t home p (λ q. O.queue_with q home) (O.queue_at m home) (law.moves_legal m cpu acts) fits.0
-    (g.met.B.OwnedBuffers.queues m cpu home acts (t, home_is)) (sym c.pends.ensures ∙ c.if-pends.true) in
+    (g.met.B.OwnedBuffers.queues m cpu home acts ((law.starts m cpu acts).queues t home
+    (subst (λ homes. home_of homes t ≡ Some home) (sym (law.reads_homes m)) home_is))) (sym c.pends.ensures ∙ c.if-pends.true) in
     inr (ap queue_place pends ∙ is)
 
 -- a part that finds nothing is silent

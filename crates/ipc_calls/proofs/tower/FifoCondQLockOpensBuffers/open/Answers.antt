@@ -36,6 +36,16 @@ returns-clause-opened g c =
     (both_ok r (λ m. inner (viewed nested_lock_of (S.opening m)) ≡ opening_locks caps) (λ m. homes_in (S.opening m) ≡ homes) opens.locks opens.homes)
     (both_ok r (λ m. S.seen m ≡ []) (λ m. c.args.room ≤ S.room m) opens.seen opens.room))
 
+-- its locks are those of the capacities that it tells
+pub returns-clause-boot : goal.returns-clause-boot
+returns-clause-boot g c =
+    let S = g.S.ThreadLayer in
+    let caps = c.args.caps.now in
+    let most = c.requires.buffers in
+    let few : length caps ≤ 256 = omega (arith, most) in
+    IfOk-weaker c.open.result (λ m. inner (viewed nested_lock_of (S.opening m)) ≡ opening_locks caps) _
+    (λ m is. boots_well (viewed nested_lock_of (S.opening m)) caps is few) c.open.ensures.locks
+
 -- each CPU finds in it what its part needs
 pub returns-clause-fresh : goal.returns-clause-fresh
 returns-clause-fresh g c =

@@ -20,9 +20,6 @@ use Rattle.plain_layers.proofs.fifos.PlainFifoCallLayerBufferLaw.poll.Goals as g
 half_of_two : (n k : ℕ) → n ≤ k + 2 → n / 2 ≤ k / 2 + 1
 half_of_two n k less = omega (arith, less)
 
-there_not : {b n : ℕ} → n ≤ b → b < n → ⊥
-there_not least most = omega (arith, least, most)
-
 pub whole-outcome-requires-clause-buffer : goal.whole-outcome-requires-clause-buffer
 whole-outcome-requires-clause-buffer g c =
     let S = g.S.ThreadLayer in
@@ -49,7 +46,8 @@ listed g c = subst (λ n. c.from.result < n) (sym c.requires.fits.3.slots) (boun
 
 -- the buffer is there
 pub returns-clause-nothing : goal.returns-clause-nothing
-returns-clause-nothing g c none = absurd (there_not none c.requires.there)
+returns-clause-nothing g c none =
+    let there = c.requires.there in absurd (omega (arith, none, there))
 
 pub returns-clause-called : goal.returns-clause-called
 returns-clause-called g c there =

@@ -1,11 +1,12 @@
 use Rattle.std.proofs.Common.{◌≡◌, [], ◌<◌, ◌≤◌, ◌*◌, IsSome, length, refl, arith}
+use Rattle.std.proofs.lemmas.Result.{IfOk-weaker}
 use Rattle.event_log.specs.declared.ids.CpuId.{CpuId}
 use Rattle.event_log.specs.declared.ids.LockId.TheVariants.{Pending}
 use Rattle.event_log.specs.declared.ids.TheConstants.{CPUS}
 use Rattle.layer_traits.specs.QueueBlocks.{homes_in, inner}
 use Rattle.plain_layers.specs.Fifos.{fresh_buffers}
 use Rattle.plain_layers.proofs.OpeningLemmas.{both_ok}
-use Rattle.plain_layers.proofs.PlainOpenings.{caps_observed, fresh_read, half_room}
+use Rattle.plain_layers.proofs.PlainOpenings.{boots_shown, caps_observed, fresh_read, half_room}
 use Rattle.plain_layers.proofs.ipcs.PlainFifoOpensBuffers.open.Goals as goal
 
 -- the machine has the capacities and homes of the plan, and nothing was done in it
@@ -29,6 +30,16 @@ returns-clause-opened g c =
       none_moved = rw been.0 refl;
       room_is = half_room c.args.room (S.room m) been.1;
     })
+
+-- its locks are those of the capacities that it tells
+pub returns-clause-boot : goal.returns-clause-boot
+returns-clause-boot g c =
+    let S = g.S.ThreadLayer in
+    let caps = c.args.caps.now in
+    let most = c.requires.buffers in
+    let few : length caps ≤ 256 = omega (arith, most) in
+    IfOk-weaker c.open.result (λ m. inner (S.opening m) ≡ fresh_buffers caps) _
+    (λ m fresh. boots_shown (S.opening m) caps fresh few) c.open.ensures.buffers
 
 -- each CPU finds in it what its part needs
 pub returns-clause-fresh : goal.returns-clause-fresh
