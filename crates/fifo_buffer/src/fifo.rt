@@ -405,5 +405,5 @@ impl<C: OwnedConds<BufferEdit>> OwnedBuffers for Fifo<C> {
     ghost queues = { λ m c d acts there. queue_read (λ (p : Self). p.lower) (λ p. C.Fits p m)
         (λ (p : Self). Self.Fits p m) (λ p. C.cpu_of p) (C.MayHold m) (λ p fits. fits.0)
         (λ p. C.queue_with p d) (C.queue_at m d) (pending_by (moves_in (lock_kernel (cv_rules buffer_monitor_rules) (C.opening m)) (C.seen m)) d)
-        (C.queues m c d acts.0 ((C.opens m c acts.0).queues there.0 d there.1)) };
+        (C.queues m c d acts.0 there) };
 }

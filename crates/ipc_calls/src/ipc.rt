@@ -1,7 +1,8 @@
 //! Message calls over buffers.
 
-ghost use Rattle.std.specs.Prelude.{◌≡◌, ◌<◌, None, Some, length, refl};
+ghost use Rattle.std.specs.Prelude.{◌≡◌, ◌<◌, None, Some, IsSome, length, refl};
 ghost use Rattle.event_log.specs.declared.ids.CpuId.{CpuId};
+ghost use Rattle.event_log.specs.declared.ids.LockId.TheVariants.{Pending};
 ghost use Rattle.event_log.specs.declared.ids.Tid.{Tid};
 ghost use Rattle.event_log.specs.declared.ids.TheConstants.{THREADS};
 ghost use Rattle.layer_traits.specs.declared.calls.Place.{Place};
