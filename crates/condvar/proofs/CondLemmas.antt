@@ -7,6 +7,7 @@ use Rattle.event_log.specs.declared.ids.LockId.{LockId}
 use Rattle.event_log.specs.declared.ids.LockId.TheVariants.{Buffer}
 use Rattle.event_log.specs.declared.ids.Tid.{Tid}
 use Rattle.event_log.specs.declared.ids.TheConstants.{THREADS}
+use Rattle.event_log.specs.declared.messages.Msg.{Msg}
 use Rattle.event_log.specs.Actions.{Action}
 use Rattle.layer_traits.specs.declared.conditions.CvOut.{CvOut}
 use Rattle.layer_traits.specs.declared.conditions.CvOut.TheVariants as answer
@@ -26,6 +27,7 @@ use Rattle.layer_traits.specs.ListsAgree.{is_at}
 use Rattle.layer_traits.specs.Locking.{LockState, lock_after, lock_caller, wait_list_in}
 use Rattle.layer_traits.specs.LockLaw.{Locking, LockPolled, LocksAgree, lock_kernel, lock_plan, slept_for}
 use Rattle.layer_traits.specs.MoveRules.{MoveRules}
+use Rattle.layer_traits.specs.Payloads.{cv_told, lock_told, outcome_told, told_by}
 use Rattle.layer_traits.specs.Places.{AreMoves, Stands, Threads, home_of, one_if, wait_channel_of}
 use Rattle.layer_traits.specs.Plans.{Follows, Table}
 use Rattle.layer_traits.specs.QueueBlocks.{homes_in, inner}
@@ -34,7 +36,7 @@ use Rattle.layer_traits.proofs.CallLemmas.{follows_raised}
 use Rattle.layer_traits.proofs.CountLemmas.{not_counted}
 use Rattle.layer_traits.proofs.PlaceLemmas.{current_at}
 use Rattle.thread_blocks.specs.Queues.{is_in}
-use Rattle.condvar.specs.Waiting.{is_wait, is_waiting, side_in}
+use Rattle.condvar.specs.Waiting.{is_wait, is_waited, is_waiting, side_in}
 
 -- a thread that runs is one that a machine may have
 pub current_small : (homes : List CpuId) (c : CpuId) (moves : _) (own : Threads) (t : Tid) → AreMoves homes moves → Stands homes c moves own
@@ -114,6 +116,49 @@ pub over_polled : {G B O : Type 0} (monitor_rules : MonitorRules G B O) (k : Ker
 over_polled monitor_rules k ActsFor c b call old own under_way side waits some duty left same now =
     over_at monitor_rules k ActsFor c b call old own under_way _ side waits (slept_for own.waits (lock_caller (cv_rules monitor_rules) call)) some duty.may left
     same now
+
+-- whether an answer is that of a wait does not depend on the message beside it
+waited_told : {B O : Type 0} (told : B → Msg → O) (message : Msg) (out : CvOut B) → is_waited (cv_told told out message) ≡ is_waited out
+waited_told told message (answer.Did out) = refl
+waited_told told message (answer.Signalled side front) = refl
+waited_told told message answer.Left = refl
+waited_told told message (answer.Waited side) = refl
+
+waiting_told : {B O : Type 0} (told : B → Msg → O) (message : Msg) (out : QOut (CvOut B))
+    → is_waiting (lock_told (cv_told told) out message) ≡ is_waiting out
+waiting_told told message Acquired = refl
+waiting_told told message Queued = refl
+waiting_told told message (Did out) = refl
+waiting_told told message (Released out) = waited_told told message out
+
+-- what the lock told, with the message beside its answer
+abbrev pub lock_tells : {B O : Type 0} → (B → Msg → O) → Msg → Option (Outcome (QOut (CvOut B))) → Option (Outcome (QOut (CvOut O)))
+lock_tells told message answer = told_by (outcome_told (lock_told (cv_told told))) answer message
+
+is_wait_told : {B O : Type 0} (told : B → Msg → O) (message : Msg) (answer : Option (Outcome (QOut (CvOut B))))
+    → is_wait (lock_tells told message answer) ≡ is_wait answer
+is_wait_told told message None = refl
+is_wait_told told message (Some outcome) = waiting_told told message outcome.out
+
+-- so who waits is known from what the lock told
+pub waits_told : {B O : Type 0} (told : B → Msg → O) (message : Msg) (answer : Option (Outcome (QOut (CvOut B)))) (t : Tid) (b : BufId)
+    (waits now : List (Option BufId)) → now ≡ (if is_wait answer then slice_set waits t.0 (Some b) else waits)
+    → now ≡ (if is_wait (lock_tells told message answer) then slice_set waits t.0 (Some b) else waits)
+waits_told told message answer t b waits now same =
+    same ∙ ap (λ is. if is then slice_set waits t.0 (Some b) else waits) (sym (is_wait_told told message answer))
+
+held_back : {B O : Type 0} (told : B → Msg → O) (message : Msg) (answer : Option (Outcome (QOut (CvOut B)))) (is : Bool)
+    → lock_tells told message (if is then None else answer) ≡ (if is then None else lock_tells told message answer)
+held_back told message answer true = refl
+held_back told message answer false = refl
+
+-- and so is what is held back
+pub complete_told : {B O : Type 0} (told : B → Msg → O) (message : Msg) (answer result : Option (Outcome (QOut (CvOut B))))
+    → result ≡ (if is_wait answer then None else answer)
+    → lock_tells told message result ≡ (if is_wait (lock_tells told message answer) then None else lock_tells told message answer)
+complete_told told message answer result same =
+    ap (lock_tells told message) same ∙ held_back told message answer (is_wait answer)
+    ∙ ap (λ is. if is then None else lock_tells told message answer) (sym (is_wait_told told message answer))
 
 -- what the lock's answer leaves, by what it says
 left_by_out : {O : Type 0} (t : Tid) (b : BufId) (waits now : List (Option BufId)) (lock : Locking (CvOut O)) (out : QOut (CvOut O))

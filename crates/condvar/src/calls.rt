@@ -3,30 +3,34 @@
 ghost use Rattle.std.specs.Prelude.{◌≡◌};
 ghost use Rattle.layer_traits.specs.Conditions.{cv_rules};
 ghost use Rattle.layer_traits.specs.Locking.{lock_caller};
+ghost use Rattle.layer_traits.specs.Payloads.{cv_meant, lock_meant};
 ghost use Rattle.condvar.specs.Waiting.{side_in};
 
-use event_log::Tid;
+use event_log::{Msg, Tid};
 use layer_traits::{CvEdit, CvLeave, Guarded, QEdit, Side};
 
-/// The thread that calls.
+/// The thread that calls, with this message beside the call: it depends on no message.
 #[inline(always)]
-pub fn caller_of<G: Guarded>(call: &QEdit<CvEdit<G>, CvLeave>) -> Tid
-    ensures { result ≡ lock_caller (cv_rules G.monitor_rules) call.now }
+pub fn caller_of<G: Guarded>(call: &QEdit<CvEdit<G::Handed>, CvLeave>, message: &Msg) -> Tid
+    ensures { result ≡ lock_caller (cv_rules G.monitor_rules) (lock_meant (cv_meant G.meant) call.now message.now) }
 {
+    let _ = message;
     match call {
         QEdit::Acquire(t) => *t,
-        QEdit::Inside(CvEdit::Edit(edit)) => edit.caller(),
+        QEdit::Inside(CvEdit::Edit(edit)) => G::caller(edit),
         QEdit::Inside(CvEdit::SignalFront(t, _)) => *t,
         QEdit::Release(CvLeave::Leave(t)) => *t,
         QEdit::Release(CvLeave::Wait(t, _)) => *t,
     }
 }
 
-/// The side on which a wait is; `Receivers` of a call that is no wait.
+/// The side on which a wait is, with this message beside it, which tells nothing of it; `Receivers`
+/// of a call that is no wait.
 #[inline(always)]
-pub fn side_of<G: Guarded>(call: &QEdit<CvEdit<G>, CvLeave>) -> Side
-    ensures { result ≡ side_in call.now }
+pub fn side_of<G: Guarded>(call: &QEdit<CvEdit<G::Handed>, CvLeave>, message: &Msg) -> Side
+    ensures { result ≡ side_in (lock_meant (cv_meant G.meant) call.now message.now) }
 {
+    let _ = message;
     match call {
         QEdit::Release(CvLeave::Wait(_, side)) => *side,
         QEdit::Release(CvLeave::Leave(_)) | QEdit::Acquire(_) | QEdit::Inside(_) => Side::Receivers,

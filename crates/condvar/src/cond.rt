@@ -102,13 +102,13 @@ impl<G: Guarded, Q: ThreadLayer<QLockLaw<CvEdit<G>>>> ThreadLayer<CvLaw<G>> for 
     fn poll(
         &mut self,
         m: &mut Q::Machine,
-        call: BufferCall<QEdit<CvEdit<G>, CvLeave>>,
+        call: BufferCall<QEdit<CvEdit<G::Handed>, CvLeave>>,
         payload: &mut Payload,
-    ) -> Option<Outcome<QOut<CvOut<G::Out>>>> {
-        let t = caller_of::<G>(&call.edit);
+    ) -> Option<Outcome<QOut<CvOut<G::Brought>>>> {
+        let t = caller_of::<G>(&call.edit, &payload.message);
         if self.waits.wake(t) {
             return Some(Outcome {
-                out: QOut::Released(CvOut::Waited(side_of::<G>(&call.edit))),
+                out: QOut::Released(CvOut::Waited(side_of::<G>(&call.edit, &payload.message))),
                 slept: false,
                 woke: None,
             });

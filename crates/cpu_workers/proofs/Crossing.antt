@@ -1,5 +1,4 @@
 -- The blocks and edits of the tower may go from thread to thread.
-use Prim.{Unit}
 use denote.RattleType.{RattleType}
 use denote.Enum.Declared.{shape}
 use denote.Ref.{NamedLft}
@@ -16,8 +15,8 @@ use Rattle.sleep_wakeup.proofs.edits.SleepEdit.TheSendSync as sleep_edit
 use Rattle.queuing_lock.proofs.edits.QLockEdit.TheSendSync as lock_edit
 use Rattle.layer_traits.proofs.conditions.CvEdit.TheSendSync as cv_edit
 use Rattle.layer_traits.proofs.conditions.CvLeave.TheSendSync as cv_leave
-use Rattle.event_log.specs.contracts.entries.Kind as kind
-use Rattle.event_log.specs.contracts.messages.Msg as message
+use Rattle.layer_traits.proofs.buffer_edits.BufferEdit.TheSendSync as buffer_edit
+use Rattle.layer_traits.proofs.buffer_edits.BareBufferOut.TheSendSync as bare_out_crosses
 use Rattle.event_log.proofs.messages.Msg.TheSendSync as message_crosses
 use Rattle.layer_traits.proofs.conditions.CvOut.TheSendSync as cv_out_crosses
 use Rattle.layer_traits.proofs.locked.QOut.TheSendSync as lock_out_crosses
@@ -28,7 +27,7 @@ use Rattle.sleep_wakeup.proofs.edits.SleepBlock.TheSendSync as sleep_block
 use Rattle.queuing_lock.proofs.edits.QBlock.TheSendSync as lock_block
 use Rattle.layer_traits.proofs.buffer_blocks.BufferBlock.TheSendSync as buffer_block
 use Rattle.spinlock.specs.contracts.spin_lock.SpinLock as spin_lock
-use Rattle.spinlock.proofs.spin_lock.SpinLock.TheSendSync as spin_lock_crosses
+use Rattle.spinlock.proofs.stages.TicketPhase.TheSendSync as ticket_phase
 use Rattle.table_machine.specs.contracts.seats.Seat as table_seat
 use Rattle.table_machine.proofs.seats.Seat.TheSendSync as seat_crosses
 use Rattle.layer_traits.specs.contracts.queue_edits.QueueEdit as edit_row
@@ -37,16 +36,23 @@ use Rattle.queuing_lock.specs.contracts.edits.QLockEdit as lock_edit_row
 use Rattle.layer_traits.specs.contracts.conditions.CvEdit as cv_edit_row
 use Rattle.layer_traits.specs.contracts.conditions.CvLeave as cv_leave_row
 use Rattle.layer_traits.specs.contracts.buffer_edits.BufferEdit as buffer_edit_row
+use Rattle.layer_traits.specs.contracts.buffer_edits.BareBufferEdit as bare_edit_row
+use Rattle.layer_traits.specs.contracts.edits.Mark as mark_row
 use Rattle.sleep_wakeup.specs.contracts.edits.SleepBlock as sleep_block_row
 use Rattle.queuing_lock.specs.contracts.edits.QBlock as lock_block_row
 use Rattle.layer_traits.specs.contracts.buffer_blocks.BufferBlock as buffer_block_row
 use Rattle.layer_traits.specs.contracts.queues.QueueAnswer as queue_answer
+use Rattle.layer_traits.specs.contracts.queues.BareQueueAnswer as bare_answer
 use Rattle.layer_traits.specs.contracts.sleeps.Outcome as outcome
 use Rattle.layer_traits.specs.contracts.locked.QOut as lock_out
 use Rattle.layer_traits.specs.contracts.conditions.CvOut as cv_out
 use Rattle.layer_traits.specs.contracts.buffer_edits.BufferOut as buffer_out
+use Rattle.layer_traits.specs.contracts.buffer_edits.BareBufferOut as bare_out
 use Rattle.sleep_wakeup.specs.contracts.deferred.DeferredOutcome as deferred
 use Rattle.sleep_wakeup.specs.contracts.sleeper.Sleeper as sleeper
+use Rattle.layer_traits.specs.Payloads.{buffer_meant, buffer_told, cv_meant, cv_told, lock_told, queue_meant, queue_told}
+use Rattle.queuing_lock.specs.Nested.{section_meant}
+use Rattle.sleep_wakeup.specs.Nested.{nested_meant, nested_told}
 use Rattle.cpu_workers.specs.contracts.seats.TowerSeat as seat
 use Rattle.cpu_workers.specs.contracts.seats.TowerSeat.TheInside as inside
 
@@ -54,51 +60,27 @@ use Rattle.cpu_workers.specs.contracts.seats.TowerSeat.TheInside as inside
 ghost_send : (T : RattleType) → IsSend (ghost_of.the_row T)
 ghost_send T = view_send _ _ _ _ _ (declared_send (ghost_inside.the_type T) (search (sendable, crosses), tt))
 
-buffer_edit_field_send : IsSend (buffer_edit_row.the_field).row
-buffer_edit_field_send = enum_send (shape buffer_edit_row.the_type) (
-  (search (sendable, crosses), (search (sendable, crosses), tt)),
-  (
-    (search (sendable, crosses), (ghost_send message.the_row, tt)),
-    (
-      (search (sendable, crosses), tt),
-      ((search (sendable, crosses), tt), tt),
-    ),
-  ),
-)
+deferred_send : (E A : RattleType) → IsSend A → IsSend (deferred.the_row E A)
+deferred_send E A s = declared_send (deferred.the_type E A)
+    (search (sendable, crosses), (ghost_send E, (outcome_crosses.the_send A s, (message_crosses.the_send, tt))))
 
-buffer_edit_send : IsSend buffer_edit_row.the_row
-buffer_edit_send = recorded_send (buffer_edit_row.the_field).row _ _ (buffer_edit_row.the_type).to_one buffer_edit_field_send
-
-deferred_send : (E O : RattleType) → IsSend O → IsSend (deferred.the_row E O)
-deferred_send E O o = declared_send (deferred.the_type E O)
-    (search (sendable, crosses), (ghost_send E, (outcome_crosses.the_send O o, (message_crosses.the_send, tt))))
-
-sleeper_send : (E S B O : RattleType) → IsSend S → IsSend O → IsSend (sleeper.the_row E S B O)
-sleeper_send E S B O s o = declared_send (sleeper.the_type E S B O)
+sleeper_send : (E S B O H A : RattleType) → IsSend S → IsSend A → IsSend (sleeper.the_row E S B O H A)
+sleeper_send E S B O H A s answer = declared_send (sleeper.the_type E S B O H A)
     (search (sendable, crosses), (search (sendable, crosses, deferred_send) depth 9, tt))
 
-buffer_out_field_send : IsSend (buffer_out.the_field).row
-buffer_out_field_send = enum_send (shape buffer_out.the_type) (
-  (search (sendable, crosses), tt),
-  (
-    tt,
-    (
-      (enum_send (shape kind.the_type) (tt, (tt, (tt, (tt, (tt, tt))))), (search (sendable, crosses), (ghost_send message.the_row, tt))),
-      ((search (sendable, crosses), (search (sendable, crosses), tt)), tt),
-    ),
-  ),
-)
+abbrev lock_edit_of : RattleType → RattleType
+lock_edit_of edit = lock_edit_row.the_row (cv_edit_row.the_row edit) cv_leave_row.the_row
 
-buffer_out_send : IsSend buffer_out.the_row
-buffer_out_send = recorded_send (buffer_out.the_field).row _ _ (buffer_out.the_type).to_one buffer_out_field_send
+abbrev lock_out_of : RattleType → RattleType
+lock_out_of out = lock_out.the_row (cv_out.the_row out)
 
 -- so a sleeper of the tower does, over a scheduler that does
 pub tower_sleeper_send : (S : RattleType) → IsSend S
-    → IsSend (sleeper.the_row (lock_edit_row.the_row (cv_edit_row.the_row buffer_edit_row.the_row) cv_leave_row.the_row) S
-    (lock_block_row.the_row buffer_block_row.the_row) (lock_out.the_row (cv_out.the_row buffer_out.the_row)))
-tower_sleeper_send S s = sleeper_send (lock_edit_row.the_row (cv_edit_row.the_row buffer_edit_row.the_row) cv_leave_row.the_row) S
-    (lock_block_row.the_row buffer_block_row.the_row) (lock_out.the_row (cv_out.the_row buffer_out.the_row)) s
-    (lock_out_crosses.the_send _ (cv_out_crosses.the_send _ buffer_out_send))
+    → IsSend (sleeper.the_row (lock_edit_of buffer_edit_row.the_row) S (lock_block_row.the_row buffer_block_row.the_row) (lock_out_of buffer_out.the_row)
+    (lock_edit_of bare_edit_row.the_row) (lock_out_of bare_out.the_row))
+tower_sleeper_send S s = sleeper_send (lock_edit_of buffer_edit_row.the_row) S (lock_block_row.the_row buffer_block_row.the_row)
+    (lock_out_of buffer_out.the_row) (lock_edit_of bare_edit_row.the_row) (lock_out_of bare_out.the_row) s
+    (lock_out_crosses.the_send _ (cv_out_crosses.the_send _ bare_out_crosses.the_send))
 
 field_send : (B : RattleType) → IsSend B → IsSend (block.the_field B).row
 field_send B s = enum_send (shape (block.the_type B))
@@ -114,21 +96,30 @@ block_send B s = recorded_send (block.the_field B).row _ _ (block.the_type B).to
 pub block_sync : (B : RattleType) → IsSync B → IsSync (block.the_row B)
 block_sync B s = recorded_sync (block.the_field B).row _ _ (block.the_type B).to_one (field_sync B s)
 
-seat_part : (a : NamedLft) (E K B O : RattleType) (g : _) (k : _) → IsSend E → IsSend B → IsSync B
-    → IsSend (as_row (table_seat.the_field a E K B O g k))
-seat_part a E K B O g k e s y = seat_crosses.the_send a E K B O g k e s y
+seat_part : (a : NamedLft) (E K B O H A : RattleType) (g : _) (k : _) → IsSend E → IsSend B → IsSync B
+    → IsSend (as_row (table_seat.the_field a E K B O H A g k))
+seat_part a E K B O H A g k e s y = seat_crosses.the_send a E K B O H A g k e s y
 
-edit_send : IsSend (edit_row.the_row (sleep_edit_row.the_row (lock_edit_row.the_row (cv_edit_row.the_row buffer_edit_row.the_row) cv_leave_row.the_row)))
-edit_send = queue_edit.the_send _ (sleep_edit.the_send _ (lock_edit.the_send _ _ (cv_edit.the_send _ buffer_edit_send) cv_leave.the_send))
+abbrev edit_over : RattleType → RattleType
+edit_over edit = edit_row.the_row (sleep_edit_row.the_row (lock_edit_of edit))
+
+abbrev edit : RattleType
+edit = edit_over buffer_edit_row.the_row
+
+edit_send : IsSend edit
+edit_send = queue_edit.the_send _ (sleep_edit.the_send _ (lock_edit.the_send _ _ (cv_edit.the_send _ buffer_edit.the_send) cv_leave.the_send))
 
 tower_block_send : IsSend (block.the_row (sleep_block_row.the_row (lock_block_row.the_row buffer_block_row.the_row)))
 tower_block_send = block_send _ (sleep_block.the_send _ (lock_block.the_send _ buffer_block.the_send))
 
 abbrev answer : RattleType
-answer = queue_answer.the_row (outcome.the_row (lock_out.the_row (cv_out.the_row buffer_out.the_row)))
+answer = queue_answer.the_row (outcome.the_row (lock_out_of buffer_out.the_row))
 
-abbrev edit : RattleType
-edit = edit_row.the_row (sleep_edit_row.the_row (lock_edit_row.the_row (cv_edit_row.the_row buffer_edit_row.the_row) cv_leave_row.the_row))
+abbrev handed : RattleType
+handed = edit_over bare_edit_row.the_row
+
+abbrev brought : RattleType
+brought = bare_answer.the_row (outcome.the_row (lock_out_of bare_out.the_row))
 
 abbrev guarded : RattleType
 guarded = block.the_row (sleep_block_row.the_row (lock_block_row.the_row buffer_block_row.the_row))
@@ -136,12 +127,22 @@ guarded = block.the_row (sleep_block_row.the_row (lock_block_row.the_row buffer_
 -- a seat goes from thread to thread, whatever its words are
 pub tower_seat_send : (a : NamedLft) (K : RattleType) (k : _) → IsSend (seat.the_row a K k)
 tower_seat_send a K k = view_send _ _ _ _ _ (declared_send (inside.the_type a K k) (
-  seat_part a _ K _ answer (record { rules = _; carried = λ _ _. Unit {0}; brought = λ _ _. Unit {0} }) _
+  seat_part a _ K _ answer handed brought (record {
+    rules = _;
+    meant = queue_meant (nested_meant (section_meant (cv_meant buffer_meant)));
+    told = queue_told (nested_told (lock_told (cv_told buffer_told)));
+  }) _
       edit_send tower_block_send (block_sync _ (sleep_block.the_sync _ (lock_block.the_sync _ buffer_block.the_sync))),
   tt,
 ))
 
 -- and so does a lock over it
 pub turn_send : (a : NamedLft) (K : RattleType) (k : _) (LockProtocol : RattleType)
-    → IsSend (spin_lock.the_row (seat.the_row a K k) LockProtocol edit guarded answer)
-turn_send a K k LockProtocol = spin_lock_crosses.the_send _ _ _ _ _ (tower_seat_send a K k) edit_send tower_block_send
+    → IsSend (spin_lock.the_row (seat.the_row a K k) LockProtocol edit (mark_row.the_row edit) guarded answer handed brought)
+turn_send a K k LockProtocol = declared_send (spin_lock.the_type (seat.the_row a K k) LockProtocol edit (mark_row.the_row edit) guarded answer handed brought) (
+  search (sendable, crosses),
+  (
+    ticket_phase.the_send (ghost_of.the_row edit) guarded (ghost_send edit) tower_block_send,
+    (search (sendable, crosses, tower_seat_send) depth 9, (search (sendable, crosses), tt)),
+  ),
+)

@@ -10,7 +10,7 @@ mod tables;
 mod threads;
 
 use event_log::{BufId, LockId};
-use layer_traits::{Edit, LockLaw, Payload, SectionOf};
+use layer_traits::{Edit, LockLaw, Payload, SectionOf, SplitEdit};
 use std::marker::PhantomData;
 pub use tables::{NotCounted, count_or_leave, count_table, number_left};
 use thiserror::Error;
@@ -26,17 +26,39 @@ pub type CountLaws = PhantomData<(LockLaw<AddOne>, SectionOf<AddOne>)>;
 #[derive(Clone, Copy, Debug, PartialEq, Eq)]
 pub struct AddOne;
 
-impl Edit for AddOne {
+impl SplitEdit for AddOne {
     type Block = u64;
 
     type Out = u64;
 
+    type Handed = AddOne;
+
+    type Brought = u64;
+
     ghost rules = { counting };
 
-    fn apply(&self, block: &mut u64, _payload: &mut Payload) -> u64 {
+    ghost meant = { λ handed payload. handed };
+
+    ghost told = { λ out payload. out };
+
+    fn whole(_handed: &AddOne, _payload: &Payload) -> AddOne {
+        AddOne
+    }
+
+    fn apply_handed(_handed: &AddOne, block: &mut u64, _payload: &mut Payload) -> u64 {
         let before = *block;
         *block = before.wrapping_add(1);
         before
+    }
+}
+
+impl Edit for AddOne {
+    fn hand_on(self, _payload: &mut Payload) -> AddOne {
+        self
+    }
+
+    fn bring_back(brought: u64, _payload: &mut Payload) -> u64 {
+        brought
     }
 }
 

@@ -18,7 +18,7 @@ use crate::starting::WorkerError;
 use arrayvec::ArrayVec;
 use event_log::{BufId, CAPACITY, CPUS, CpuId, LockId, Msg, NoMemory};
 use ipc_calls::{TowerBlock, TowerEdit, TowerLockLaws, tower_blocks};
-use layer_traits::Edit;
+use layer_traits::SplitEdit;
 use spinlock::Ticket;
 use std::alloc::{AllocError, Global};
 use std::marker::PhantomData;
@@ -48,12 +48,12 @@ impl<N: Drop> NativeReport<N> {
 
 // What natives leave behind at a table, by CPU: their keys and themselves.
 #[derive(Drop)]
-struct NativeBack<E: Edit, N: Drop> {
+struct NativeBack<E: SplitEdit, N: Drop> {
     keys: Vec<Key<E>>,
     natives: Vec<N>,
 }
 
-impl<E: Edit, N: Drop> NativeBack<E, N> {
+impl<E: SplitEdit, N: Drop> NativeBack<E, N> {
     // Room for what so many natives leave.
     fn with_capacity(alloc: Global, count: usize) -> Result<NativeBack<E, N>, AllocError>
         ensures keys { IfOk result (λ b. (b.keys.items ≡ []) × (count ≤ vec_capacity b.keys)) }

@@ -21,7 +21,7 @@ use boot::{Boot, LockKind};
 use cpu::homes_of;
 use event_log::{Entry, NoMemory};
 use ipc_calls::{TowerEdit, TowerLockLaws, tower_blocks};
-use layer_traits::Edit;
+use layer_traits::SplitEdit;
 use spinlock::{Grant, Ticket};
 use std::alloc::{AllocError, Global};
 use std::marker::PhantomData;
@@ -31,14 +31,14 @@ use table_machine::{Key, Shared, TableWords, TicketWords, WaiterWords};
 
 // What workers leave behind at a table, by CPU: their keys, traces, stops and turns.
 #[derive(Drop)]
-struct Back<E: Edit> {
+struct Back<E: SplitEdit> {
     keys: Vec<Key<E>>,
     traces: Vec<Vec<Entry>>,
     stops: Vec<Stop>,
     taken: Vec<u64>,
 }
 
-impl<E: Edit> Back<E> {
+impl<E: SplitEdit> Back<E> {
     // Room for what so many workers leave.
     fn with_capacity(alloc: Global, count: usize) -> Result<Back<E>, AllocError>
         ensures keys { IfOk result (λ b. (b.keys.items ≡ []) × (count ≤ vec_capacity b.keys)) }

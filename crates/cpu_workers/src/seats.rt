@@ -4,7 +4,7 @@ ghost use Rattle.std.specs.Prelude.{◌≡◌};
 ghost use Rattle.table_machine.specs.SeatViews.{IsOf};
 
 use event_log::{CpuId, LockId};
-use ipc_calls::{TowerBlock, TowerEdit};
+use ipc_calls::{TowerBlock, TowerEdit, TowerHanded};
 use layer_traits::{Mark, UsesGrantWords, Words};
 use std::marker::Model;
 use table_machine::{Key, Seat, Shared, TableWords, WaiterWords};
@@ -69,7 +69,7 @@ impl<'a, K: TableWords> Words for TowerSeat<'a, K> {
 
     ghost site = { λ s. site_of s.table };
 
-    fn mark(edit: TowerEdit) -> Mark<TowerEdit>
+    fn mark(_handed: TowerHanded, edit: TowerEdit) -> Mark<TowerEdit>
         ensures { edit_of result ≡ edit }
     {
         Mark { edit }

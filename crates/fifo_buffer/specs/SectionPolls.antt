@@ -6,7 +6,9 @@ use Rattle.event_log.specs.declared.ids.CpuId.{CpuId}
 use Rattle.event_log.specs.declared.ids.LockId.{LockId}
 use Rattle.event_log.specs.declared.ids.Tid.{Tid}
 use Rattle.event_log.specs.declared.ids.TheConstants.{THREADS}
+use Rattle.event_log.specs.declared.messages.Msg.{Msg}
 use Rattle.event_log.specs.History.{AreForeign}
+use Rattle.layer_traits.specs.declared.buffer_edits.BareBufferOut.{BareBufferOut}
 use Rattle.layer_traits.specs.declared.buffer_edits.BufferEdit.{BufferEdit}
 use Rattle.layer_traits.specs.declared.buffer_edits.BufferOut.{BufferOut}
 use Rattle.layer_traits.specs.declared.calls.Call.{Call}
@@ -29,6 +31,7 @@ use Rattle.layer_traits.specs.BufferProtocol.{BufferLock, BufferSection}
 use Rattle.layer_traits.specs.Conditions.{CvCall}
 use Rattle.layer_traits.specs.CvLaw.{Waiting}
 use Rattle.layer_traits.specs.LockLaw.{slept_for}
+use Rattle.layer_traits.specs.Payloads.{buffer_told, cv_told, lock_told, outcome_told}
 use Rattle.layer_traits.specs.Places.{home_of}
 use Rattle.layer_traits.specs.Queues.{buffer_sections}
 use Rattle.thread_blocks.specs.Queues.{same_tid}
@@ -40,6 +43,10 @@ BufferEvent = QueueEvent (CvCall BufferEdit)
 
 abbrev pub BufferOutcome : Type 0
 BufferOutcome = Outcome (QOut (CvOut BufferOut))
+
+-- what the answer of a section tells, with the message beside it
+abbrev pub outcome_of : Outcome (QOut (CvOut BareBufferOut)) → Msg → BufferOutcome
+outcome_of outcome message = outcome_told (lock_told (cv_told buffer_told)) outcome message
 
 -- an answer that is handed on at once: its caller neither sleeps for the lock nor waits
 abbrev pub is_plain_in : CvOut BufferOut → Bool

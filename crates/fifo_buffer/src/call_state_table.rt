@@ -1,14 +1,14 @@
 //! The call states of all threads.
 
-ghost use Rattle.std.specs.Prelude.{◌≡◌, ◌<◌, IfSome, is_some, replicate, slice_set};
+ghost use Rattle.std.specs.Prelude.{◌≡◌, ◌<◌, is_some, replicate, slice_set};
 ghost use Rattle.event_log.specs.declared.ids.TheConstants.{THREADS};
 ghost use Rattle.layer_traits.specs.BufferLaw.{going, no_call, call_state_of};
-ghost use Rattle.layer_traits.specs.Payloads.{buffer_brought, cv_brought, lock_brought};
-ghost use Rattle.fifo_buffer.specs.SectionPolls.{recorded_if};
+ghost use Rattle.layer_traits.specs.Payloads.{told_by};
+ghost use Rattle.fifo_buffer.specs.SectionPolls.{outcome_of, recorded_if};
 
 use crate::sections::{begin, record_section};
 use event_log::{Msg, THREADS, Tid};
-use layer_traits::{BufferOut, Call, CallState, CvOut, Effect, Outcome, QOut, Stage};
+use layer_traits::{BareBufferOut, Call, CallState, CvOut, Effect, Outcome, QOut, Stage};
 
 /// The call state of each thread.
 #[derive(Drop)]
@@ -79,21 +79,19 @@ impl CallStates {
     /// Keeps for `t`, which is in `call`, what a poll of its section answered, with the message that
     /// the answer brought, and tells whether it did.
     ///
-    /// Requires: the thread is below `THREADS`, and the message is the one that the answer brought,
-    /// if it brought one.
+    /// Requires: the thread is below `THREADS`.
     #[inline(always)]
     pub fn record_answer(
         &mut self,
         t: Tid,
         call: &Call,
-        answer: &Option<Outcome<QOut<CvOut<BufferOut>>>>,
+        answer: &Option<Outcome<QOut<CvOut<BareBufferOut>>>>,
         message: &Msg,
     ) -> bool
-        requires known { t.0 < THREADS }
-        requires brought { IfSome answer.now (λ outcome. lock_brought (cv_brought buffer_brought) outcome.out message.now) }
+        requires { t.0 < THREADS }
         ensures done { result ≡ is_some answer.now }
         ensures call_states { self.new.call_states ≡ slice_set self.old.call_states t.0 (recorded_if (going (call_state_of self.old.call_states t) call.now)
-            (going (call_state_of self.old.call_states t) call.now).stage answer.now) }
+            (going (call_state_of self.old.call_states t) call.now).stage (told_by outcome_of answer.now message.now)) }
     {
         let call_state = &mut self.call_states[usize::from(t.0)];
         begin(call_state, call);

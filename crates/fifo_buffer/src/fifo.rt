@@ -15,7 +15,7 @@ ghost use Rattle.layer_traits.specs.Queues.{buffer_sections};
 ghost use Rattle.fifo_buffer.specs.SectionPolls.{MayPollSection, Sizes, SectionPolled, calling_after, reply_at};
 
 use crate::call_state_table::CallStates;
-use crate::sections::{answers_at_once, buffer_in, load_message, reply, section};
+use crate::sections::{answers_at_once, buffer_in, reply, section};
 use arrayvec::ArrayVec;
 use event_log::{BufId, CAPACITY, CpuId, Msg, Tid};
 use layer_traits::{
@@ -69,8 +69,7 @@ impl<C: ThreadLayer<CvLaw<BufferEdit>>> Fifo<C> {
                   (going (call_state_of self.old.call_states.call_states t) call.now).stage else None;
             }) }
     {
-        load_message(&mut self.payload.message, call, stage);
-        let edit = section(t, call, stage);
+        let edit = section(t, call, stage, &mut self.payload.message);
         let buffer = buffer_in(call);
         let answer = self
             .lower

@@ -2,13 +2,13 @@
 
 ghost use Rattle.std.specs.Prelude.{◌≡◌};
 ghost use Rattle.layer_traits.specs.BufferLaw.{buffer_of, first_of, going, recorded, other_side, enlisted, reply_by, section_at, side_of, reported_by, tried, try_of};
-ghost use Rattle.layer_traits.specs.Payloads.{buffer_brought, buffer_carried, cv_brought, cv_carried, lock_brought, lock_carried};
-ghost use Rattle.event_log.specs.declared.ids.Tid.{Tid};
+ghost use Rattle.layer_traits.specs.Payloads.{buffer_meant, buffer_told, cv_meant, cv_told, lock_meant, lock_told};
+ghost use Rattle.event_log.specs.declared.messages.Msg.{Msg};
 ghost use Rattle.fifo_buffer.specs.SectionPolls.{is_at_once, reply_at};
 
 use event_log::{BufId, Kind, Msg, Tid};
 use layer_traits::{
-    BufferEdit, BufferOut, Call, CallState, CvEdit, CvLeave, CvOut, Effect, Ghost, QEdit, QOut,
+    BareBufferEdit, BareBufferOut, Call, CallState, CvEdit, CvLeave, CvOut, Effect, QEdit, QOut,
     Reply, Side, Stage,
 };
 
@@ -46,25 +46,28 @@ fn far_side(call: &Call) -> Side
 
 /// The edit with which a call enters its line, or closes the buffer.
 #[inline(always)]
-fn first_edit(t: Tid, call: &Call) -> BufferEdit
-    ensures { result ≡ first_of t call.now }
+fn first_edit(t: Tid, call: &Call) -> BareBufferEdit
+    ensures { (message : Msg) → buffer_meant result message ≡ first_of t call.now }
 {
     match call {
-        Call::Send(_, _) => BufferEdit::Enter(t, Side::Senders),
-        Call::Recv(_) => BufferEdit::Enter(t, Side::Receivers),
-        Call::Close(_) => BufferEdit::Shut(t),
+        Call::Send(_, _) => BareBufferEdit::Enter(t, Side::Senders),
+        Call::Recv(_) => BareBufferEdit::Enter(t, Side::Receivers),
+        Call::Close(_) => BareBufferEdit::Shut(t),
     }
 }
 
-/// The edit that a call tries; a close never does.
+/// The edit that a call tries; a close never does. A send lays down the message that it puts.
 #[inline(always)]
-fn next_try(t: Tid, call: &Call) -> BufferEdit
-    ensures { result ≡ try_of t call.now }
+fn next_try(t: Tid, call: &Call, message: &mut Msg) -> BareBufferEdit
+    ensures { buffer_meant result message.new ≡ try_of t call.now }
 {
     match call {
-        Call::Send(_, message) => BufferEdit::TryPut(t, Ghost::of(message)),
-        Call::Recv(_) => BufferEdit::TryTake(t),
-        Call::Close(_) => BufferEdit::Shut(t),
+        Call::Send(_, put) => {
+            *message = *put;
+            BareBufferEdit::TryPut(t)
+        }
+        Call::Recv(_) => BareBufferEdit::TryTake(t),
+        Call::Close(_) => BareBufferEdit::Shut(t),
     }
 }
 
@@ -86,28 +89,21 @@ fn answer_by(call: &Call, kind: Kind, value: &Msg) -> Reply
     }
 }
 
-/// Lays down the message that the section of `call` at this stage puts, if it puts one: a send's,
+/// The section of a call at a stage. Lays down the message that it puts, if it puts one: a send's,
 /// where it tries.
 #[inline(always)]
-pub fn load_message(message: &mut Msg, call: &Call, stage: Stage)
-    ensures { (t : Tid) → lock_carried (cv_carried buffer_carried) (section_at t call.now stage) message.new }
-{
-    if stage == Stage::Tries {
-        if let Call::Send(_, put) = call {
-            *message = *put;
-        }
-    }
-}
-
-/// The section of a call at a stage.
-#[inline(always)]
-pub fn section(t: Tid, call: &Call, stage: Stage) -> QEdit<CvEdit<BufferEdit>, CvLeave>
-    ensures { result ≡ section_at t call.now stage }
+pub fn section(
+    t: Tid,
+    call: &Call,
+    stage: Stage,
+    message: &mut Msg,
+) -> QEdit<CvEdit<BareBufferEdit>, CvLeave>
+    ensures { lock_meant (cv_meant buffer_meant) result message.new ≡ section_at t call.now stage }
 {
     match stage {
         Stage::Idle | Stage::Acquires | Stage::AcquiresAgain => QEdit::Acquire(t),
         Stage::Enters => QEdit::Inside(CvEdit::Edit(first_edit(t, call))),
-        Stage::Tries => QEdit::Inside(CvEdit::Edit(next_try(t, call))),
+        Stage::Tries => QEdit::Inside(CvEdit::Edit(next_try(t, call, message))),
         Stage::Waits => QEdit::Release(CvLeave::Wait(t, own_side(call))),
         Stage::Signals => QEdit::Inside(CvEdit::SignalFront(t, far_side(call))),
         Stage::SignalsOwn => QEdit::Inside(CvEdit::SignalFront(t, own_side(call))),
@@ -131,15 +127,15 @@ pub fn begin(call_state: &mut CallState, call: &Call)
 /// Keeps what a thread that entered its line was told: its position; or what one that closed the
 /// buffer was told: its effect.
 #[inline(always)]
-fn record_entry(call_state: &mut CallState, out: &QOut<CvOut<BufferOut>>)
-    ensures { call_state.new ≡ enlisted call_state.old (reported_by out.now) }
+fn record_entry(call_state: &mut CallState, out: &QOut<CvOut<BareBufferOut>>)
+    ensures { (message : Msg) → call_state.new ≡ enlisted call_state.old (reported_by (lock_told (cv_told buffer_told) out.now message)) }
 {
     match out {
-        QOut::Did(CvOut::Did(BufferOut::Entered(position))) => {
+        QOut::Did(CvOut::Did(BareBufferOut::Entered(position))) => {
             call_state.stage = Stage::Tries;
             call_state.position = *position;
         }
-        QOut::Did(CvOut::Did(BufferOut::WasShut(op, pos))) => {
+        QOut::Did(CvOut::Did(BareBufferOut::WasShut(op, pos))) => {
             call_state.stage = Stage::Signals;
             call_state.effect = Some(Effect {
                 kind: Kind::Close,
@@ -148,7 +144,7 @@ fn record_entry(call_state: &mut CallState, out: &QOut<CvOut<BufferOut>>)
                 pos: *pos,
             });
         }
-        QOut::Did(CvOut::Did(BufferOut::NotYet | BufferOut::Done(_, _, _))) => {}
+        QOut::Did(CvOut::Did(BareBufferOut::NotYet | BareBufferOut::Done(_, _))) => {}
         QOut::Did(CvOut::Signalled(_, _) | CvOut::Left | CvOut::Waited(_)) => {}
         QOut::Acquired | QOut::Queued | QOut::Released(_) => {}
     }
@@ -157,12 +153,11 @@ fn record_entry(call_state: &mut CallState, out: &QOut<CvOut<BufferOut>>)
 /// Keeps what a thread that tried was told: its effect, with the message that the answer brought, or
 /// that it has to wait.
 #[inline(always)]
-fn record_try(call_state: &mut CallState, out: &QOut<CvOut<BufferOut>>, message: &Msg)
-    requires { lock_brought (cv_brought buffer_brought) out.now message.now }
-    ensures { call_state.new ≡ tried call_state.old (reported_by out.now) }
+fn record_try(call_state: &mut CallState, out: &QOut<CvOut<BareBufferOut>>, message: &Msg)
+    ensures { call_state.new ≡ tried call_state.old (reported_by (lock_told (cv_told buffer_told) out.now message.now)) }
 {
     match out {
-        QOut::Did(CvOut::Did(BufferOut::Done(kind, op, _))) => {
+        QOut::Did(CvOut::Did(BareBufferOut::Done(kind, op))) => {
             call_state.stage = Stage::Signals;
             call_state.effect = Some(Effect {
                 kind: *kind,
@@ -179,12 +174,9 @@ fn record_try(call_state: &mut CallState, out: &QOut<CvOut<BufferOut>>, message:
 
 /// Keeps what the section of the call state's stage answered, with the message that the answer brought:
 /// the call state is at the next stage then.
-///
-/// Requires: the message is the one that the answer brought, if it brought one.
 #[inline(always)]
-pub fn record_section(call_state: &mut CallState, out: &QOut<CvOut<BufferOut>>, message: &Msg)
-    requires { lock_brought (cv_brought buffer_brought) out.now message.now }
-    ensures { call_state.new ≡ recorded call_state.old call_state.old.stage out.now }
+pub fn record_section(call_state: &mut CallState, out: &QOut<CvOut<BareBufferOut>>, message: &Msg)
+    ensures { call_state.new ≡ recorded call_state.old call_state.old.stage (lock_told (cv_told buffer_told) out.now message.now) }
 {
     match call_state.stage {
         Stage::Idle => {}

@@ -23,7 +23,8 @@ pub use stepwise::{
     tower_is_stepwise,
 };
 pub use tower::{
-    LockEdit, TowerBlock, TowerEdit, TowerLaws, TowerLockLaws, TowerOver, part_over, tower_blocks,
+    LockEdit, TowerBlock, TowerEdit, TowerHanded, TowerLaws, TowerLockLaws, TowerOver, part_over,
+    tower_blocks,
 };
 pub use whole::{WholeBuffers, calls_are_whole};
 

@@ -19,10 +19,10 @@ use condvar::Cond;
 use event_log::{CpuId, LockId, NoMemory};
 use fifo_buffer::{Fifo, empty_blocks};
 use layer_traits::{
-    BufferBlock, BufferEdit, BufferLaw, BufferOut, CallLayer, CvEdit, CvLaw, CvLeave, CvOut,
-    IpcLaw, Layer, LockLaw, LockStateOf, LockingOf, OwnedLocks, QLockLaw, QOut, QueueBlock,
-    QueueEdit, QueueEvent, QueueLaw, SchedCall, SchedLaw, SectionOf, SleepLaw, SleepStateOf,
-    SleepingOf, ThreadsOf, WaitingOf,
+    BareBufferEdit, BufferBlock, BufferEdit, BufferLaw, BufferOut, CallLayer, CvEdit, CvLaw,
+    CvLeave, CvOut, IpcLaw, Layer, LockLaw, LockStateOf, LockingOf, OwnedLocks, QLockLaw, QOut,
+    QueueBlock, QueueEdit, QueueEvent, QueueLaw, SchedCall, SchedLaw, SectionOf, SleepLaw,
+    SleepStateOf, SleepingOf, ThreadsOf, WaitingOf,
 };
 use queuing_lock::{QBlock, QLock, QLockEdit, lock_blocks};
 use scheduler::Sched;
@@ -36,6 +36,9 @@ pub type LockEdit = QLockEdit<CvEdit<BufferEdit>, CvLeave>;
 
 /// What a section of the tower does to the block of its lock.
 pub type TowerEdit = QueueEdit<SleepEdit<LockEdit>>;
+
+/// What layers hand on of a [`TowerEdit`]: its message lies in the payload.
+pub type TowerHanded = QueueEdit<SleepEdit<QLockEdit<CvEdit<BareBufferEdit>, CvLeave>>>;
 
 /// What a lock of the tower guards: a pending queue, or a buffer under its lock and waiting lists.
 pub type TowerBlock = QueueBlock<SleepBlock<QBlock<BufferBlock>>>;

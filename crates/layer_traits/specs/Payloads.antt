@@ -1,6 +1,10 @@
--- What lies in the payload beside an edit or an answer: the message that is put or brought, and the threads that were taken.
-use Rattle.std.specs.Prelude.{◌≡◌}
+-- What an edit means, and what an answer tells, with the payload beside it: the message that is put or brought, and the threads that were taken.
+use Rattle.std.specs.Prelude.{Option, option_map}
 use Rattle.event_log.specs.declared.messages.Msg.{Msg}
+use Rattle.layer_traits.specs.declared.buffer_edits.BareBufferEdit.{BareBufferEdit}
+use Rattle.layer_traits.specs.declared.buffer_edits.BareBufferEdit.TheVariants as bare
+use Rattle.layer_traits.specs.declared.buffer_edits.BareBufferOut.{BareBufferOut}
+use Rattle.layer_traits.specs.declared.buffer_edits.BareBufferOut.TheVariants as brought
 use Rattle.layer_traits.specs.declared.buffer_edits.BufferEdit.{BufferEdit}
 use Rattle.layer_traits.specs.declared.buffer_edits.BufferEdit.TheVariants.{Enter, TryPut, TryTake, Shut}
 use Rattle.layer_traits.specs.declared.buffer_edits.BufferOut.{BufferOut}
@@ -15,6 +19,8 @@ use Rattle.layer_traits.specs.declared.locked.QOut.{QOut}
 use Rattle.layer_traits.specs.declared.locked.QOut.TheVariants as lock
 use Rattle.layer_traits.specs.declared.queue_edits.QueueEdit.{QueueEdit}
 use Rattle.layer_traits.specs.declared.queue_edits.QueueEdit.TheVariants as edit
+use Rattle.layer_traits.specs.declared.queues.BareQueueAnswer.{BareQueueAnswer}
+use Rattle.layer_traits.specs.declared.queues.BareQueueAnswer.TheVariants as bare_queue
 use Rattle.layer_traits.specs.declared.queues.QueueAnswer.{QueueAnswer}
 use Rattle.layer_traits.specs.declared.queues.QueueAnswer.TheVariants as queue
 use Rattle.layer_traits.specs.declared.queues.QueueCall.{QueueCall}
@@ -23,71 +29,80 @@ use Rattle.layer_traits.specs.declared.scheds.SchedAnswer.{SchedAnswer}
 use Rattle.layer_traits.specs.declared.scheds.SchedAnswer.TheVariants as sched
 use Rattle.layer_traits.specs.declared.scheds.SchedCall.{SchedCall}
 use Rattle.layer_traits.specs.declared.scheds.SchedCall.TheVariants as call
+use Rattle.layer_traits.specs.declared.sleeps.Outcome.{Outcome}
 use Rattle.layer_traits.specs.declared.payloads.Payload.{Payload}
 
--- the payload holds what an edit of shared queues puts: what that of the layer above puts
-abbrev pub queue_carried : {E : Type 0} → (E → Payload → Type 0) → QueueEdit E → Payload → Type 0
-queue_carried carried (edit.Push t) payload = Unit {0}
-queue_carried carried edit.TakeAll payload = Unit {0}
-queue_carried carried (edit.Above e) payload = carried e payload
+-- what the answer of a poll tells, if there is one
+abbrev pub told_by : {B P T : Type 0} → (B → P → T) → Option B → P → Option T
+told_by told brought payload = option_map (λ b. told b payload) brought
 
--- the payload holds what an answer of shared queues brings: the threads that were taken, or what the answer of the layer above brings
-abbrev pub queue_brought : {O : Type 0} → (O → Payload → Type 0) → QueueAnswer O → Payload → Type 0
-queue_brought brought queue.Done payload = Unit {0}
-queue_brought brought (queue.Taken threads) payload = threads ≡ payload.taken
-queue_brought brought (queue.Answer out) payload = brought out payload
+-- the edit of shared queues that is meant by what is handed on: of the layer above, with its payload
+abbrev pub queue_meant : {H E : Type 0} → (H → Payload → E) → QueueEdit H → Payload → QueueEdit E
+queue_meant meant (edit.Push t) payload = edit.Push t
+queue_meant meant edit.TakeAll payload = edit.TakeAll
+queue_meant meant (edit.Above e) payload = edit.Above (meant e payload)
+
+-- the answer of shared queues that is told: the threads that were taken lie in the payload
+abbrev pub queue_told : {B O : Type 0} → (B → Payload → O) → BareQueueAnswer B → Payload → QueueAnswer O
+queue_told told bare_queue.Done payload = queue.Done
+queue_told told bare_queue.Taken payload = queue.Taken payload.taken
+queue_told told (bare_queue.Answer out) payload = queue.Answer (told out payload)
 
 -- the same of a call at shared queues
-abbrev pub call_carried : {E : Type 0} → (E → Payload → Type 0) → QueueCall E → Payload → Type 0
-call_carried carried (Push d t) payload = Unit {0}
-call_carried carried (TakeAll d) payload = Unit {0}
-call_carried carried (OnBuffer b e) payload = carried e payload
+abbrev pub call_meant : {H E : Type 0} → (H → Payload → E) → QueueCall H → Payload → QueueCall E
+call_meant meant (Push d t) payload = Push d t
+call_meant meant (TakeAll d) payload = TakeAll d
+call_meant meant (OnBuffer b e) payload = OnBuffer b (meant e payload)
 
 -- of a call of a scheduler
-abbrev pub sched_carried : {E : Type 0} → (E → Payload → Type 0) → SchedCall E → Payload → Type 0
-sched_carried carried (call.Pass pass) payload = Unit {0}
-sched_carried carried (call.OnBuffer b e) payload = carried e payload
+abbrev pub sched_meant : {H E : Type 0} → (H → Payload → E) → SchedCall H → Payload → SchedCall E
+sched_meant meant (call.Pass pass) payload = call.Pass pass
+sched_meant meant (call.OnBuffer b e) payload = call.OnBuffer b (meant e payload)
 
 -- of a scheduler's answer
-abbrev pub sched_brought : {O : Type 0} → (O → Payload → Type 0) → SchedAnswer O → Payload → Type 0
-sched_brought brought sched.Done payload = Unit {0}
-sched_brought brought (sched.Answer out) payload = brought out payload
+abbrev pub sched_told : {B O : Type 0} → (B → Payload → O) → SchedAnswer B → Payload → SchedAnswer O
+sched_told told sched.Done payload = sched.Done
+sched_told told (sched.Answer out) payload = sched.Answer (told out payload)
+
+-- of what a section of a sleeping layer answers
+abbrev pub outcome_told : {B O P : Type 0} → (B → P → O) → Outcome B → P → Outcome O
+outcome_told told outcome payload = record { out = told outcome.out payload; slept = outcome.slept; woke = outcome.woke }
 
 -- of a call on a queuing lock: only an edit inside puts a message
-abbrev pub lock_carried : {F R : Type 0} → (F → Msg → Type 0) → QEdit F R → Msg → Type 0
-lock_carried carried (Acquire t) message = Unit {0}
-lock_carried carried (Inside edit) message = carried edit message
-lock_carried carried (Release last) message = Unit {0}
+abbrev pub lock_meant : {H F R : Type 0} → (H → Msg → F) → QEdit H R → Msg → QEdit F R
+lock_meant meant (Acquire t) message = Acquire t
+lock_meant meant (Inside edit) message = Inside (meant edit message)
+lock_meant meant (Release last) message = Release last
 
 -- of what such a call answers
-abbrev pub lock_brought : {O : Type 0} → (O → Msg → Type 0) → QOut O → Msg → Type 0
-lock_brought brought lock.Acquired message = Unit {0}
-lock_brought brought lock.Queued message = Unit {0}
-lock_brought brought (lock.Did out) message = brought out message
-lock_brought brought (lock.Released out) message = Unit {0}
+abbrev pub lock_told : {B O : Type 0} → (B → Msg → O) → QOut B → Msg → QOut O
+lock_told told lock.Acquired message = lock.Acquired
+lock_told told lock.Queued message = lock.Queued
+lock_told told (lock.Did out) message = lock.Did (told out message)
+lock_told told (lock.Released out) message = lock.Released (told out message)
 
 -- of what the owner of a lock with conditions does inside
-abbrev pub cv_carried : {G : Type 0} → (G → Msg → Type 0) → CvEdit G → Msg → Type 0
-cv_carried carried (Edit edit) message = carried edit message
-cv_carried carried (SignalFront t side) message = Unit {0}
+abbrev pub cv_meant : {H G : Type 0} → (H → Msg → G) → CvEdit H → Msg → CvEdit G
+cv_meant meant (Edit edit) message = Edit (meant edit message)
+cv_meant meant (SignalFront t side) message = SignalFront t side
 
 -- of what that answers
-abbrev pub cv_brought : {O : Type 0} → (O → Msg → Type 0) → CvOut O → Msg → Type 0
-cv_brought brought (cv.Did out) message = brought out message
-cv_brought brought (cv.Signalled side front) message = Unit {0}
-cv_brought brought cv.Left message = Unit {0}
-cv_brought brought (cv.Waited side) message = Unit {0}
+abbrev pub cv_told : {B O : Type 0} → (B → Msg → O) → CvOut B → Msg → CvOut O
+cv_told told (cv.Did out) message = cv.Did (told out message)
+cv_told told (cv.Signalled side front) message = cv.Signalled side front
+cv_told told cv.Left message = cv.Left
+cv_told told (cv.Waited side) message = cv.Waited side
 
--- the message is the one that an edit of a buffer puts
-abbrev pub buffer_carried : BufferEdit → Msg → Type 0
-buffer_carried (Enter t side) message = Unit {0}
-buffer_carried (TryPut t put) message = put ≡ message
-buffer_carried (TryTake t) message = Unit {0}
-buffer_carried (Shut t) message = Unit {0}
+-- the edit of a buffer that is meant: the message is the one that it puts
+abbrev pub buffer_meant : BareBufferEdit → Msg → BufferEdit
+buffer_meant (bare.Enter t side) message = Enter t side
+buffer_meant (bare.TryPut t) message = TryPut t message
+buffer_meant (bare.TryTake t) message = TryTake t
+buffer_meant (bare.Shut t) message = Shut t
 
--- the message is the one of the effect that an edit of a buffer answers
-abbrev pub buffer_brought : BufferOut → Msg → Type 0
-buffer_brought (told.Entered position) message = Unit {0}
-buffer_brought told.NotYet message = Unit {0}
-buffer_brought (told.Done kind op value) message = value ≡ message
-buffer_brought (told.WasShut op pos) message = Unit {0}
+-- the answer of a buffer that is told: the message is the one of the effect
+abbrev pub buffer_told : BareBufferOut → Msg → BufferOut
+buffer_told (brought.Entered position) message = told.Entered position
+buffer_told brought.NotYet message = told.NotYet
+buffer_told (brought.Done kind op) message = told.Done kind op message
+buffer_told (brought.WasShut op pos) message = told.WasShut op pos

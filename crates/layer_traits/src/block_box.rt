@@ -6,7 +6,7 @@ ghost use Rattle.std.specs.Prelude.{◌≡◌, ◌<◌, ◌++◌, ◌∷◌, [],
 ghost use Rattle.event_log.specs.declared.ids.TheConstants.{THREADS};
 ghost use Rattle.thread_blocks.specs.Queues.{is_in};
 
-use crate::edits::Edit;
+use crate::edits::SplitEdit;
 use crate::payloads::Payload;
 use event_log::{NoMemory, Tid};
 use std::alloc::Global;
@@ -46,21 +46,17 @@ impl<B: Drop> BlockBox<B> {
     }
 }
 
-/// Edits what the box holds, and gives the edit's answer. Takes no memory.
-///
-/// Requires: the payload holds what the edit puts.
+/// Edits what the box holds as is meant, and gives what brings the edit's answer. Takes no memory.
 #[inline(always)]
-pub fn edit_in_box<E: Edit>(
+pub fn edit_in_box<E: SplitEdit>(
     boxed: &mut BlockBox<E::Block>,
-    edit: &E,
+    handed: &E::Handed,
     payload: &mut Payload,
-) -> E::Out
-    requires carried { E.carried edit.now payload.old }
-    ensures block { boxed.new ≡ E.rules.edited edit.now boxed.old }
-    ensures answer { result ≡ E.rules.answer edit.now boxed.old }
-    ensures brought { E.brought result payload.new }
+) -> E::Brought
+    ensures block { boxed.new ≡ E.rules.edited (E.meant handed.now payload.old) boxed.old }
+    ensures answer { E.told result payload.new ≡ E.rules.answer (E.meant handed.now payload.old) boxed.old }
 {
-    edit.apply(&mut boxed.content, payload)
+    E::apply_handed(handed, &mut boxed.content, payload)
 }
 
 /// Puts `t` behind the others of the queue that the box holds.

@@ -6,13 +6,13 @@ ghost use Rattle.std.specs.Prelude.{◌≡◌, ◌≤◌, ◌++◌, ◌∷◌, [
 ghost use Rattle.event_log.specs.declared.ids.TheConstants.{CAPACITY};
 ghost use Rattle.layer_traits.specs.declared.buffer_edits.BufferEdit.TheVariants.{Enter, TryPut, TryTake, Shut};
 ghost use Rattle.layer_traits.specs.declared.locked.Side.TheVariants.{Receivers, Senders};
-ghost use Rattle.layer_traits.specs.Payloads.{buffer_brought};
+ghost use Rattle.event_log.specs.declared.messages.Msg.{Msg};
+ghost use Rattle.layer_traits.specs.Payloads.{buffer_told};
 ghost use Rattle.layer_traits.specs.BufferBlocks.{buffer_answer, buffer_edited, empty_block, front_ready, is_first, may_go, may_join};
 
-use crate::buffer_edits::{BufferEdit, BufferOut};
-use crate::conditions::Guarded;
+use crate::buffer_edits::{BareBufferEdit, BareBufferOut, BufferEdit, BufferOut};
+use crate::conditions::{Guarded, WholeGuarded};
 use crate::locked::Side;
-use crate::payloads::{Ghost, Payload};
 use arrayvec::ArrayVec;
 use event_log::{CAPACITY, Kind, Msg, Ring, THREADS, Tid};
 use std::marker::Model;
@@ -106,9 +106,9 @@ impl BufferBlock {
     }
 
     /// Lets `t` enter the line of this side, and gives its position in it.
-    fn enter(&mut self, t: Tid, side: Side) -> BufferOut
+    fn enter(&mut self, t: Tid, side: Side) -> BareBufferOut
         ensures block { self.new ≡ buffer_edited (Enter t side) self.old }
-        ensures answer { result ≡ buffer_answer (Enter t side) self.old }
+        ensures answer { (message : Msg) → buffer_told result message ≡ buffer_answer (Enter t side) self.old }
     {
         match side {
             Side::Receivers => {
@@ -116,52 +116,51 @@ impl BufferBlock {
                 if join(&mut self.receive_line, t) {
                     self.receives = position.wrapping_add(1);
                 }
-                BufferOut::Entered(position)
+                BareBufferOut::Entered(position)
             }
             Side::Senders => {
                 let position = self.sends;
                 if join(&mut self.send_line, t) {
                     self.sends = position.wrapping_add(1);
                 }
-                BufferOut::Entered(position)
+                BareBufferOut::Entered(position)
             }
         }
     }
 
     /// Puts `message` for `t`, where it stands first in the send line and there is room; a closed
     /// buffer takes no message, and tells `t` that it is closed.
-    fn put(&mut self, t: Tid, message: &Msg) -> BufferOut
+    fn put(&mut self, t: Tid, message: &Msg) -> BareBufferOut
         ensures block { self.new ≡ buffer_edited (TryPut t message.now) self.old }
-        ensures answer { result ≡ buffer_answer (TryPut t message.now) self.old }
+        ensures answer { buffer_told result message.now ≡ buffer_answer (TryPut t message.now) self.old }
     {
         if !leads(&self.send_line, t) {
-            return BufferOut::NotYet;
+            return BareBufferOut::NotYet;
         }
         if !self.may_put() {
-            return BufferOut::NotYet;
+            return BareBufferOut::NotYet;
         }
         let op = self.effects;
         let _ = self.send_line.pop();
         self.effects = op.wrapping_add(1);
         if self.closed {
-            return BufferOut::Done(Kind::SendClosed, op, Ghost::of(message));
+            return BareBufferOut::Done(Kind::SendClosed, op);
         }
         self.items.put(*message);
-        BufferOut::Done(Kind::Send, op, Ghost::of(message))
+        BareBufferOut::Done(Kind::Send, op)
     }
 
-    /// Takes the first item for `t` into `message`, where it stands first in the receive line and there is one; a
-    /// buffer that is closed and has none tells `t` that it is closed.
-    fn take(&mut self, t: Tid, message: &mut Msg) -> BufferOut
+    /// Takes the first item for `t` into `message`, where it stands first in the receive line and
+    /// there is one; a buffer that is closed and has none tells `t` that it is closed.
+    fn take(&mut self, t: Tid, message: &mut Msg) -> BareBufferOut
         ensures block { self.new ≡ buffer_edited (TryTake t) self.old }
-        ensures answer { result ≡ buffer_answer (TryTake t) self.old }
-        ensures brought { buffer_brought result message.new }
+        ensures answer { buffer_told result message.new ≡ buffer_answer (TryTake t) self.old }
     {
         if !leads(&self.receive_line, t) {
-            return BufferOut::NotYet;
+            return BareBufferOut::NotYet;
         }
         if !self.may_take() {
-            return BufferOut::NotYet;
+            return BareBufferOut::NotYet;
         }
         let op = self.effects;
         let _ = self.receive_line.pop();
@@ -169,27 +168,27 @@ impl BufferBlock {
         match self.items.take() {
             None => {
                 *message = Msg::none();
-                BufferOut::Done(Kind::RecvClosed, op, Ghost::of(message))
+                BareBufferOut::Done(Kind::RecvClosed, op)
             }
             Some(first) => {
                 *message = first;
-                BufferOut::Done(Kind::Recv, op, Ghost::of(message))
+                BareBufferOut::Done(Kind::Recv, op)
             }
         }
     }
 
     /// Closes the buffer, which may be closed already, and tells how many effects and how many
     /// closes it had before.
-    fn shut(&mut self, t: Tid) -> BufferOut
+    fn shut(&mut self, t: Tid) -> BareBufferOut
         ensures block { self.new ≡ buffer_edited (Shut t) self.old }
-        ensures answer { result ≡ buffer_answer (Shut t) self.old }
+        ensures answer { (message : Msg) → buffer_told result message ≡ buffer_answer (Shut t) self.old }
     {
         let op = self.effects;
         let position = self.closes;
         self.closed = true;
         self.effects = op.wrapping_add(1);
         self.closes = position.wrapping_add(1);
-        BufferOut::WasShut(op, position)
+        BareBufferOut::WasShut(op, position)
     }
 
     /// The front of this side's line, where it may go on.
@@ -242,38 +241,79 @@ fn leads(line: &ThreadQueue, t: Tid) -> bool
 
 impl Guarded for BufferEdit {
     ghost use Rattle.layer_traits.specs.BufferProtocol.{buffer_monitor_rules};
-    ghost use Rattle.layer_traits.specs.Payloads.{buffer_brought, buffer_carried};
+    ghost use Rattle.layer_traits.specs.Payloads.{buffer_meant, buffer_told};
 
     type Block = BufferBlock;
 
     type Out = BufferOut;
 
+    type Handed = BareBufferEdit;
+
+    type Brought = BareBufferOut;
+
     ghost monitor_rules = { buffer_monitor_rules };
 
-    ghost carried = { buffer_carried };
+    ghost meant = { buffer_meant };
 
-    ghost brought = { buffer_brought };
+    ghost told = { buffer_told };
 
-    fn caller(&self) -> Tid {
-        match self {
-            BufferEdit::Enter(t, _)
-            | BufferEdit::TryPut(t, _)
-            | BufferEdit::TryTake(t)
-            | BufferEdit::Shut(t) => *t,
+    fn caller(handed: &BareBufferEdit) -> Tid {
+        match handed {
+            BareBufferEdit::Enter(t, _)
+            | BareBufferEdit::TryPut(t)
+            | BareBufferEdit::TryTake(t)
+            | BareBufferEdit::Shut(t) => *t,
         }
     }
 
     #[inline(always)]
-    fn apply(&self, block: &mut BufferBlock, payload: &mut Payload) -> BufferOut {
-        match self {
-            BufferEdit::Enter(t, side) => block.enter(*t, *side),
-            BufferEdit::TryPut(t, _) => block.put(*t, &payload.message),
-            BufferEdit::TryTake(t) => block.take(*t, &mut payload.message),
-            BufferEdit::Shut(t) => block.shut(*t),
+    fn whole(handed: &BareBufferEdit, message: &Msg) -> BufferEdit {
+        match handed {
+            BareBufferEdit::Enter(t, side) => BufferEdit::Enter(*t, *side),
+            BareBufferEdit::TryPut(t) => BufferEdit::TryPut(*t, *message),
+            BareBufferEdit::TryTake(t) => BufferEdit::TryTake(*t),
+            BareBufferEdit::Shut(t) => BufferEdit::Shut(*t),
+        }
+    }
+
+    #[inline(always)]
+    fn apply_handed(
+        handed: &BareBufferEdit,
+        block: &mut BufferBlock,
+        message: &mut Msg,
+    ) -> BareBufferOut {
+        match handed {
+            BareBufferEdit::Enter(t, side) => block.enter(*t, *side),
+            BareBufferEdit::TryPut(t) => block.put(*t, message),
+            BareBufferEdit::TryTake(t) => block.take(*t, message),
+            BareBufferEdit::Shut(t) => block.shut(*t),
         }
     }
 
     fn ready(side: Side, block: &BufferBlock) -> Option<Tid> {
         block.ready(side)
+    }
+}
+
+impl WholeGuarded for BufferEdit {
+    fn hand_on(self, message: &mut Msg) -> BareBufferEdit {
+        match self {
+            BufferEdit::Enter(t, side) => BareBufferEdit::Enter(t, side),
+            BufferEdit::TryPut(t, put) => {
+                *message = put;
+                BareBufferEdit::TryPut(t)
+            }
+            BufferEdit::TryTake(t) => BareBufferEdit::TryTake(t),
+            BufferEdit::Shut(t) => BareBufferEdit::Shut(t),
+        }
+    }
+
+    fn bring_back(brought: BareBufferOut, message: &Msg) -> BufferOut {
+        match brought {
+            BareBufferOut::Entered(position) => BufferOut::Entered(position),
+            BareBufferOut::NotYet => BufferOut::NotYet,
+            BareBufferOut::Done(kind, op) => BufferOut::Done(kind, op, *message),
+            BareBufferOut::WasShut(op, position) => BufferOut::WasShut(op, position),
+        }
     }
 }

@@ -1,17 +1,18 @@
 //! The edits of a first-in first-out buffer that is guarded by a lock with conditions.
+//!
+//! No call takes memory, and none waits.
 
 use crate::locked::Side;
-use crate::payloads::Ghost;
 use event_log::{Kind, Msg, Tid};
 
 /// An edit of a buffer.
-#[derive(Drop)]
+#[derive(Clone, Copy, Debug, PartialEq, Eq)]
 pub enum BufferEdit {
     /// This thread enters the line of this side and draws its position in it.
     Enter(Tid, Side),
-    /// This thread puts this message, which lies in the payload, where it stands first in the send line and there is room; it
+    /// This thread puts this message, where it stands first in the send line and there is room; it
     /// learns that the buffer is closed, where it is.
-    TryPut(Tid, Ghost<Msg>),
+    TryPut(Tid, Msg),
     /// This thread takes the first message, where it stands first in the receive line and there is
     /// one; it learns that the buffer is closed, where it is and there is none.
     TryTake(Tid),
@@ -20,7 +21,7 @@ pub enum BufferEdit {
 }
 
 /// What an edit of a buffer answers.
-#[derive(Drop)]
+#[derive(Clone, Copy, Debug, PartialEq, Eq)]
 pub enum BufferOut {
     /// The thread has this position: how many had entered this line before it, modulo 2^64.
     Entered(u64),
@@ -28,8 +29,34 @@ pub enum BufferOut {
     /// was done.
     NotYet,
     /// An effect of this kind was done, behind this many others on the buffer, modulo 2^64, with
-    /// this message, which lies in the payload.
-    Done(Kind, u64, Ghost<Msg>),
+    /// this message.
+    Done(Kind, u64, Msg),
     /// The buffer was closed, behind this many effects on it and this many closes, modulo 2^64.
+    WasShut(u64, u64),
+}
+
+/// What layers hand on of an edit of a buffer: the message that it puts lies in the payload.
+#[derive(Clone, Copy, Debug, PartialEq, Eq)]
+pub enum BareBufferEdit {
+    /// [`BufferEdit::Enter`].
+    Enter(Tid, Side),
+    /// [`BufferEdit::TryPut`], of the message beside it.
+    TryPut(Tid),
+    /// [`BufferEdit::TryTake`].
+    TryTake(Tid),
+    /// [`BufferEdit::Shut`].
+    Shut(Tid),
+}
+
+/// What layers hand back of a buffer's answer: the message that it brings lies in the payload.
+#[derive(Clone, Copy, Debug, PartialEq, Eq)]
+pub enum BareBufferOut {
+    /// [`BufferOut::Entered`].
+    Entered(u64),
+    /// [`BufferOut::NotYet`].
+    NotYet,
+    /// [`BufferOut::Done`], with the message beside it.
+    Done(Kind, u64),
+    /// [`BufferOut::WasShut`].
     WasShut(u64, u64),
 }

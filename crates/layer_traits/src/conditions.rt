@@ -5,12 +5,11 @@
 
 ghost use Rattle.std.specs.Prelude.{◌≡◌, Option};
 
-use crate::locked::{Locked, Side, WakeWaiter};
-use crate::payloads::Payload;
-use event_log::Tid;
+use crate::locked::{Locked, Side, WakeWaiter, WholeLocked};
+use event_log::{Msg, Tid};
 
 /// What the owner of a lock with conditions does inside.
-#[derive(Drop)]
+#[derive(Clone, Copy, Debug, PartialEq, Eq)]
 pub enum CvEdit<G> {
     /// An edit of the block.
     Edit(G),
@@ -28,7 +27,7 @@ pub enum CvLeave {
 }
 
 /// What a section of a lock with conditions answers.
-#[derive(Drop)]
+#[derive(Clone, Copy, Debug, PartialEq, Eq)]
 pub enum CvOut<O> {
     /// The block was edited, with this answer.
     Did(O),
@@ -42,7 +41,7 @@ pub enum CvOut<O> {
 
 /// A pure edit of the block of a lock with conditions. The block has a line for each side, and
 /// tells whether the first of a line may go on.
-pub trait Guarded: Drop {
+pub trait Guarded: Sized + Drop {
     ghost use Rattle.event_log.specs.declared.messages.Msg.{Msg};
     ghost use Rattle.layer_traits.specs.Conditions.{MonitorRules};
 
@@ -52,67 +51,105 @@ pub trait Guarded: Drop {
     /// What an edit answers.
     type Out: Drop;
 
+    /// What is handed on of an edit.
+    type Handed: Drop;
+
+    /// What is handed back of an answer.
+    type Brought: Drop;
+
     /// What an edit means: its caller, the block that it leaves and its answer; who stands at the
     /// front of a side's line and may go on; and after which sections which CPU may do which.
     ghost monitor_rules: { MonitorRules Self Self.Block Self.Out };
 
     /// The thread that edits.
-    fn caller(&self) -> Tid
-        ensures { result ≡ monitor_rules.caller self.now };
+    fn caller(handed: &Self::Handed) -> Tid
+        ensures { (message : Msg) → result ≡ monitor_rules.caller (meant handed.now message) };
 
-    /// The message is what the edit puts, if it puts one.
-    ghost carried: { Self → Msg → Type 0 } = { λ _ _. Unit {0} };
+    /// The edit that is meant by what is handed on, with this message beside it.
+    ghost meant: { Self.Handed → Msg → Self };
 
-    /// The message is what the answer brings, if it brings one.
-    ghost brought: { Self.Out → Msg → Type 0 } = { λ _ _. Unit {0} };
+    /// The answer that is told by what is handed back, with this message beside it.
+    ghost told: { Self.Brought → Msg → Self.Out };
 
-    /// Edits `block` and gives the edit's answer. Takes no memory.
-    ///
-    /// Requires: the payload holds what the edit puts.
-    fn apply(&self, block: &mut Self::Block, payload: &mut Payload) -> Self::Out
-        requires carried { carried self.now payload.old.message }
-        ensures block { block.new ≡ monitor_rules.edited self.now block.old }
-        ensures answer { result ≡ monitor_rules.answer self.now block.old }
-        ensures brought { brought result payload.new.message };
+    /// The edit that is meant.
+    fn whole(handed: &Self::Handed, message: &Msg) -> Self
+        ensures { result ≡ meant handed.now message.now };
+
+    /// Edits `block` as is meant. The answer is told by what it returns and the message that it
+    /// leaves. Takes no memory.
+    fn apply_handed(
+        handed: &Self::Handed,
+        block: &mut Self::Block,
+        message: &mut Msg,
+    ) -> Self::Brought
+        ensures block { block.new ≡ monitor_rules.edited (meant handed.now message.old) block.old }
+        ensures answer { told result message.new ≡ monitor_rules.answer (meant handed.now message.old) block.old };
 
     /// The front of this side's line, where it may go on.
     fn ready(side: Side, block: &Self::Block) -> Option<Tid>
         ensures { result ≡ monitor_rules.ready side block.now };
 }
 
+/// An edit of the block of a lock with conditions in one piece: it is copied, and holds what it puts.
+pub trait WholeGuarded: Guarded + Copy {
+    /// What is handed on of this edit. The message that it puts lies beside it then.
+    fn hand_on(self, message: &mut Msg) -> Self::Handed
+        ensures { Self.meant result message.new ≡ self };
+
+    /// The answer in one piece, with this message beside what is handed back.
+    fn bring_back(brought: Self::Brought, message: &Msg) -> Self::Out
+        ensures { result ≡ Self.told brought message.now };
+}
+
 impl<G: Guarded> Locked for CvEdit<G> {
     ghost use Rattle.layer_traits.specs.Conditions.{cv_rules};
-    ghost use Rattle.layer_traits.specs.Payloads.{cv_brought, cv_carried};
+    ghost use Rattle.layer_traits.specs.Payloads.{cv_meant, cv_told};
 
     type Block = G::Block;
 
     type Out = CvOut<G::Out>;
 
+    type Handed = CvEdit<G::Handed>;
+
+    type Brought = CvOut<G::Brought>;
+
     type Release = CvLeave;
 
     ghost rules = { cv_rules G.monitor_rules };
 
-    ghost carried = { cv_carried G.carried };
+    ghost meant = { cv_meant G.meant };
 
-    ghost brought = { cv_brought G.brought };
+    ghost told = { cv_told G.told };
 
-    fn caller(&self) -> Tid {
-        match self {
-            CvEdit::Edit(edit) => edit.caller(),
+    fn caller(handed: &CvEdit<G::Handed>) -> Tid {
+        match handed {
+            CvEdit::Edit(edit) => G::caller(edit),
             CvEdit::SignalFront(t, _) => *t,
         }
     }
 
     #[inline(always)]
-    fn apply(&self, block: &mut G::Block, payload: &mut Payload) -> CvOut<G::Out> {
-        match self {
-            CvEdit::Edit(edit) => CvOut::Did(edit.apply(block, payload)),
+    fn whole(handed: &CvEdit<G::Handed>, message: &Msg) -> CvEdit<G> {
+        match handed {
+            CvEdit::Edit(edit) => CvEdit::Edit(G::whole(edit, message)),
+            CvEdit::SignalFront(t, side) => CvEdit::SignalFront(*t, *side),
+        }
+    }
+
+    #[inline(always)]
+    fn apply_handed(
+        handed: &CvEdit<G::Handed>,
+        block: &mut G::Block,
+        message: &mut Msg,
+    ) -> CvOut<G::Brought> {
+        match handed {
+            CvEdit::Edit(edit) => CvOut::Did(G::apply_handed(edit, block, message)),
             CvEdit::SignalFront(_, side) => CvOut::Signalled(*side, G::ready(*side, block)),
         }
     }
 
-    fn signals(out: &CvOut<G::Out>) -> WakeWaiter {
-        match out {
+    fn signals(brought: &CvOut<G::Brought>) -> WakeWaiter {
+        match brought {
             CvOut::Signalled(Side::Receivers, Some(front)) => WakeWaiter::Receiver(*front),
             CvOut::Signalled(Side::Senders, Some(front)) => WakeWaiter::Sender(*front),
             CvOut::Signalled(_, None) | CvOut::Did(_) | CvOut::Left | CvOut::Waited(_) => {
@@ -128,17 +165,35 @@ impl<G: Guarded> Locked for CvEdit<G> {
     }
 
     #[inline(always)]
-    fn apply_last(last: CvLeave, _block: &mut G::Block) -> CvOut<G::Out> {
+    fn apply_last(last: CvLeave, _block: &mut G::Block) -> CvOut<G::Brought> {
         match last {
             CvLeave::Leave(_) => CvOut::Left,
             CvLeave::Wait(_, side) => CvOut::Waited(side),
         }
     }
 
-    fn waits(out: &CvOut<G::Out>) -> Option<Side> {
-        match out {
+    fn waits(brought: &CvOut<G::Brought>) -> Option<Side> {
+        match brought {
             CvOut::Waited(side) => Some(*side),
             CvOut::Did(_) | CvOut::Signalled(_, _) | CvOut::Left => None,
+        }
+    }
+}
+
+impl<G: WholeGuarded> WholeLocked for CvEdit<G> {
+    fn hand_on(self, message: &mut Msg) -> CvEdit<G::Handed> {
+        match self {
+            CvEdit::Edit(edit) => CvEdit::Edit(edit.hand_on(message)),
+            CvEdit::SignalFront(t, side) => CvEdit::SignalFront(t, side),
+        }
+    }
+
+    fn bring_back(brought: CvOut<G::Brought>, message: &Msg) -> CvOut<G::Out> {
+        match brought {
+            CvOut::Did(out) => CvOut::Did(G::bring_back(out, message)),
+            CvOut::Signalled(side, front) => CvOut::Signalled(side, front),
+            CvOut::Left => CvOut::Left,
+            CvOut::Waited(side) => CvOut::Waited(side),
         }
     }
 }

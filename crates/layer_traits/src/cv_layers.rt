@@ -10,7 +10,7 @@ ghost use Rattle.event_log.specs.Sections.{sections_in};
 ghost use Rattle.layer_traits.specs.Conditions.{cv_rules};
 ghost use Rattle.layer_traits.specs.LockLaw.{LockAgrees, lock_kernel, slept_for, is_handed};
 ghost use Rattle.layer_traits.specs.Locking.{AreAtRest, lock_caller, lock_moves, lock_rules};
-ghost use Rattle.layer_traits.specs.Payloads.{cv_brought, cv_carried, lock_brought, lock_carried};
+ghost use Rattle.layer_traits.specs.Payloads.{cv_meant, cv_told, lock_meant, lock_told, outcome_told};
 ghost use Rattle.layer_traits.specs.Places.{AreMoves};
 ghost use Rattle.layer_traits.specs.Plans.{table_of};
 ghost use Rattle.layer_traits.specs.QueueBlocks.{StartsWell, homes_in, inner};
@@ -54,9 +54,11 @@ pub struct CvLaw<G> {
 }
 
 impl<G: Guarded> Law for CvLaw<G> {
-    type Call = BufferCall<QEdit<CvEdit<G>, CvLeave>>;
+    type Call = BufferCall<QEdit<CvEdit<G::Handed>, CvLeave>>;
 
-    type Answer = Outcome<QOut<CvOut<G::Out>>>;
+    type Answer = Outcome<QOut<CvOut<G::Brought>>>;
+
+    type Told = Outcome<QOut<CvOut<G::Out>>>;
 
     type Block = QueueBlock<LockStateOf<G::Block>>;
 
@@ -72,14 +74,14 @@ impl<G: Guarded> Law for CvLaw<G> {
 
     ghost cpu_of_event = { cpu_of_queue_event };
 
-    ghost begun = { λ cpu call. sched.OnBuffer call.buffer call.edit };
+    ghost told = { λ outcome payload. outcome_told (lock_told (cv_told G.told)) outcome payload.message };
 
     ghost allowed = { λ opening. QueueAllowed (lock_kernel (cv_rules G.monitor_rules) opening) };
 
-    ghost IsThere = { λ opening call. IsSome (opening (Buffer call.buffer)) };
+    ghost IsThere = { λ opening call payload. IsSome (opening (Buffer call.buffer)) };
 
-    ghost IsLocal = { λ own call. IsSome (slept_for own.waits (lock_caller (cv_rules G.monitor_rules) call.edit))
-        ⊎ IsSome (slept_for own.lock.slept (lock_caller (cv_rules G.monitor_rules) call.edit)) };
+    ghost IsLocal = { λ own call payload. IsSome (slept_for own.waits (lock_caller (cv_rules G.monitor_rules) (lock_meant (cv_meant G.meant) call.edit payload.message)))
+        ⊎ IsSome (slept_for own.lock.slept (lock_caller (cv_rules G.monitor_rules) (lock_meant (cv_meant G.meant) call.edit payload.message))) };
 
     ghost AreHomes = { λ homes. length homes ≤ THREADS };
 
@@ -87,24 +89,23 @@ impl<G: Guarded> Law for CvLaw<G> {
 
     ghost Boots = { λ opening seen homes cpu. (seen ≡ []) × (homes_in opening ≡ homes) × IsSome (opening (Pending cpu)) × AreAtRest (inner opening) };
 
-    ghost MayPoll = { λ opening cpu seen own under_way call. MayCallCond G.monitor_rules (lock_kernel (cv_rules G.monitor_rules) opening) cpu seen own
-        under_way call.buffer call.edit };
+    ghost MayPoll = { λ opening cpu seen own under_way call payload. MayCallCond G.monitor_rules (lock_kernel (cv_rules G.monitor_rules) opening)
+        cpu seen own under_way call.buffer (lock_meant (cv_meant G.meant) call.edit payload.message) };
 
-    ghost carried = { λ call payload. lock_carried (cv_carried G.carried) call.edit payload.message };
+    ghost LeavesBegun = { λ _ _ _ _ _. Unit {0} };
 
-    ghost brought = { λ outcome payload. lock_brought (cv_brought G.brought) outcome.out payload.message };
+    ghost Polled = { λ opening ActsFor cpu call payload told old new own own' begun. CvPolled G.monitor_rules (lock_kernel (cv_rules G.monitor_rules) opening)
+        ActsFor cpu call.buffer (lock_meant (cv_meant G.meant) call.edit payload.message)
+        (slept_for own.waits (lock_caller (cv_rules G.monitor_rules) (lock_meant (cv_meant G.meant) call.edit payload.message)))
+        old new own begun (record { own = own'; answer = told }) };
 
-    ghost LeavesBegun = { λ _ _ _ _. Unit {0} };
-
-    ghost Polled = { λ opening ActsFor cpu call result old new own own' begun. CvPolled G.monitor_rules (lock_kernel (cv_rules G.monitor_rules) opening)
-        ActsFor cpu call.buffer call.edit (slept_for own.waits (lock_caller (cv_rules G.monitor_rules) call.edit)) old new own begun
-        (record { own = own'; answer = result }) };
-
-    ghost IsPrompt = { λ call result own own'. result ≡ None → MustStay (lock_caller (cv_rules G.monitor_rules) call.edit) call.buffer own own' };
+    ghost IsPrompt = { λ call payload result own own'. result ≡ None → MustStay (lock_caller (cv_rules G.monitor_rules) (lock_meant (cv_meant G.meant) call.edit payload.message))
+        call.buffer own own' };
 
     ghost table = { table_of (queue_rules (lock_rules (cv_rules G.monitor_rules)) (lock_moves (cv_rules G.monitor_rules))) };
 
-    ghost plan = { λ opening cpu call own. cv_plan (lock_moves (cv_rules G.monitor_rules)) (homes_in opening) cpu call.buffer call.edit own };
+    ghost plan = { λ opening cpu call payload own. cv_plan (lock_moves (cv_rules G.monitor_rules)) (homes_in opening) cpu call.buffer
+        (lock_meant (cv_meant G.meant) call.edit payload.message) own };
 
     ghost events_in = { λ acts. map event_of (sections_in acts) };
 

@@ -2,11 +2,12 @@
 //!
 //! No call takes memory, and none waits.
 
-ghost use Rattle.std.specs.Prelude.{◌≡◌, ℕ, ◌<◌, true, false, Bool, List, [], Option, None, Some, IsSome, IfSome, OnSome, is_some, if◌then◌else◌};
+ghost use Rattle.std.specs.Prelude.{◌≡◌, ℕ, ◌<◌, true, false, Bool, List, [], Option, None, Some, IsSome, OnSome, is_some, if◌then◌else◌};
 ghost use Rattle.event_log.specs.declared.ids.CpuId.{CpuId};
 ghost use Rattle.event_log.specs.declared.ids.LockId.{LockId};
 ghost use Rattle.event_log.specs.Actions.{Action, AreLegal, phase};
 ghost use Rattle.layer_traits.specs.declared.payloads.Payload.{Payload};
+ghost use Rattle.layer_traits.specs.Payloads.{told_by};
 ghost use Rattle.layer_traits.specs.Plans.{Plan, Table, Follows, is_in_section};
 ghost use Rattle.event_log.specs.declared.ids.TheConstants.{CPUS};
 ghost use Rattle.event_log.specs.History.{IsLawful, Grows};
@@ -18,11 +19,14 @@ use event_log::{CpuId, LockId};
 
 /// What a layer promises of its calls. The rest, which every layer promises, is in `Layer`.
 pub trait Law {
-    /// A call.
+    /// What is handed on of a call. A message that the call puts lies in the payload beside it.
     type Call: Drop;
 
-    /// What a call answers.
+    /// What is handed back of an answer. A message that it brings lies in the payload beside it.
     type Answer: Drop;
+
+    /// What a call answers.
+    type Told;
 
     /// What a lock guards.
     type Block;
@@ -45,17 +49,17 @@ pub trait Law {
     /// The CPU of an event.
     ghost cpu_of_event: { Self.Event → CpuId };
 
-    /// The call of a CPU, once it has begun.
-    ghost begun: { CpuId → Self.Call → Self.Begun };
+    /// What an answer tells, with this payload beside it.
+    ghost told: { Self.Answer → Payload → Self.Told };
 
     /// From the opening blocks on, after which events which may come.
     ghost allowed: { (LockId → Option Self.Block) → List Self.Event → Self.Event → Type 0 };
 
     /// The lock of a call is there.
-    ghost IsThere: { (LockId → Option Self.Block) → Self.Call → Type 0 };
+    ghost IsThere: { (LockId → Option Self.Block) → Self.Call → Payload → Type 0 };
 
     /// With this own state of the part, the call touches nothing shared.
-    ghost IsLocal: { Self.State → Self.Call → Type 0 } = { λ _ _. ⊥ };
+    ghost IsLocal: { Self.State → Self.Call → Payload → Type 0 } = { λ _ _ _. ⊥ };
 
     /// The homes are those of a boot.
     ghost AreHomes: { List CpuId → Type 0 } = { λ _. Unit {0} };
@@ -67,31 +71,25 @@ pub trait Law {
     ghost Boots: { (LockId → Option Self.Block) → List Self.Event → List CpuId → CpuId → Type 0 } = { λ _ _ _ _. Unit {0} };
 
     /// A call may be polled: at its first poll it may come, and after that it is the one under way.
-    ghost MayPoll: { (LockId → Option Self.Block) → CpuId → List Self.Event → Self.State → Option Self.Begun → Self.Call → Type 0 };
-
-    /// The payload holds what the call puts.
-    ghost carried: { Self.Call → Payload → Type 0 };
-
-    /// The payload holds what the answer brings.
-    ghost brought: { Self.Answer → Payload → Type 0 };
+    ghost MayPoll: { (LockId → Option Self.Block) → CpuId → List Self.Event → Self.State → Option Self.Begun → Self.Call → Payload → Type 0 };
 
     /// Which call is under way after a poll with this answer, as far as the answer tells.
-    ghost LeavesBegun: { CpuId → Self.Call → Option Self.Answer → Option Self.Begun → Type 0 };
+    ghost LeavesBegun: { CpuId → Self.Call → Payload → Option Self.Answer → Option Self.Begun → Type 0 };
 
     /// What a poll adds to the events, makes of what the part has of its own, leaves under way, and
     /// answers.
-    ghost Polled: { (LockId → Option Self.Block) → (CpuId → Type 0) → CpuId → Self.Call → Option Self.Answer → List Self.Event → List Self.Event
-        → Self.State → Self.State → Option Self.Begun → Type 0 };
+    ghost Polled: { (LockId → Option Self.Block) → (CpuId → Type 0) → CpuId → Self.Call → Payload → Option Self.Told
+        → List Self.Event → List Self.Event → Self.State → Self.State → Option Self.Begun → Type 0 };
 
     /// What the poll of a whole machine makes of what the part has of its own: it answers, or the law
     /// tells why it does not.
-    ghost IsPrompt: { Self.Call → Option Self.Answer → Self.State → Self.State → Type 0 } = { λ _ result _ _. IsSome result };
+    ghost IsPrompt: { Self.Call → Payload → Option Self.Answer → Self.State → Self.State → Type 0 } = { λ _ _ result _ _. IsSome result };
 
     /// What the names of sections mean.
     ghost table: { Table Self.Name Self.Block Self.Reply };
 
     /// What a poll is to do.
-    ghost plan: { (LockId → Option Self.Block) → CpuId → Self.Call → Self.State → Plan Self.Name Self.Reply Self.State Self.Answer };
+    ghost plan: { (LockId → Option Self.Block) → CpuId → Self.Call → Payload → Self.State → Plan Self.Name Self.Reply Self.State Self.Told };
 
     /// The events that these actions are.
     ghost events_in: { List (Action Self.Name) → List Self.Event };
@@ -204,9 +202,11 @@ pub trait Layer<L: Law> {
     /// Does at most one action of `call`. Returns its answer once the call has ended, and `None` while
     /// the same call is to be polled again. A call that touches nothing shared answers at once.
     ///
+    /// A message that the call puts lies in the payload at each poll, and one that its answer
+    /// brings lies there afterwards.
+    ///
     /// Requires: part and machine agree, the lock of the call is there, there is room for an event,
-    /// the call is one that may come now (while one is under way, the same call), and the payload
-    /// holds what it puts.
+    /// and the call is one that may come now: while one is under way, the same call.
     fn poll(
         &mut self,
         m: &mut Self::Machine,
@@ -214,21 +214,19 @@ pub trait Layer<L: Law> {
         payload: &mut Payload,
     ) -> Option<L::Answer>
         requires fits { Fits self.old m.old }
-        requires there { L.IsThere (opening m.old) call }
+        requires there { L.IsThere (opening m.old) call payload.old }
         requires room { 0 < room m.old }
-        requires call { L.MayPoll (opening m.old) (cpu_of self.old) (seen m.old) (own self.old) (under_way self.old) call }
-        requires carried { L.carried call payload.old }
-        ensures call { L.LeavesBegun (cpu_of self.old) call result (under_way self.new) }
-        ensures prompt { IsWhole → L.IsPrompt call result (own self.old) (own self.new) }
-        ensures brought { IfSome result (λ answer. L.brought answer payload.new) }
-        ensures seen { L.Polled (opening m.old) (ActsFor m.old) (cpu_of self.old) call result (seen m.old) (seen m.new)
-            (own self.old) (own self.new) (under_way self.new) }
-        ensures still { L.IsLocal (own self.old) call → m.new ≡ m.old }
+        requires call { L.MayPoll (opening m.old) (cpu_of self.old) (seen m.old) (own self.old) (under_way self.old) call payload.old }
+        ensures call { L.LeavesBegun (cpu_of self.old) call payload.old result (under_way self.new) }
+        ensures prompt { IsWhole → L.IsPrompt call payload.old result (own self.old) (own self.new) }
+        ensures seen { L.Polled (opening m.old) (ActsFor m.old) (cpu_of self.old) call payload.old (told_by L.told result payload.new)
+            (seen m.old) (seen m.new) (own self.old) (own self.new) (under_way self.new) }
+        ensures still { L.IsLocal (own self.old) call payload.old → m.new ≡ m.old }
         ensures framed { Framed Fits cpu_of opening site room ActsFor MayHold self.old self.new m.old m.new }
-        ensures outside { OnSome result ((L.IsLocal (own self.old) call → ⊥) → IsOutside m.new (cpu_of self.old)) }
+        ensures outside { OnSome result ((L.IsLocal (own self.old) call payload.old → ⊥) → IsOutside m.new (cpu_of self.old)) }
         ensures follows { IsStepwise → Follows (ActsFor m.old) L.table (opening m.old) (cpu_of self.old)
-            (L.plan (opening m.old) (cpu_of self.old) call (own self.old))
-            (acts m.old) (acts m.new) (record { own = own self.new; answer = result }) };
+            (L.plan (opening m.old) (cpu_of self.old) call payload.old (own self.old))
+            (acts m.old) (acts m.new) (record { own = own self.new; answer = told_by L.told result payload.new }) };
 
     /// Law: a part that agrees with a machine is of a CPU for which the machine's holder acts.
     ghost own_cpu: { (p : Self) (m : Self.Machine) → Fits p m → ActsFor m (cpu_of p) };

@@ -4,8 +4,8 @@
 //! A layer on a layer meets its trait by the polls of the one beneath. Here shared queues over locks:
 //!
 //! ```text
-//! fn poll(&mut self, m: &mut L::Machine, call: QueueCall<E>, payload: &mut Payload)
-//!     -> Option<QueueAnswer<E::Out>>
+//! fn poll(&mut self, m: &mut L::Machine, call: QueueCall<E::Handed>, payload: &mut Payload)
+//!     -> Option<BareQueueAnswer<E::Brought>>
 //! {
 //!     self.lower.poll(m, section_of(call), payload)
 //! }
@@ -56,20 +56,20 @@ mod words;
 
 pub use block_box::BlockBox;
 pub use buffer_blocks::BufferBlock;
-pub use buffer_edits::{BufferEdit, BufferOut};
+pub use buffer_edits::{BareBufferEdit, BareBufferOut, BufferEdit, BufferOut};
 pub use buffer_layers::{BufferLaw, BufferLayer};
 pub use call_layers::{CallLaw, CallLayer};
 pub use call_states::{CallState, Stage};
 pub use calls::{Call, Effect, Place, Reply};
-pub use conditions::{CvEdit, CvLeave, CvOut, Guarded};
+pub use conditions::{CvEdit, CvLeave, CvOut, Guarded, WholeGuarded};
 pub use cv_layers::{CvLaw, CvLayer, WaitingOf};
-pub use edits::{Edit, Mark};
+pub use edits::{Edit, Mark, SplitEdit};
 pub use grant_words::GrantWords;
 pub use homes::kept_homes;
 pub use ipc_layers::{IpcLaw, IpcLayer};
 pub use laws::{effects_are_run, one_place};
 pub use layers::{Law, Layer};
-pub use locked::{Locked, QEdit, QOut, Side, WakeWaiter};
+pub use locked::{Locked, QEdit, QOut, Side, WakeWaiter, WholeLocked};
 pub use locks::{LockCall, LockLaw, LockLayer, SectionOf};
 pub use moves::{Moves, WaitList};
 pub use owned::Owned;
@@ -86,10 +86,10 @@ pub use passes::Pass;
 pub use payloads::{Ghost, Payload};
 pub use qlock_layers::{LockStateOf, LockingOf, QLockLaw, QLockLayer};
 pub use queue_edits::{QueueBlock, QueueEdit};
-pub use queues::{QueueAnswer, QueueCall, QueueEvent, QueueLaw, QueueLayer};
+pub use queues::{BareQueueAnswer, QueueAnswer, QueueCall, QueueEvent, QueueLaw, QueueLayer};
 pub use scheds::{SchedAnswer, SchedCall, SchedLaw, SchedLayer, ThreadsOf};
 pub use sleep_layers::{BufferCall, SleepLaw, SleepLayer, SleepStateOf, SleepingOf};
-pub use sleeps::{Outcome, Sleeps, Wake};
+pub use sleeps::{Outcome, Sleeps, Wake, WholeSleeps};
 pub use steps::{Reason, Step};
 pub use stepwise::{Prompt, Stepwise};
 pub use threads::{ThreadLaw, ThreadLayer};

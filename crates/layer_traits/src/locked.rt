@@ -4,8 +4,7 @@
 
 ghost use Rattle.std.specs.Prelude.{◌≡◌};
 
-use crate::payloads::Payload;
-use event_log::Tid;
+use event_log::{Msg, Tid};
 
 /// On which side of a buffer a thread waits.
 #[derive(Clone, Copy, Debug, PartialEq, Eq)]
@@ -28,7 +27,7 @@ pub enum WakeWaiter {
 }
 
 /// A call on a queuing lock.
-#[derive(Drop)]
+#[derive(Clone, Copy, Debug, PartialEq, Eq)]
 pub enum QEdit<F, R> {
     /// This thread asks for the lock. It owns it at once if nobody does, and else sleeps until the
     /// owner hands it over.
@@ -40,7 +39,7 @@ pub enum QEdit<F, R> {
 }
 
 /// What a call on a queuing lock answers.
-#[derive(Drop)]
+#[derive(Clone, Copy, Debug, PartialEq, Eq)]
 pub enum QOut<O> {
     /// The caller owns the lock.
     Acquired,
@@ -54,7 +53,7 @@ pub enum QOut<O> {
 
 /// An edit inside a queuing lock. It says whom it signals; a last edit says on which side its
 /// caller waits, if it does.
-pub trait Locked: Drop {
+pub trait Locked: Sized + Drop {
     ghost use Rattle.event_log.specs.declared.messages.Msg.{Msg};
     ghost use Rattle.layer_traits.specs.Locking.{LockRules};
 
@@ -63,6 +62,12 @@ pub trait Locked: Drop {
 
     /// What an edit answers.
     type Out: Drop;
+
+    /// What is handed on of an edit.
+    type Handed: Drop;
+
+    /// What is handed back of an answer.
+    type Brought: Drop;
 
     /// The last edit of an owner, with which it releases the lock.
     type Release: Copy + Drop;
@@ -73,39 +78,55 @@ pub trait Locked: Drop {
     ghost rules: { LockRules Self Self.Release Self.Block Self.Out };
 
     /// The thread that calls.
-    fn caller(&self) -> Tid
-        ensures { result ≡ rules.caller self.now };
+    fn caller(handed: &Self::Handed) -> Tid
+        ensures { (message : Msg) → result ≡ rules.caller (meant handed.now message) };
 
-    /// The message is what the edit puts, if it puts one.
-    ghost carried: { Self → Msg → Type 0 } = { λ _ _. Unit {0} };
+    /// The edit that is meant by what is handed on, with this message beside it.
+    ghost meant: { Self.Handed → Msg → Self };
 
-    /// The message is what the answer of an edit brings, if it brings one. No last edit puts or
-    /// brings any.
-    ghost brought: { Self.Out → Msg → Type 0 } = { λ _ _. Unit {0} };
+    /// The answer that is told by what is handed back, with this message beside it.
+    ghost told: { Self.Brought → Msg → Self.Out };
 
-    /// Edits `block` and gives the edit's answer. Takes no memory.
-    ///
-    /// Requires: the payload holds what the edit puts.
-    fn apply(&self, block: &mut Self::Block, payload: &mut Payload) -> Self::Out
-        requires carried { carried self.now payload.old.message }
-        ensures block { block.new ≡ rules.edited self.now block.old }
-        ensures answer { result ≡ rules.answer self.now block.old }
-        ensures brought { brought result payload.new.message };
+    /// The edit that is meant.
+    fn whole(handed: &Self::Handed, message: &Msg) -> Self
+        ensures { result ≡ meant handed.now message.now };
+
+    /// Edits `block` as is meant. The answer is told by what it returns and the message that it
+    /// leaves. Takes no memory.
+    fn apply_handed(
+        handed: &Self::Handed,
+        block: &mut Self::Block,
+        message: &mut Msg,
+    ) -> Self::Brought
+        ensures block { block.new ≡ rules.edited (meant handed.now message.old) block.old }
+        ensures answer { told result message.new ≡ rules.answer (meant handed.now message.old) block.old };
 
     /// Whom the edit that answered this signals.
-    fn signals(out: &Self::Out) -> WakeWaiter
-        ensures { result ≡ rules.signals out.now };
+    fn signals(brought: &Self::Brought) -> WakeWaiter
+        ensures { (message : Msg) → result ≡ rules.signals (told brought.now message) };
 
     /// The thread that calls with this last edit.
     fn last_caller(last: Self::Release) -> Tid
         ensures { result ≡ rules.last_caller last };
 
-    /// Does the last edit of an owner on `block` and gives its answer. Takes no memory.
-    fn apply_last(last: Self::Release, block: &mut Self::Block) -> Self::Out
+    /// Does the last edit of an owner on `block`. Whatever message lies beside it, the answer is told
+    /// by what it returns. Takes no memory.
+    fn apply_last(last: Self::Release, block: &mut Self::Block) -> Self::Brought
         ensures block { block.new ≡ rules.last_edited last block.old }
-        ensures answer { result ≡ rules.last_answer last block.old };
+        ensures answer { (message : Msg) → told result message ≡ rules.last_answer last block.old };
 
     /// On which side the caller of the last edit that answered this waits; `None` where it goes on.
-    fn waits(out: &Self::Out) -> Option<Side>
-        ensures { result ≡ rules.waits out.now };
+    fn waits(brought: &Self::Brought) -> Option<Side>
+        ensures { (message : Msg) → result ≡ rules.waits (told brought.now message) };
+}
+
+/// An edit inside a queuing lock in one piece: it is copied, and holds what it puts.
+pub trait WholeLocked: Locked + Copy {
+    /// What is handed on of this edit. The message that it puts lies beside it then.
+    fn hand_on(self, message: &mut Msg) -> Self::Handed
+        ensures { Self.meant result message.new ≡ self };
+
+    /// The answer in one piece, with this message beside what is handed back.
+    fn bring_back(brought: Self::Brought, message: &Msg) -> Self::Out
+        ensures { result ≡ Self.told brought message.now };
 }

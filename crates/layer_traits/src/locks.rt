@@ -8,17 +8,17 @@ ghost use Rattle.layer_traits.specs.Protocol.{section};
 ghost use Rattle.layer_traits.specs.Plans.{section_plan, table_of};
 ghost use Rattle.layer_traits.specs.Polls.{MayPoll, Polled, until_answered};
 
-use crate::edits::Edit;
+use crate::edits::SplitEdit;
 use crate::layers::{Law, Layer};
 use event_log::{CpuId, LockId};
 use std::marker::{Model, PhantomData};
 
-/// A section: one edit of what a lock guards.
-#[derive(Drop)]
+/// A section as layers hand it on: one edit of what a lock guards.
+#[derive(Clone, Copy, Debug, PartialEq, Eq)]
 pub struct LockCall<E> {
     /// The lock.
     pub lock: LockId,
-    /// The edit.
+    /// What is handed on of the edit.
     pub edit: E,
 }
 
@@ -40,10 +40,12 @@ pub struct LockLaw<E> {
     edits: PhantomData<E>,
 }
 
-impl<E: Edit> Law for LockLaw<E> {
-    type Call = LockCall<E>;
+impl<E: SplitEdit> Law for LockLaw<E> {
+    type Call = LockCall<E::Handed>;
 
-    type Answer = E::Out;
+    type Answer = E::Brought;
+
+    type Told = E::Out;
 
     type Block = E::Block;
 
@@ -59,33 +61,31 @@ impl<E: Edit> Law for LockLaw<E> {
 
     ghost cpu_of_event = { cpu_of_section };
 
-    ghost begun = { λ cpu call. section cpu call.lock call.edit };
+    ghost told = { E.told };
 
     ghost allowed = { E.rules.allowed };
 
-    ghost IsThere = { λ opening call. IsSome (opening call.lock) };
+    ghost IsThere = { λ opening call payload. IsSome (opening call.lock) };
 
     ghost at_boot = { λ homes cpu. tt };
 
-    ghost MayPoll = { λ opening cpu seen own under_way call. MayPoll (E.rules.allowed opening) seen under_way (section cpu call.lock call.edit) };
+    ghost MayPoll = { λ opening cpu seen own under_way call payload. MayPoll (E.rules.allowed opening) seen under_way
+        (section cpu call.lock (E.meant call.edit payload)) };
 
-    ghost carried = { λ call payload. E.carried call.edit payload };
+    ghost LeavesBegun = { λ cpu call payload result begun. begun ≡ until_answered result (section cpu call.lock (E.meant call.edit payload)) };
 
-    ghost brought = { E.brought };
-
-    ghost LeavesBegun = { λ cpu call result begun. begun ≡ until_answered result (section cpu call.lock call.edit) };
-
-    ghost Polled = { λ opening ActsFor cpu call result old new own own' begun. Polled E.rules opening ActsFor (section cpu call.lock call.edit) result old new };
+    ghost Polled = { λ opening ActsFor cpu call payload told old new own own' begun. Polled E.rules opening ActsFor
+        (section cpu call.lock (E.meant call.edit payload)) told old new };
 
     ghost table = { table_of E.rules };
 
-    ghost plan = { λ opening cpu call own. section_plan call.lock call.edit };
+    ghost plan = { λ opening cpu call payload own. section_plan call.lock (E.meant call.edit payload) };
 
     ghost events_in = { sections_in };
 }
 
 /// One CPU's part of a layer of critical sections. A poll does at most one atomic action of the
 /// section `(lock, edit)`. To the layers above a section is one event.
-pub trait LockLayer<E: Edit>: Layer<LockLaw<E>> {}
+pub trait LockLayer<E: SplitEdit>: Layer<LockLaw<E>> {}
 
-impl<E: Edit, X: Layer<LockLaw<E>>> LockLayer<E> for X {}
+impl<E: SplitEdit, X: Layer<LockLaw<E>>> LockLayer<E> for X {}

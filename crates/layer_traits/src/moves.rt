@@ -4,7 +4,7 @@
 
 ghost use Rattle.std.specs.Prelude.{◌≡◌};
 
-use crate::edits::Edit;
+use crate::edits::SplitEdit;
 use event_log::Tid;
 
 /// The lines in which a thread may sleep at what a lock guards.
@@ -20,19 +20,20 @@ pub enum WaitList {
 
 /// Edits that move threads: the answer of each tells whether its caller went to sleep, and whom it
 /// woke.
-pub trait Moves: Edit {
+pub trait Moves: SplitEdit {
+    ghost use Rattle.layer_traits.specs.declared.payloads.Payload.{Payload};
     ghost use Rattle.layer_traits.specs.MoveRules.{MoveRules, WakesSleepers};
 
     /// Who calls an edit, and what its answer tells of places.
     ghost moves: { MoveRules Self Self.Out };
 
     /// The line in which the caller went to sleep; None where it stays awake.
-    fn slept(out: &Self::Out) -> Option<WaitList>
-        ensures { result ≡ moves.slept out.now };
+    fn slept(brought: &Self::Brought) -> Option<WaitList>
+        ensures { (payload : Payload) → result ≡ moves.slept (Self.told brought.now payload) };
 
     /// The thread that was woken; None where nobody was.
-    fn woke(out: &Self::Out) -> Option<Tid>
-        ensures { result ≡ moves.woke out.now };
+    fn woke(brought: &Self::Brought) -> Option<Tid>
+        ensures { (payload : Payload) → result ≡ moves.woke (Self.told brought.now payload) };
 
     /// Law: whom an allowed edit wakes sleeps.
     ghost wakes_sleepers: { WakesSleepers Self.rules moves };

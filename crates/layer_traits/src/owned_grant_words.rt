@@ -4,7 +4,7 @@
 
 ghost use Rattle.std.specs.Prelude.{◌≡◌, ◌<◌, [], Option, Some, IsSome, IfOk, MatchOption, option_map};
 
-use crate::edits::Edit;
+use crate::edits::SplitEdit;
 use crate::grant_words::GrantWords;
 use event_log::{LockId, NoMemory};
 use std::alloc::Global;
@@ -29,7 +29,7 @@ pub trait OwnedGrantWords: GrantWords {
     /// Errors: `NoMemory` where an allocation was refused; then the blocks are gone.
     fn open(
         alloc: Global,
-        blocks: Vec<(LockId, <Self::Edit as Edit>::Block)>,
+        blocks: Vec<(LockId, <Self::Edit as SplitEdit>::Block)>,
         room: usize,
     ) -> Result<Self, NoMemory>
         requires distinct { AreDistinct blocks.items }
@@ -41,7 +41,7 @@ pub trait OwnedGrantWords: GrantWords {
     /// The block of `lock`; `None` where it is in the hands of a CPU.
     ///
     /// Requires: the holder acts for some CPU, and the lock is there.
-    fn block(&self, lock: LockId) -> Option<&<Self::Edit as Edit>::Block>
+    fn block(&self, lock: LockId) -> Option<&<Self::Edit as SplitEdit>::Block>
         requires acts { (c : CpuId) × Self.ActsFor self.now c }
         requires lock { IsSome (Self.opening self.now lock) }
         ensures { option_map (λ block. block.now) result ≡ block_at self.now lock };

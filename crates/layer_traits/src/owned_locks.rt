@@ -4,7 +4,7 @@
 
 ghost use Rattle.std.specs.Prelude.{◌≡◌, ◌<◌, [], true, Option, IsSome, IfOk, option_map};
 
-use crate::edits::Edit;
+use crate::edits::SplitEdit;
 use crate::layers::Layer;
 use crate::locks::LockLaw;
 use event_log::{LockId, NoMemory};
@@ -12,7 +12,7 @@ use std::alloc::Global;
 
 /// A layer of critical sections whose machine is opened with its blocks and tells of those that are
 /// at home, and whose parts tell of those in their CPU's hands.
-pub trait OwnedLocks<E: Edit>: Layer<LockLaw<E>> {
+pub trait OwnedLocks<E: SplitEdit>: Layer<LockLaw<E>> {
     ghost use Rattle.event_log.specs.declared.ids.CpuId.{CpuId};
     ghost use Rattle.event_log.specs.declared.ids.LockId.{LockId};
     ghost use Rattle.event_log.specs.declared.ids.TheConstants.{CPUS};

@@ -7,12 +7,12 @@ ghost use Rattle.event_log.specs.Messages.{no_message};
 
 use event_log::Msg;
 use std::marker::Model;
+use std::mem;
 use std::snapshot::Snapshot;
 use thread_blocks::{ThreadList, ThreadQueue};
 
-/// A `T` that is meant and not carried: clauses see the value, which has no bytes at run time. So an
-/// edit or an answer names what lies in its [`Payload`], and is handed from layer to layer for the price
-/// of the rest.
+/// A `T` for clauses alone: they see the value, which has no bytes at run time. So a part keeps what a
+/// call meant for the price of nothing.
 #[derive(Drop)]
 pub struct Ghost<T> {
     value: Snapshot<T>,
@@ -25,7 +25,7 @@ impl<T> Model for Ghost<T> {
 }
 
 impl<T> Ghost<T> {
-    /// This value, meant.
+    /// This value.
     #[inline(always)]
     pub fn of(value: &T) -> Ghost<T>
         ensures { result ≡ value.now }
@@ -36,8 +36,8 @@ impl<T> Ghost<T> {
     }
 }
 
-/// What lies beside an edit on its way to a block, and beside its answer on the way back: the layers
-/// hand on one reference to it, and nobody copies what it holds.
+/// What lies beside an edit on its way to a block, and beside its answer on the way back. The
+/// layers hand on one reference to it.
 #[derive(Drop)]
 pub struct Payload {
     /// The message that an edit puts, or that its answer brings.
@@ -56,5 +56,14 @@ impl Payload {
             message: Msg::none(),
             taken: ThreadQueue::new().take(),
         }
+    }
+
+    /// Takes the threads out, and leaves none.
+    pub fn take_threads(&mut self) -> ThreadList
+        ensures taken { result ≡ self.old.taken }
+        ensures none { self.new.taken ≡ [] }
+        ensures message { self.new.message ≡ self.old.message }
+    {
+        mem::replace(&mut self.taken, ThreadQueue::new().take())
     }
 }

@@ -8,7 +8,7 @@ ghost use Rattle.layer_traits.specs.LockLaw.{Locking, at_start, LockAgrees, Lock
 ghost use Rattle.event_log.specs.declared.ids.LockId.TheVariants.{Buffer, Pending};
 ghost use Rattle.event_log.specs.declared.ids.TheConstants.{THREADS};
 ghost use Rattle.event_log.specs.Sections.{sections_in};
-ghost use Rattle.layer_traits.specs.Payloads.{lock_brought, lock_carried};
+ghost use Rattle.layer_traits.specs.Payloads.{lock_meant, lock_told, outcome_told};
 ghost use Rattle.layer_traits.specs.Places.{AreMoves};
 ghost use Rattle.layer_traits.specs.Plans.{table_of};
 ghost use Rattle.layer_traits.specs.QueueBlocks.{StartsWell, homes_in, inner};
@@ -62,9 +62,11 @@ pub struct QLockLaw<F> {
 }
 
 impl<F: Locked> Law for QLockLaw<F> {
-    type Call = BufferCall<QEdit<F, F::Release>>;
+    type Call = BufferCall<QEdit<F::Handed, F::Release>>;
 
-    type Answer = Outcome<QOut<F::Out>>;
+    type Answer = Outcome<QOut<F::Brought>>;
+
+    type Told = Outcome<QOut<F::Out>>;
 
     type Block = QueueBlock<LockStateOf<F::Block>>;
 
@@ -80,13 +82,13 @@ impl<F: Locked> Law for QLockLaw<F> {
 
     ghost cpu_of_event = { cpu_of_queue_event };
 
-    ghost begun = { λ cpu call. sched.OnBuffer call.buffer call.edit };
+    ghost told = { λ outcome payload. outcome_told (lock_told F.told) outcome payload.message };
 
     ghost allowed = { λ opening. QueueAllowed (lock_kernel F.rules opening) };
 
-    ghost IsThere = { λ opening call. IsSome (opening (Buffer call.buffer)) };
+    ghost IsThere = { λ opening call payload. IsSome (opening (Buffer call.buffer)) };
 
-    ghost IsLocal = { λ own call. IsSome (slept_for own.slept (lock_caller F.rules call.edit)) };
+    ghost IsLocal = { λ own call payload. IsSome (slept_for own.slept (lock_caller F.rules (lock_meant F.meant call.edit payload.message))) };
 
     ghost AreHomes = { λ homes. length homes ≤ THREADS };
 
@@ -94,22 +96,21 @@ impl<F: Locked> Law for QLockLaw<F> {
 
     ghost Boots = { λ opening seen homes cpu. (seen ≡ []) × (homes_in opening ≡ homes) × IsSome (opening (Pending cpu)) × AreAtRest (inner opening) };
 
-    ghost MayPoll = { λ opening cpu seen own under_way call. MayCallLock F.rules (lock_kernel F.rules opening) cpu seen own under_way call.buffer call.edit };
+    ghost MayPoll = { λ opening cpu seen own under_way call payload. MayCallLock F.rules (lock_kernel F.rules opening) cpu seen own under_way
+        call.buffer (lock_meant F.meant call.edit payload.message) };
 
-    ghost carried = { λ call payload. lock_carried F.carried call.edit payload.message };
+    ghost LeavesBegun = { λ _ _ _ _ _. Unit {0} };
 
-    ghost brought = { λ outcome payload. lock_brought F.brought outcome.out payload.message };
+    ghost Polled = { λ opening ActsFor cpu call payload told old new own own' begun. LockPolled F.rules (lock_kernel F.rules opening) ActsFor cpu
+        call.buffer (lock_meant F.meant call.edit payload.message) (slept_for own.slept (lock_caller F.rules (lock_meant F.meant call.edit payload.message)))
+        old new own begun (record { own = own'; answer = told }) };
 
-    ghost LeavesBegun = { λ _ _ _ _. Unit {0} };
-
-    ghost Polled = { λ opening ActsFor cpu call result old new own own' begun. LockPolled F.rules (lock_kernel F.rules opening) ActsFor cpu
-        call.buffer call.edit (slept_for own.slept (lock_caller F.rules call.edit)) old new own begun (record { own = own'; answer = result }) };
-
-    ghost IsPrompt = { λ call result own own'. result ≡ None → MustWait (lock_caller F.rules call.edit) call.buffer own own' };
+    ghost IsPrompt = { λ call payload result own own'. result ≡ None → MustWait (lock_caller F.rules (lock_meant F.meant call.edit payload.message)) call.buffer own own' };
 
     ghost table = { table_of (queue_rules (lock_rules F.rules) (lock_moves F.rules)) };
 
-    ghost plan = { λ opening cpu call own. lock_plan (lock_moves F.rules) (homes_in opening) cpu call.buffer call.edit own };
+    ghost plan = { λ opening cpu call payload own. lock_plan (lock_moves F.rules) (homes_in opening) cpu call.buffer
+        (lock_meant F.meant call.edit payload.message) own };
 
     ghost events_in = { λ acts. map event_of (sections_in acts) };
 

@@ -3,17 +3,17 @@
 //! No call takes memory, and none waits.
 
 use crate::block_box::{BlockBox, edit_in_box, push_in, take_from};
-use crate::edits::Edit;
+use crate::edits::{Edit, SplitEdit};
 use crate::moves::Moves;
-use crate::payloads::{Ghost, Payload};
-use crate::queues::QueueAnswer;
+use crate::payloads::Payload;
+use crate::queues::{BareQueueAnswer, QueueAnswer};
 use arrayvec::ArrayVec;
 use event_log::{CpuId, THREADS, Tid};
 use std::snapshot::Snapshot;
 use thread_blocks::ThreadQueue;
 
 /// An edit at shared queues: of a pending queue, or of a block of the layer above.
-#[derive(Drop)]
+#[derive(Clone, Copy, Debug, PartialEq, Eq)]
 pub enum QueueEdit<E> {
     /// Puts a thread at the end of the queue.
     Push(Tid),
@@ -34,46 +34,82 @@ pub enum QueueBlock<B> {
     Above(BlockBox<B>),
 }
 
-impl<E: Moves> Edit for QueueEdit<E> {
+impl<E: Moves> SplitEdit for QueueEdit<E> {
     ghost use Rattle.layer_traits.specs.QueueRules.{queue_rules};
-    ghost use Rattle.layer_traits.specs.Payloads.{queue_brought, queue_carried};
+    ghost use Rattle.layer_traits.specs.Payloads.{queue_meant, queue_told};
 
     type Block = QueueBlock<E::Block>;
 
     type Out = QueueAnswer<E::Out>;
 
+    type Handed = QueueEdit<E::Handed>;
+
+    type Brought = BareQueueAnswer<E::Brought>;
+
     ghost rules = { queue_rules E.rules E.moves };
 
-    ghost carried = { queue_carried E.carried };
+    ghost meant = { queue_meant E.meant };
 
-    ghost brought = { queue_brought E.brought };
+    ghost told = { queue_told E.told };
 
     #[inline(always)]
-    fn apply(
-        &self,
+    fn whole(handed: &QueueEdit<E::Handed>, payload: &Payload) -> QueueEdit<E> {
+        match handed {
+            QueueEdit::Push(t) => QueueEdit::Push(*t),
+            QueueEdit::TakeAll => QueueEdit::TakeAll,
+            QueueEdit::Above(edit) => QueueEdit::Above(E::whole(edit, payload)),
+        }
+    }
+
+    #[inline(always)]
+    fn apply_handed(
+        handed: &QueueEdit<E::Handed>,
         block: &mut QueueBlock<E::Block>,
         payload: &mut Payload,
-    ) -> QueueAnswer<E::Out> {
-        match self {
+    ) -> BareQueueAnswer<E::Brought> {
+        match handed {
             QueueEdit::Push(t) => {
                 if let QueueBlock::Queue(queue, _) = block {
                     if usize::from(t.0) < THREADS && !queue.content().contains(*t) {
                         push_in(queue, *t);
                     }
                 }
-                QueueAnswer::Done
+                BareQueueAnswer::Done
             }
             QueueEdit::TakeAll => match block {
                 QueueBlock::Queue(queue, _) => {
                     payload.taken = take_from(queue);
-                    QueueAnswer::Taken(Ghost::of(&payload.taken))
+                    BareQueueAnswer::Taken
                 }
-                QueueBlock::Above(_) => QueueAnswer::Done,
+                QueueBlock::Above(_) => BareQueueAnswer::Done,
             },
             QueueEdit::Above(edit) => match block {
-                QueueBlock::Queue(_, _) => QueueAnswer::Done,
-                QueueBlock::Above(above) => QueueAnswer::Answer(edit_in_box(above, edit, payload)),
+                QueueBlock::Queue(_, _) => BareQueueAnswer::Done,
+                QueueBlock::Above(above) => {
+                    BareQueueAnswer::Answer(edit_in_box::<E>(above, edit, payload))
+                }
             },
+        }
+    }
+}
+
+impl<E: Moves + Edit> Edit for QueueEdit<E> {
+    fn hand_on(self, payload: &mut Payload) -> QueueEdit<E::Handed> {
+        match self {
+            QueueEdit::Push(t) => QueueEdit::Push(t),
+            QueueEdit::TakeAll => QueueEdit::TakeAll,
+            QueueEdit::Above(edit) => QueueEdit::Above(edit.hand_on(payload)),
+        }
+    }
+
+    fn bring_back(
+        brought: BareQueueAnswer<E::Brought>,
+        payload: &mut Payload,
+    ) -> QueueAnswer<E::Out> {
+        match brought {
+            BareQueueAnswer::Done => QueueAnswer::Done,
+            BareQueueAnswer::Taken => QueueAnswer::Taken(payload.take_threads()),
+            BareQueueAnswer::Answer(out) => QueueAnswer::Answer(E::bring_back(out, payload)),
         }
     }
 }

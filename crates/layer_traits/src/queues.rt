@@ -4,7 +4,7 @@
 
 ghost use Rattle.std.specs.Prelude.{◌≡◌, IsSome, map};
 ghost use Rattle.event_log.specs.Sections.{sections_in};
-ghost use Rattle.layer_traits.specs.Payloads.{call_carried, queue_brought};
+ghost use Rattle.layer_traits.specs.Payloads.{call_meant, queue_told};
 ghost use Rattle.layer_traits.specs.Plans.{table_of};
 ghost use Rattle.layer_traits.specs.Polls.{until_answered};
 ghost use Rattle.layer_traits.specs.QueueBlocks.{StartsWell};
@@ -13,14 +13,13 @@ ghost use Rattle.layer_traits.specs.Queues.{MayQueue, QueueAllowed, QueuePolled,
 
 use crate::layers::{Law, Layer};
 use crate::moves::Moves;
-use crate::payloads::Ghost;
 use crate::queue_edits::{QueueBlock, QueueEdit};
 use event_log::{BufId, CpuId, Tid};
 use std::marker::PhantomData;
 use thread_blocks::ThreadList;
 
 /// A call at shared queues.
-#[derive(Drop)]
+#[derive(Clone, Copy, Debug, PartialEq, Eq)]
 pub enum QueueCall<E> {
     /// Puts a thread at the end of the pending queue of a CPU.
     Push(CpuId, Tid),
@@ -44,9 +43,20 @@ pub struct QueueEvent<E> {
 pub enum QueueAnswer<O> {
     /// The thread was pushed.
     Done,
-    /// The threads that were taken, in their order: they lie in the payload.
-    Taken(Ghost<ThreadList>),
+    /// The threads that were taken, in their order.
+    Taken(ThreadList),
     /// What the edit answers.
+    Answer(O),
+}
+
+/// What layers hand back of an answer at shared queues: threads that it brings lie in the payload.
+#[derive(Clone, Copy, Debug, PartialEq, Eq)]
+pub enum BareQueueAnswer<O> {
+    /// [`QueueAnswer::Done`].
+    Done,
+    /// [`QueueAnswer::Taken`], of the threads beside it.
+    Taken,
+    /// [`QueueAnswer::Answer`].
     Answer(O),
 }
 
@@ -58,9 +68,11 @@ pub struct QueueLaw<E> {
 }
 
 impl<E: Moves> Law for QueueLaw<E> {
-    type Call = QueueCall<E>;
+    type Call = QueueCall<E::Handed>;
 
-    type Answer = QueueAnswer<E::Out>;
+    type Answer = BareQueueAnswer<E::Brought>;
+
+    type Told = QueueAnswer<E::Out>;
 
     type Block = QueueBlock<E::Block>;
 
@@ -76,27 +88,25 @@ impl<E: Moves> Law for QueueLaw<E> {
 
     ghost cpu_of_event = { cpu_of_queue_event };
 
-    ghost begun = { event };
+    ghost told = { queue_told E.told };
 
     ghost allowed = { λ opening. QueueAllowed (kernel E.rules E.moves opening) };
 
-    ghost IsThere = { λ opening call. IsSome (opening (lock_of call)) };
+    ghost IsThere = { λ opening call payload. IsSome (opening (lock_of call)) };
 
     ghost at_boot = { λ homes cpu. tt };
 
-    ghost MayPoll = { λ opening cpu seen own under_way call. MayQueue (QueueAllowed (kernel E.rules E.moves opening)) seen under_way (event cpu call) };
+    ghost MayPoll = { λ opening cpu seen own under_way call payload. MayQueue (QueueAllowed (kernel E.rules E.moves opening)) seen under_way
+        (event cpu (call_meant E.meant call payload)) };
 
-    ghost carried = { call_carried E.carried };
+    ghost LeavesBegun = { λ cpu call payload result begun. begun ≡ until_answered result (event cpu (call_meant E.meant call payload)) };
 
-    ghost brought = { queue_brought E.brought };
-
-    ghost LeavesBegun = { λ cpu call result begun. begun ≡ until_answered result (event cpu call) };
-
-    ghost Polled = { λ opening ActsFor cpu call result old new own own' begun. QueuePolled (kernel E.rules E.moves opening) ActsFor (event cpu call) result old new };
+    ghost Polled = { λ opening ActsFor cpu call payload told old new own own' begun. QueuePolled (kernel E.rules E.moves opening) ActsFor
+        (event cpu (call_meant E.meant call payload)) told old new };
 
     ghost table = { table_of (queue_rules E.rules E.moves) };
 
-    ghost plan = { λ opening cpu call own. queue_plan call };
+    ghost plan = { λ opening cpu call payload own. queue_plan (call_meant E.meant call payload) };
 
     ghost events_in = { λ acts. map event_of (sections_in acts) };
 

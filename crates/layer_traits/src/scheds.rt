@@ -5,7 +5,7 @@ ghost use Rattle.layer_traits.specs.Places.{Threads, at_boot, Stands};
 ghost use Rattle.event_log.specs.declared.ids.LockId.TheVariants.{Pending};
 ghost use Rattle.event_log.specs.declared.ids.TheConstants.{THREADS};
 ghost use Rattle.event_log.specs.Sections.{sections_in};
-ghost use Rattle.layer_traits.specs.Payloads.{sched_brought, sched_carried};
+ghost use Rattle.layer_traits.specs.Payloads.{sched_meant, sched_told};
 ghost use Rattle.layer_traits.specs.Plans.{table_of};
 ghost use Rattle.layer_traits.specs.Polls.{until_answered};
 ghost use Rattle.layer_traits.specs.QueueBlocks.{StartsWell, homes_in};
@@ -23,7 +23,7 @@ use event_log::{BufId, Tid};
 use std::marker::{Model, PhantomData};
 
 /// A call of a CPU's scheduler.
-#[derive(Drop)]
+#[derive(Clone, Copy, Debug, PartialEq, Eq)]
 pub enum SchedCall<E> {
     /// Passes from thread to thread.
     Pass(Pass),
@@ -32,7 +32,7 @@ pub enum SchedCall<E> {
 }
 
 /// What a call of a scheduler answers.
-#[derive(Drop)]
+#[derive(Clone, Copy, Debug, PartialEq, Eq)]
 pub enum SchedAnswer<O> {
     /// The pass is done.
     Done,
@@ -61,9 +61,11 @@ pub struct SchedLaw<E> {
 }
 
 impl<E: Moves> Law for SchedLaw<E> {
-    type Call = SchedCall<E>;
+    type Call = SchedCall<E::Handed>;
 
-    type Answer = SchedAnswer<E::Out>;
+    type Answer = SchedAnswer<E::Brought>;
+
+    type Told = SchedAnswer<E::Out>;
 
     type Block = QueueBlock<E::Block>;
 
@@ -79,13 +81,13 @@ impl<E: Moves> Law for SchedLaw<E> {
 
     ghost cpu_of_event = { cpu_of_queue_event };
 
-    ghost begun = { λ cpu call. call };
+    ghost told = { sched_told E.told };
 
     ghost allowed = { λ opening. QueueAllowed (kernel E.rules E.moves opening) };
 
-    ghost IsThere = { BufferIsThere };
+    ghost IsThere = { λ opening call payload. BufferIsThere opening call };
 
-    ghost IsLocal = { λ own call. IsLocal call };
+    ghost IsLocal = { λ own call payload. IsLocal call };
 
     ghost AreHomes = { λ homes. length homes ≤ THREADS };
 
@@ -93,19 +95,17 @@ impl<E: Moves> Law for SchedLaw<E> {
 
     ghost Boots = { λ opening seen homes cpu. (seen ≡ []) × (homes_in opening ≡ homes) × IsSome (opening (Pending cpu)) };
 
-    ghost MayPoll = { λ opening cpu seen own under_way call. MaySched (kernel E.rules E.moves opening) cpu seen own under_way call };
+    ghost MayPoll = { λ opening cpu seen own under_way call payload. MaySched (kernel E.rules E.moves opening) cpu seen own under_way
+        (sched_meant E.meant call payload) };
 
-    ghost carried = { sched_carried E.carried };
+    ghost LeavesBegun = { λ cpu call payload result begun. begun ≡ until_answered result (sched_meant E.meant call payload) };
 
-    ghost brought = { sched_brought E.brought };
-
-    ghost LeavesBegun = { λ cpu call result begun. begun ≡ until_answered result call };
-
-    ghost Polled = { λ opening ActsFor cpu call result old new own own' begun. SchedPolled (kernel E.rules E.moves opening) ActsFor cpu call result old new own own' };
+    ghost Polled = { λ opening ActsFor cpu call payload told old new own own' begun. SchedPolled (kernel E.rules E.moves opening) ActsFor cpu
+        (sched_meant E.meant call payload) told old new own own' };
 
     ghost table = { table_of (queue_rules E.rules E.moves) };
 
-    ghost plan = { λ opening cpu call own. sched_plan E.moves (homes_in opening) cpu call own };
+    ghost plan = { λ opening cpu call payload own. sched_plan E.moves (homes_in opening) cpu (sched_meant E.meant call payload) own };
 
     ghost events_in = { λ acts. map event_of (sections_in acts) };
 

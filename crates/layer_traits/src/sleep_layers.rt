@@ -10,6 +10,7 @@ ghost use Rattle.event_log.specs.declared.ids.LockId.TheVariants.{Buffer, Pendin
 ghost use Rattle.event_log.specs.declared.ids.TheConstants.{THREADS};
 ghost use Rattle.event_log.specs.Sections.{sections_in};
 ghost use Rattle.layer_traits.specs.ListsAgree.{SleepAgrees};
+ghost use Rattle.layer_traits.specs.Payloads.{outcome_told};
 ghost use Rattle.layer_traits.specs.Plans.{table_of};
 ghost use Rattle.layer_traits.specs.Polls.{until_answered};
 ghost use Rattle.layer_traits.specs.QueueBlocks.{StartsWell, homes_in, inner};
@@ -27,12 +28,12 @@ use crate::threads::{ThreadLaw, ThreadLayer};
 use event_log::BufId;
 use std::marker::{Model, PhantomData};
 
-/// A section at the lock of a buffer: one edit of what that lock guards.
-#[derive(Drop)]
+/// A section at the lock of a buffer, as layers hand it on: one edit of what that lock guards.
+#[derive(Clone, Copy, Debug, PartialEq, Eq)]
 pub struct BufferCall<E> {
     /// The buffer.
     pub buffer: BufId,
-    /// The edit.
+    /// What is handed on of the edit.
     pub edit: E,
 }
 
@@ -73,9 +74,11 @@ pub struct SleepLaw<E> {
 }
 
 impl<E: Sleeps> Law for SleepLaw<E> {
-    type Call = BufferCall<E>;
+    type Call = BufferCall<E::Handed>;
 
-    type Answer = Outcome<E::Out>;
+    type Answer = Outcome<E::Brought>;
+
+    type Told = Outcome<E::Out>;
 
     type Block = QueueBlock<SleepStateOf<E::Block>>;
 
@@ -91,11 +94,11 @@ impl<E: Sleeps> Law for SleepLaw<E> {
 
     ghost cpu_of_event = { cpu_of_queue_event };
 
-    ghost begun = { λ cpu call. sched.OnBuffer call.buffer call.edit };
+    ghost told = { λ outcome payload. outcome_told E.told outcome payload.message };
 
     ghost allowed = { λ opening. QueueAllowed (sleep_kernel E.rules opening) };
 
-    ghost IsThere = { λ opening call. IsSome (opening (Buffer call.buffer)) };
+    ghost IsThere = { λ opening call payload. IsSome (opening (Buffer call.buffer)) };
 
     ghost AreHomes = { λ homes. length homes ≤ THREADS };
 
@@ -103,23 +106,21 @@ impl<E: Sleeps> Law for SleepLaw<E> {
 
     ghost Boots = { λ opening seen homes cpu. (seen ≡ []) × (homes_in opening ≡ homes) × IsSome (opening (Pending cpu)) × NobodySleeps (inner opening) };
 
-    ghost MayPoll = { λ opening cpu seen own under_way call. MayCall under_way (sched.OnBuffer call.buffer call.edit)
-        (MaySleep (sleep_kernel E.rules opening) cpu seen own.threads call.buffer call.edit) };
+    ghost MayPoll = { λ opening cpu seen own under_way call payload. MayCall under_way (sched.OnBuffer call.buffer (E.meant call.edit payload.message))
+        (MaySleep (sleep_kernel E.rules opening) cpu seen own.threads call.buffer (E.meant call.edit payload.message)) };
 
-    ghost carried = { λ call payload. E.carried call.edit payload.message };
+    ghost LeavesBegun = { λ cpu call payload result begun. begun ≡ until_answered result
+        (sched.OnBuffer call.buffer (E.meant call.edit payload.message)) };
 
-    ghost brought = { λ outcome payload. E.brought outcome.out payload.message };
+    ghost Polled = { λ opening ActsFor cpu call payload told old new own own' begun. SleepPolled (sleep_kernel E.rules opening) ActsFor cpu
+        call.buffer (E.meant call.edit payload.message) old new own (record { own = own'; answer = told }) };
 
-    ghost LeavesBegun = { λ cpu call result begun. begun ≡ until_answered result (sched.OnBuffer call.buffer call.edit) };
-
-    ghost Polled = { λ opening ActsFor cpu call result old new own own' begun. SleepPolled (sleep_kernel E.rules opening) ActsFor cpu call.buffer call.edit
-        old new own (record { own = own'; answer = result }) };
-
-    ghost IsPrompt = { λ call result own own'. result ≡ None → MustSend own own' };
+    ghost IsPrompt = { λ call payload result own own'. result ≡ None → MustSend own own' };
 
     ghost table = { table_of (queue_rules (sleep_rules E.rules) (sleep_moves E.rules)) };
 
-    ghost plan = { λ opening cpu call own. sleep_plan (sleep_moves E.rules) (homes_in opening) cpu call.buffer call.edit own };
+    ghost plan = { λ opening cpu call payload own. sleep_plan (sleep_moves E.rules) (homes_in opening) cpu call.buffer
+        (E.meant call.edit payload.message) own };
 
     ghost events_in = { λ acts. map event_of (sections_in acts) };
 

@@ -5,8 +5,7 @@
 ghost use Rattle.std.specs.Prelude.{◌≡◌};
 
 use crate::moves::WaitList;
-use crate::payloads::Payload;
-use event_log::Tid;
+use event_log::{Msg, Tid};
 
 /// Who leaves the waiting lists of a lock in a section.
 #[derive(Clone, Copy, Debug, PartialEq, Eq)]
@@ -22,7 +21,7 @@ pub enum Wake {
 }
 
 /// What a section of a sleeping layer answers.
-#[derive(Drop)]
+#[derive(Clone, Copy, Debug, PartialEq, Eq)]
 pub struct Outcome<O> {
     /// What the edit answered.
     pub out: O,
@@ -34,7 +33,7 @@ pub struct Outcome<O> {
 
 /// An edit of a sleeping layer. It says which waiting list of its lock its caller joins, if any,
 /// and who leaves one; the layer keeps the lists.
-pub trait Sleeps: Drop {
+pub trait Sleeps: Sized + Drop {
     ghost use Rattle.event_log.specs.declared.messages.Msg.{Msg};
     ghost use Rattle.layer_traits.specs.Sleeping.{SleepRules};
 
@@ -44,36 +43,58 @@ pub trait Sleeps: Drop {
     /// What an edit answers.
     type Out: Drop;
 
+    /// What is handed on of an edit.
+    type Handed: Drop;
+
+    /// What is handed back of an answer.
+    type Brought: Drop;
+
     /// What an edit means: its caller, the block that it leaves and its answer, as functions of the
     /// lock's first sleeper and of the block that it finds; which list the caller joins and who
     /// leaves one, as the answer tells; and after which sections which CPU may do it.
     ghost rules: { SleepRules Self Self.Block Self.Out };
 
     /// The thread that calls.
-    fn caller(&self) -> Tid
-        ensures { result ≡ rules.caller self.now };
+    fn caller(handed: &Self::Handed) -> Tid
+        ensures { (message : Msg) → result ≡ rules.caller (meant handed.now message) };
 
-    /// The message is what the edit puts, if it puts one.
-    ghost carried: { Self → Msg → Type 0 } = { λ _ _. Unit {0} };
+    /// The edit that is meant by what is handed on, with this message beside it.
+    ghost meant: { Self.Handed → Msg → Self };
 
-    /// The message is what the answer brings, if it brings one.
-    ghost brought: { Self.Out → Msg → Type 0 } = { λ _ _. Unit {0} };
+    /// The answer that is told by what is handed back, with this message beside it.
+    ghost told: { Self.Brought → Msg → Self.Out };
 
-    /// Edits `block`, where `first` is the first of those that sleep for the lock, and gives the
-    /// edit's answer. Takes no memory.
-    ///
-    /// Requires: the payload holds what the edit puts.
-    fn apply(&self, first: Option<Tid>, block: &mut Self::Block, payload: &mut Payload) -> Self::Out
-        requires carried { carried self.now payload.old.message }
-        ensures block { block.new ≡ rules.edited self.now first block.old }
-        ensures answer { result ≡ rules.answer self.now first block.old }
-        ensures brought { brought result payload.new.message };
+    /// The edit that is meant.
+    fn whole(handed: &Self::Handed, message: &Msg) -> Self
+        ensures { result ≡ meant handed.now message.now };
+
+    /// Edits `block` as is meant. The answer is told by what it returns and the message that it
+    /// leaves. `first` is the first of those that sleep for the lock. Takes no memory.
+    fn apply_handed(
+        handed: &Self::Handed,
+        first: Option<Tid>,
+        block: &mut Self::Block,
+        message: &mut Msg,
+    ) -> Self::Brought
+        ensures block { block.new ≡ rules.edited (meant handed.now message.old) first block.old }
+        ensures answer { told result message.new ≡ rules.answer (meant handed.now message.old) first block.old };
 
     /// Which waiting list the caller joins; `None` where it does not fall asleep.
-    fn joins(out: &Self::Out) -> Option<WaitList>
-        ensures { result ≡ rules.joins out.now };
+    fn joins(brought: &Self::Brought) -> Option<WaitList>
+        ensures { (message : Msg) → result ≡ rules.joins (told brought.now message) };
 
     /// Who leaves the lock's waiting lists.
-    fn leaves(out: &Self::Out) -> Wake
-        ensures { result ≡ rules.leaves out.now };
+    fn leaves(brought: &Self::Brought) -> Wake
+        ensures { (message : Msg) → result ≡ rules.leaves (told brought.now message) };
+}
+
+/// An edit of a sleeping layer in one piece: it is copied, and holds what it puts.
+pub trait WholeSleeps: Sleeps + Copy {
+    /// What is handed on of this edit. The message that it puts lies beside it then.
+    fn hand_on(self, message: &mut Msg) -> Self::Handed
+        ensures { Self.meant result message.new ≡ self };
+
+    /// The answer in one piece, with this message beside what is handed back.
+    fn bring_back(brought: Self::Brought, message: &Msg) -> Self::Out
+        ensures { result ≡ Self.told brought message.now };
 }

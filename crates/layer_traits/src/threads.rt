@@ -6,11 +6,12 @@
 //!
 //! No call takes memory, and none waits.
 
-ghost use Rattle.std.specs.Prelude.{◌≡◌, ◌≢◌, ℕ, ◌<◌, true, false, Bool, List, [], Option, None, Some, IsSome, IfSome, OnSome, is_some, if◌then◌else◌};
+ghost use Rattle.std.specs.Prelude.{◌≡◌, ◌≢◌, ℕ, ◌<◌, true, false, Bool, List, [], Option, None, Some, IsSome, OnSome, is_some, if◌then◌else◌};
 ghost use Rattle.event_log.specs.declared.ids.CpuId.{CpuId};
 ghost use Rattle.event_log.specs.declared.ids.LockId.{LockId};
 ghost use Rattle.layer_traits.specs.declared.passes.Pass.{Pass};
 ghost use Rattle.layer_traits.specs.Places.{Threads};
+ghost use Rattle.layer_traits.specs.Payloads.{told_by};
 ghost use Rattle.layer_traits.specs.Plans.{Plan, Follows, is_in_section};
 ghost use Rattle.event_log.specs.declared.ids.TheConstants.{CPUS};
 ghost use Rattle.event_log.specs.Actions.{Action, AreLegal, phase};
@@ -168,9 +169,11 @@ pub trait ThreadLayer<L: ThreadLaw> {
     /// Does at most one action of `call`. Returns its answer once the call has ended, and `None` while
     /// the same call is to be polled again. A call that touches nothing shared answers at once.
     ///
+    /// A message that the call puts lies in the payload at each poll, and one that its answer
+    /// brings lies there afterwards.
+    ///
     /// Requires: part and machine agree, the lock of the call is there, there is room for an event,
-    /// the call is one that may come now (while one is under way, the same call), and the payload
-    /// holds what it puts.
+    /// and the call is one that may come now: while one is under way, the same call.
     fn poll(
         &mut self,
         m: &mut Self::Machine,
@@ -178,21 +181,19 @@ pub trait ThreadLayer<L: ThreadLaw> {
         payload: &mut Payload,
     ) -> Option<L::Answer>
         requires fits { Fits self.old m.old }
-        requires there { L.IsThere (opening m.old) call }
+        requires there { L.IsThere (opening m.old) call payload.old }
         requires room { 0 < room m.old }
-        requires call { L.MayPoll (opening m.old) (cpu_of self.old) (seen m.old) (own self.old) (under_way self.old) call }
-        requires carried { L.carried call payload.old }
-        ensures call { L.LeavesBegun (cpu_of self.old) call result (under_way self.new) }
-        ensures prompt { IsWhole → L.IsPrompt call result (own self.old) (own self.new) }
-        ensures brought { IfSome result (λ answer. L.brought answer payload.new) }
-        ensures seen { L.Polled (opening m.old) (ActsFor m.old) (cpu_of self.old) call result (seen m.old) (seen m.new)
-            (own self.old) (own self.new) (under_way self.new) }
-        ensures still { L.IsLocal (own self.old) call → m.new ≡ m.old }
+        requires call { L.MayPoll (opening m.old) (cpu_of self.old) (seen m.old) (own self.old) (under_way self.old) call payload.old }
+        ensures call { L.LeavesBegun (cpu_of self.old) call payload.old result (under_way self.new) }
+        ensures prompt { IsWhole → L.IsPrompt call payload.old result (own self.old) (own self.new) }
+        ensures seen { L.Polled (opening m.old) (ActsFor m.old) (cpu_of self.old) call payload.old (told_by L.told result payload.new)
+            (seen m.old) (seen m.new) (own self.old) (own self.new) (under_way self.new) }
+        ensures still { L.IsLocal (own self.old) call payload.old → m.new ≡ m.old }
         ensures framed { Framed Fits cpu_of opening site room ActsFor MayHold self.old self.new m.old m.new }
-        ensures outside { OnSome result ((L.IsLocal (own self.old) call → ⊥) → IsOutside m.new (cpu_of self.old)) }
+        ensures outside { OnSome result ((L.IsLocal (own self.old) call payload.old → ⊥) → IsOutside m.new (cpu_of self.old)) }
         ensures follows { IsStepwise → Follows (ActsFor m.old) L.table (opening m.old) (cpu_of self.old)
-            (L.plan (opening m.old) (cpu_of self.old) call (own self.old))
-            (acts m.old) (acts m.new) (record { own = own self.new; answer = result }) };
+            (L.plan (opening m.old) (cpu_of self.old) call payload.old (own self.old))
+            (acts m.old) (acts m.new) (record { own = own self.new; answer = told_by L.told result payload.new }) };
 
     /// Does at most one action of a pass. Returns `Some` once the pass has ended, and `None` while the
     /// same pass is to be polled again.

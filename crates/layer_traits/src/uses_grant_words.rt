@@ -4,7 +4,7 @@
 
 ghost use Rattle.std.specs.Prelude.{◌≡◌, ◌<◌, [], IfOk};
 
-use crate::edits::Edit;
+use crate::edits::SplitEdit;
 use crate::grant_words::GrantWords;
 use crate::owned_grant_words::OwnedGrantWords;
 use crate::owned_words::OwnedWords;
@@ -38,8 +38,8 @@ impl<W: UsesGrantWords> GrantWords for W {
     ghost site = { λ w. W.site w };
 
     #[inline(always)]
-    fn mark(edit: W::Edit) -> W::Mark {
-        <W as Words>::mark(edit)
+    fn mark(handed: <W::Edit as SplitEdit>::Handed, edit: W::Edit) -> W::Mark {
+        <W as Words>::mark(handed, edit)
     }
 
     #[inline(always)]
@@ -48,12 +48,23 @@ impl<W: UsesGrantWords> GrantWords for W {
     }
 
     #[inline(always)]
-    fn peek(&mut self, cpu: CpuId, lock: LockId, ticket: u64) -> Option<<W::Edit as Edit>::Block> {
+    fn peek(
+        &mut self,
+        cpu: CpuId,
+        lock: LockId,
+        ticket: u64,
+    ) -> Option<<W::Edit as SplitEdit>::Block> {
         self.look(cpu, lock, ticket)
     }
 
     #[inline(always)]
-    fn give(&mut self, cpu: CpuId, lock: LockId, block: <W::Edit as Edit>::Block, mark: W::Mark) {
+    fn give(
+        &mut self,
+        cpu: CpuId,
+        lock: LockId,
+        block: <W::Edit as SplitEdit>::Block,
+        mark: W::Mark,
+    ) {
         self.free(cpu, lock, block, mark);
     }
 
@@ -70,7 +81,7 @@ impl<W: OwnedWords + UsesGrantWords> OwnedGrantWords for W {
 
     fn open(
         alloc: Global,
-        blocks: Vec<(LockId, <W::Edit as Edit>::Block)>,
+        blocks: Vec<(LockId, <W::Edit as SplitEdit>::Block)>,
         room: usize,
     ) -> Result<Self, NoMemory>
         requires distinct { AreDistinct blocks.items }
@@ -82,7 +93,7 @@ impl<W: OwnedWords + UsesGrantWords> OwnedGrantWords for W {
         <W as OwnedWords>::open(alloc, blocks, room)
     }
 
-    fn block(&self, lock: LockId) -> Option<&<W::Edit as Edit>::Block> {
+    fn block(&self, lock: LockId) -> Option<&<W::Edit as SplitEdit>::Block> {
         <W as OwnedWords>::block(self, lock)
     }
 

@@ -4,7 +4,7 @@
 
 ghost use Rattle.std.specs.Prelude.{◌≡◌, ℕ, ◌+◌, ◌<◌, ◌≤◌, List, [], Option, IsSome, MatchOption, option_map};
 
-use crate::edits::{Edit, Mark};
+use crate::edits::{Mark, SplitEdit};
 use event_log::{CpuId, Event, LockId};
 
 /// A holder of ticket locks: each lock has the words `next` and `serving`, and guards a block. An
@@ -28,7 +28,7 @@ pub trait Words {
     ghost use Rattle.layer_traits.specs.WordsProtocol.{mark_of, sections, MayCome};
 
     /// The edits of the sections.
-    type Edit: Edit;
+    type Edit: SplitEdit;
 
     /// What a Free leaves in the log: it tells the section's edit.
     type Mark;
@@ -52,8 +52,9 @@ pub trait Words {
     /// changes it.
     ghost site: { Self → List ℕ } = { λ _. [] };
 
-    /// The mark of a section with this edit.
-    fn mark(edit: Self::Edit) -> Self::Mark
+    /// The mark of a section with this edit, of which this is handed on. A machine may keep what is
+    /// handed on, and the edit for clauses alone.
+    fn mark(handed: <Self::Edit as SplitEdit>::Handed, edit: Self::Edit) -> Self::Mark
         ensures { edit_in result ≡ edit };
 
     /// Draws a ticket of `lock` for `cpu`: a fetch-and-add of 1 on `next`, whose old value is the
@@ -77,7 +78,12 @@ pub trait Words {
     ///
     /// Requires: the holder acts for `cpu`, the lock is there, there is room for an event, and
     /// `cpu` waits there with `ticket`.
-    fn look(&mut self, cpu: CpuId, lock: LockId, ticket: u64) -> Option<<Self::Edit as Edit>::Block>
+    fn look(
+        &mut self,
+        cpu: CpuId,
+        lock: LockId,
+        ticket: u64,
+    ) -> Option<<Self::Edit as SplitEdit>::Block>
         requires cpu { ActsFor self.old cpu }
         requires lock { IsSome (opening self.old lock) }
         requires room { 0 < room self.old }
@@ -101,7 +107,7 @@ pub trait Words {
         &mut self,
         cpu: CpuId,
         lock: LockId,
-        block: <Self::Edit as Edit>::Block,
+        block: <Self::Edit as SplitEdit>::Block,
         mark: Self::Mark,
     )
         requires cpu { ActsFor self.old cpu }

@@ -8,8 +8,13 @@ use Rattle.event_log.specs.declared.ids.LockId.{LockId}
 use Rattle.event_log.specs.declared.ids.LockId.TheVariants.{Buffer}
 use Rattle.event_log.specs.declared.ids.Tid.{Tid}
 use Rattle.event_log.specs.declared.ids.TheConstants.{THREADS}
+use Rattle.event_log.specs.declared.messages.Msg.{Msg}
+use Rattle.event_log.specs.Messages.{no_message}
+use Rattle.layer_traits.specs.declared.conditions.CvEdit.{CvEdit}
+use Rattle.layer_traits.specs.declared.conditions.CvLeave.{CvLeave}
 use Rattle.layer_traits.specs.declared.conditions.CvOut.{CvOut}
 use Rattle.layer_traits.specs.declared.conditions.CvOut.TheVariants as answer
+use Rattle.layer_traits.specs.declared.locked.QEdit.{QEdit}
 use Rattle.layer_traits.specs.declared.locked.QOut.{QOut}
 use Rattle.layer_traits.specs.declared.locked.QOut.TheVariants.{Acquired, Queued, Did, Released}
 use Rattle.layer_traits.specs.declared.locked.Side.{Side}
@@ -25,6 +30,7 @@ use Rattle.layer_traits.specs.Conditions.{CvCall, MonitorRules, cv_rules}
 use Rattle.layer_traits.specs.CvLaw.{CvPolled, MayWait, WaitOver, Waiting, left_reported, left_waiting, waiting_at_start, waiting_with}
 use Rattle.layer_traits.specs.Locking.{LockState, wait_list_for, wait_list_slept, lock_caller, owner_in, owner_of}
 use Rattle.layer_traits.specs.LockLaw.{IsAcquire, Locking, MayGo, MayLock, lock_kernel, slept_for}
+use Rattle.layer_traits.specs.Payloads.{cv_meant, lock_meant}
 use Rattle.layer_traits.specs.Plans.{Left}
 use Rattle.layer_traits.specs.QueueBlocks.{inner}
 use Rattle.layer_traits.specs.Queues.{Kernel, buffer_sections}
@@ -32,6 +38,7 @@ use Rattle.layer_traits.specs.SleepLaw.{MayCall}
 use Rattle.queuing_lock.proofs.SleptLemmas.{none_at}
 use Rattle.plain_layers.proofs.LockSectionLemmas.{After, after_polled}
 use Rattle.plain_layers.specs.CondSections.{CondHasEnded, IsCondReady, MayPollCondSection, WaitsAt}
+use Rattle.plain_layers.specs.LockSections.{call_alone}
 
 module _ {G B O : Type 0} (monitor_rules : MonitorRules G B O) (opening : LockId → Option (QueueBlock (LockState B))) (ActsFor : CpuId → Type 0) (c : CpuId)
     (b : BufId) (call : CvCall G) where
@@ -186,6 +193,22 @@ module _ {G B O : Type 0} (monitor_rules : MonitorRules G B O) (opening : LockId
       (cv_rules monitor_rules) call))
   ended_after past own under None outcome after is = absurd cc
   ended_after past own under (Some o) outcome after is = after
+
+-- the same of a poll of what is handed on, with no message beside it
+pub after_alone : {H G B O : Type 0} (monitor_rules : MonitorRules G B O) (opening : LockId → Option (QueueBlock (LockState B))) (ActsFor : CpuId → Type 0)
+    (c : CpuId) (b : BufId) (meant : H → Msg → G) (call : QEdit (CvEdit H) CvLeave) (message : Msg) (old new : List (QueueEvent (CvCall G)))
+    (own : Waiting O) (before under : Option (SchedCall (CvCall G))) (got : Left (Waiting O) (Outcome (QOut (CvOut O)))) → message ≡ no_message
+    → MayPollCondSection monitor_rules (lock_kernel (cv_rules monitor_rules) opening) c old own before b (call_alone (cv_meant meant) call)
+    → CvPolled monitor_rules (lock_kernel (cv_rules monitor_rules) opening) ActsFor c b (lock_meant (cv_meant meant) call message)
+    (slept_for own.waits (lock_caller (cv_rules monitor_rules) (lock_meant (cv_meant meant) call message))) old new own under got
+    → (IsSome (slept_for own.lock.slept (lock_caller (cv_rules monitor_rules) (lock_meant (cv_meant meant) call message))) → new ≡ old)
+    → AfterCall monitor_rules opening ActsFor c b (call_alone (cv_meant meant) call) new got.own under got.answer
+after_alone monitor_rules opening ActsFor c b meant call message old new own before under got none may polled same =
+    after_call monitor_rules opening ActsFor c b (call_alone (cv_meant meant) call)
+    (slept_for own.waits (lock_caller (cv_rules monitor_rules) (call_alone (cv_meant meant) call))) old new own before under got refl may
+    (subst (λ m. CvPolled monitor_rules (lock_kernel (cv_rules monitor_rules) opening) ActsFor c b (lock_meant (cv_meant meant) call m)
+    (slept_for own.waits (lock_caller (cv_rules monitor_rules) (lock_meant (cv_meant meant) call m))) old new own under got) none polled)
+    (subst (λ m. IsSome (slept_for own.lock.slept (lock_caller (cv_rules monitor_rules) (lock_meant (cv_meant meant) call m))) → new ≡ old) none same)
 
 -- at the start each thread's calls have ended
 pub fresh_ended : {G B O : Type 0} (monitor_rules : MonitorRules G B O) (homes : List CpuId) (c : CpuId) (own : Waiting O)

@@ -23,11 +23,16 @@ use Rattle.layer_traits.specs.declared.queues.QueueAnswer.TheVariants.{Taken, An
 use Rattle.layer_traits.specs.declared.queues.QueueCall.{QueueCall}
 use Rattle.layer_traits.specs.declared.queues.QueueCall.TheVariants.{Push, TakeAll, OnBuffer}
 use Rattle.layer_traits.specs.declared.queues.QueueEvent.{QueueEvent}
+use Rattle.layer_traits.specs.declared.payloads.Payload.{Payload}
+use Rattle.layer_traits.specs.declared.scheds.SchedCall.{SchedCall}
+use Rattle.layer_traits.specs.declared.scheds.SchedCall.TheVariants as sched
 use Rattle.layer_traits.specs.MoveRules.{MoveRules, WakesSleepers, edit_move}
+use Rattle.layer_traits.specs.Payloads.{call_meant, sched_meant}
 use Rattle.layer_traits.specs.Places.{home_of, pending_after, pending_by}
 use Rattle.layer_traits.specs.Protocol.{Rules}
 use Rattle.layer_traits.specs.QueueBlocks.{StartsAs, above_of, homes_in, homes_of, inner}
 use Rattle.layer_traits.specs.Queues.{CallAllowed, Kernel, answer_of, buffer_sections, event, kernel, lock_of, moves_in, out_at}
+use Rattle.layer_traits.specs.Scheds.{BufferIsThere}
 use Rattle.layer_traits.proofs.Alone.{block_there}
 use Rattle.layer_traits.proofs.CallLemmas.{moves_lawful}
 use Rattle.layer_traits.proofs.NestedLemmas.{push_known, push_new}
@@ -39,6 +44,26 @@ use Rattle.plain_layers.specs.Kernels.{CanDo, IsDone, IsKernel, SetsBlock, SetsQ
 -- a list of events that has grown by one, newest first
 pub grown : {A F X : Type 0} (r : Result A F) (a : A) (old new : List X) (x : X) → r ≡ Ok a → OnOk r (new ≡ old ++ x ∷ []) → reverse new ≡ x ∷ reverse old
 grown r a old new x is pushed = ap reverse (subst (λ o. OnOk o (new ≡ old ++ x ∷ [])) is pushed) ∙ reverse-append old (x ∷ [])
+
+-- what is handed on of a call names the lock of the call that is meant
+pub lock_handed : {H E : Type 0} (meant : H → Payload → E) (call : QueueCall H) (payload : Payload)
+    → lock_of (call_meant meant call payload) ≡ lock_of call
+lock_handed meant (Push d t) payload = refl
+lock_handed meant (TakeAll d) payload = refl
+lock_handed meant (OnBuffer b e) payload = refl
+
+-- the buffer of a scheduler's call that is meant is there where that of what is handed on is
+pub there_meant : {H E B : Type 0} (meant : H → Payload → E) (opening : LockId → Option (QueueBlock B)) (call : SchedCall H) (payload : Payload)
+    → BufferIsThere opening call → BufferIsThere opening (sched_meant meant call payload)
+there_meant meant opening (sched.Pass pass) payload there = there
+there_meant meant opening (sched.OnBuffer b e) payload there = there
+
+-- what is handed on of a call can be done where that can which is meant
+pub can_handed : {H E B : Type 0} (meant : H → Payload → E) (call : QueueCall H) (payload : Payload) (lists : Lists B)
+    → CanDo (call_meant meant call payload) lists → CanDo call lists
+can_handed meant (Push d t) payload lists can = can
+can_handed meant (TakeAll d) payload lists can = can
+can_handed meant (OnBuffer b e) payload lists can = can
 
 -- a list that was empty and has grown by one
 pub one_pushed : {A F X : Type 0} (r : Result A F) (items : List X) (x : X) → is_err r ≡ false → items ≡ (if is_ok r then [] ++ x ∷ [] else [])

@@ -10,6 +10,6 @@ use Rattle.plain_layers.specs.Kernels.{IsKernel, calls_in, opening_of}
 use Rattle.scheduler.specs.Parts.{PartFits}
 
 -- the machine is sound, this is one of its CPUs, and the homes and the threads that the CPU has of its own agree with the machine
-abbrev pub HasThreads : {E B O : Type 0} → Rules E B O → MoveRules E O → PlainKernel E B O → CpuId → List CpuId → Threads → Type 0
+abbrev pub HasThreads : {E B O H A : Type 0} → Rules E B O → MoveRules E O → PlainKernel E B O H A → CpuId → List CpuId → Threads → Type 0
 HasThreads rules mv m c homes own = (c.0 < CPUS) × IsKernel rules mv m.opening (calls_in m) m.lists
     × PartFits rules mv (opening_of m.opening) c c homes None (calls_in m) own

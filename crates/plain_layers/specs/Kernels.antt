@@ -27,11 +27,11 @@ use Rattle.plain_layers.specs.declared.kernel.Opening.{Opening}
 use Rattle.plain_layers.specs.declared.kernel.PlainKernel.{PlainKernel}
 
 -- the calls that were done, newest first
-abbrev pub calls_in : {E B O : Type 0} → PlainKernel E B O → List (QueueEvent E)
+abbrev pub calls_in : {E B O H A : Type 0} → PlainKernel E B O H A → List (QueueEvent E)
 calls_in m = reverse (events_in m.log)
 
 -- for how many more calls there is room
-abbrev pub call_room : {E B O : Type 0} → PlainKernel E B O → ℕ
+abbrev pub call_room : {E B O H A : Type 0} → PlainKernel E B O H A → ℕ
 call_room m = room_of m.log - length (events_in m.log)
 
 -- the opening block of each lock: a pending queue that tells the homes, or a buffer's block
@@ -75,7 +75,7 @@ pub record IsKernel {E B O : Type 0} (rules : Rules E B O) (mv : MoveRules E O) 
   pub blocks : (b : BufId) → slice_get lists.buffers.items b.0 ≡ block_after rules.edited (inner (opening_of start)) (Buffer b) (buffer_sections past)
 
 -- a machine is sound, and this is a CPU for which its holder acts
-abbrev pub HasKernel : {E B O : Type 0} → Rules E B O → MoveRules E O → PlainKernel E B O → CpuId → Type 0
+abbrev pub HasKernel : {E B O H A : Type 0} → Rules E B O → MoveRules E O → PlainKernel E B O H A → CpuId → Type 0
 HasKernel rules mv m c = (c.0 < CPUS) × IsKernel rules mv m.opening (calls_in m) m.lists
 
 -- nobody has to know a machine again, so no numbers tell which it is

@@ -14,15 +14,15 @@ abbrev pub section_noted : {E : Type 0} → Noted E → Section E
 section_noted note = section note.cpu note.lock note.edit
 
 -- the sections that were done, newest first
-abbrev pub sections_noted : {E B O : Type 0} → LockTable E B O → List (Section E)
+abbrev pub sections_noted : {E B O H A : Type 0} → LockTable E B O H A → List (Section E)
 sections_noted m = map section_noted (reverse (events_in m.log))
 
 -- the opening block of each lock
-abbrev pub opening_in : {E B O : Type 0} → LockTable E B O → LockId → Option B
+abbrev pub opening_in : {E B O H A : Type 0} → LockTable E B O H A → LockId → Option B
 opening_in m = opened m.opening.value.items
 
 -- for how many more sections there is room
-abbrev pub room_in : {E B O : Type 0} → LockTable E B O → ℕ
+abbrev pub room_in : {E B O H A : Type 0} → LockTable E B O H A → ℕ
 room_in m = room_of m.log - length (events_in m.log)
 
 -- the sections kept the protocol, and the list has the block of each lock that they leave

@@ -13,7 +13,7 @@ ghost use Rattle.thread_blocks.specs.Queues.{first};
 
 use arrayvec::ArrayVec;
 use event_log::{CAPACITY, Kind, Msg, Ring, THREADS, Tid};
-use layer_traits::{Effect, Payload, Side, Sleeps, WaitList, Wake};
+use layer_traits::{Effect, Side, Sleeps, WaitList, Wake};
 use std::marker::Model;
 use thread_blocks::ThreadQueue;
 
@@ -290,35 +290,53 @@ impl Sleeps for Attempt {
 
     type Out = Tried;
 
+    type Handed = Attempt;
+
+    type Brought = Tried;
+
     ghost rules = { attempts };
 
-    fn caller(&self) -> Tid {
-        self.thread
+    ghost meant = { λ attempt message. attempt };
+
+    ghost told = { λ tried message. tried };
+
+    fn caller(attempt: &Attempt) -> Tid {
+        attempt.thread
     }
 
-    fn apply(&self, _first: Option<Tid>, block: &mut PlainBuffer, _payload: &mut Payload) -> Tried {
-        if !block.allows(&self.ask) {
-            let side = attempt_side(&self.ask);
-            block.wait(self.thread, side);
+    // An attempt holds its message itself.
+    fn whole(attempt: &Attempt, _message: &Msg) -> Attempt {
+        *attempt
+    }
+
+    fn apply_handed(
+        attempt: &Attempt,
+        _first: Option<Tid>,
+        block: &mut PlainBuffer,
+        _message: &mut Msg,
+    ) -> Tried {
+        if !block.allows(&attempt.ask) {
+            let side = attempt_side(&attempt.ask);
+            block.wait(attempt.thread, side);
             return Tried::Refused(side);
         }
-        match &self.ask {
+        match &attempt.ask {
             Ask::Send(message) => block.send(message),
             Ask::Receive => block.receive(),
             Ask::Close => block.close(),
         }
     }
 
-    fn joins(out: &Tried) -> Option<WaitList> {
-        match *out {
+    fn joins(tried: &Tried) -> Option<WaitList> {
+        match *tried {
             Tried::Acted(_, _) => None,
             Tried::Refused(Side::Senders) => Some(WaitList::Senders),
             Tried::Refused(Side::Receivers) => Some(WaitList::Receivers),
         }
     }
 
-    fn leaves(out: &Tried) -> Wake {
-        match *out {
+    fn leaves(tried: &Tried) -> Wake {
+        match *tried {
             Tried::Acted(_, woke) => woke,
             Tried::Refused(_) => Wake::Nobody,
         }

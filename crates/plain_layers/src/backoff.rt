@@ -8,7 +8,7 @@ ghost use Rattle.std.specs.Prelude.{◌≡◌, [], IfOk};
 ghost use Rattle.event_log.specs.declared.ids.TheConstants.{CPUS};
 
 use event_log::{CpuId, LockId, NoMemory};
-use layer_traits::{Edit, Layer, LockCall, LockLaw, OwnedLocks, Payload};
+use layer_traits::{Layer, LockCall, LockLaw, OwnedLocks, Payload, SplitEdit};
 use std::alloc::Global;
 
 /// The most polls that a CPU rests between two tries.
@@ -24,7 +24,7 @@ pub struct Backoff<L> {
     next: u8,
 }
 
-impl<E: Edit, L: Layer<LockLaw<E>>> Layer<LockLaw<E>> for Backoff<L> {
+impl<E: SplitEdit, L: Layer<LockLaw<E>>> Layer<LockLaw<E>> for Backoff<L> {
     type Machine = L::Machine;
 
     ghost opening = { λ m. L.opening m };
@@ -76,9 +76,9 @@ impl<E: Edit, L: Layer<LockLaw<E>>> Layer<LockLaw<E>> for Backoff<L> {
     fn poll(
         &mut self,
         m: &mut L::Machine,
-        call: LockCall<E>,
+        call: LockCall<E::Handed>,
         payload: &mut Payload,
-    ) -> Option<E::Out> {
+    ) -> Option<E::Brought> {
         if self.rests > 0 && self.lower.is_busy() {
             self.rests -= 1;
             return None;
@@ -113,7 +113,7 @@ impl<E: Edit, L: Layer<LockLaw<E>>> Layer<LockLaw<E>> for Backoff<L> {
     ghost busy = { λ p m fits step. absurd step };
 }
 
-impl<E: Edit, L: OwnedLocks<E>> OwnedLocks<E> for Backoff<L> {
+impl<E: SplitEdit, L: OwnedLocks<E>> OwnedLocks<E> for Backoff<L> {
     ghost use Rattle.std.specs.Prelude.{◌<◌, refl};
     ghost use Rattle.event_log.specs.Sections.{block_after};
     ghost use Rattle.layer_traits.specs.OneLock.{AreDistinct, opened};

@@ -7,9 +7,10 @@ ghost use Rattle.layer_traits.specs.LockLaw.{IsAcquire, lock_kernel};
 ghost use Rattle.layer_traits.specs.Locking.{IsOwners, lock_caller, owner_of};
 ghost use Rattle.layer_traits.specs.QueueBlocks.{inner};
 ghost use Rattle.layer_traits.specs.Queues.{buffer_sections};
-ghost use Rattle.layer_traits.specs.Payloads.{cv_carried, lock_carried};
+ghost use Rattle.layer_traits.specs.Payloads.{cv_meant};
 ghost use Rattle.plain_layers.specs.declared.cond_sections.PollSection.TheVariants.{Answered, GoesOn, Sleeps};
 ghost use Rattle.plain_layers.specs.CondSections.{CondHasEnded, MayPollCondSection, WaitsAt};
+ghost use Rattle.plain_layers.specs.LockSections.{call_alone};
 
 use event_log::{BufId, Tid};
 use layer_traits::{
@@ -29,45 +30,44 @@ pub enum PollSection<O> {
 }
 
 /// The thread that calls.
-fn caller_of<G: Guarded>(call: &QEdit<CvEdit<G>, CvLeave>) -> Tid
-    ensures { result ≡ lock_caller (cv_rules G.monitor_rules) call.now }
+fn caller_of<G: Guarded>(call: &QEdit<CvEdit<G::Handed>, CvLeave>) -> Tid
+    ensures { result ≡ lock_caller (cv_rules G.monitor_rules) (call_alone (cv_meant G.meant) call.now) }
 {
     match call {
         QEdit::Acquire(t) => *t,
-        QEdit::Inside(CvEdit::Edit(edit)) => edit.caller(),
+        QEdit::Inside(CvEdit::Edit(edit)) => G::caller(edit),
         QEdit::Inside(CvEdit::SignalFront(t, _)) => *t,
         QEdit::Release(CvLeave::Leave(t)) => *t,
         QEdit::Release(CvLeave::Wait(t, _)) => *t,
     }
 }
 
-/// One poll of a call of the thread that runs.
+/// One poll of a call of the thread that runs, with no message beside it.
 pub fn one_section_poll<G: Guarded, C: ThreadLayer<CvLaw<G>>>(
     part: &mut C,
     m: &mut C::Machine,
     buffer: BufId,
-    call: QEdit<CvEdit<G>, CvLeave>,
-) -> PollSection<G::Out>
+    call: QEdit<CvEdit<G::Handed>, CvLeave>,
+) -> PollSection<G::Brought>
     requires fits { C.Fits part.old m.old }
     requires buffer { IsSome (C.opening m.old (Buffer buffer)) }
     requires room { 0 < C.room m.old }
     requires poll_section { MayPollCondSection G.monitor_rules (lock_kernel (cv_rules G.monitor_rules) (C.opening m.old)) (C.cpu_of part.old) (C.seen m.old) (C.own part.old)
-        (C.under_way part.old) buffer call }
-    requires carried { (message : _) → lock_carried (cv_carried G.carried) call message }
+        (C.under_way part.old) buffer (call_alone (cv_meant G.meant) call) }
     ensures fits { C.Fits part.new m.new }
     ensures cpu { C.cpu_of part.new ≡ C.cpu_of part.old }
     ensures opening { C.opening m.new ≡ C.opening m.old }
     ensures room { C.room m.old ≤ C.room m.new + 1 }
     ensures others { (p : C) → C.cpu_of p ≢ C.cpu_of part.old → C.Fits p m.old → C.Fits p m.new }
     ensures goes { result ≡ GoesOn → MayPollCondSection G.monitor_rules (lock_kernel (cv_rules G.monitor_rules) (C.opening m.new)) (C.cpu_of part.new) (C.seen m.new) (C.own part.new)
-        (C.under_way part.new) buffer call }
-    ensures waits { result ≡ Sleeps → (IsAcquire call → ⊥)
-        → WaitsAt G.monitor_rules (C.own part.new) (C.under_way part.new) (lock_caller (cv_rules G.monitor_rules) call) buffer }
+        (C.under_way part.new) buffer (call_alone (cv_meant G.meant) call) }
+    ensures waits { result ≡ Sleeps → (IsAcquire (call_alone (cv_meant G.meant) call) → ⊥)
+        → WaitsAt G.monitor_rules (C.own part.new) (C.under_way part.new) (lock_caller (cv_rules G.monitor_rules) (call_alone (cv_meant G.meant) call)) buffer }
     ensures ended { (outcome : _) → result ≡ Answered outcome
-        → CondHasEnded G.monitor_rules (C.own part.new) (C.under_way part.new) (lock_caller (cv_rules G.monitor_rules) call) }
-    ensures owns { (outcome : _) → result ≡ Answered outcome → IsAcquire call
+        → CondHasEnded G.monitor_rules (C.own part.new) (C.under_way part.new) (lock_caller (cv_rules G.monitor_rules) (call_alone (cv_meant G.meant) call)) }
+    ensures owns { (outcome : _) → result ≡ Answered outcome → IsAcquire (call_alone (cv_meant G.meant) call)
         → owner_of (cv_rules G.monitor_rules) (inner (C.opening m.new)) (buffer_sections (C.seen m.new)) (Buffer buffer)
-        ≡ Some (lock_caller (cv_rules G.monitor_rules) call) }
+        ≡ Some (lock_caller (cv_rules G.monitor_rules) (call_alone (cv_meant G.meant) call)) }
 {
     match part.poll(m, BufferCall { buffer, edit: call }, &mut Payload::new()) {
         Some(outcome) => PollSection::Answered(outcome),
@@ -80,61 +80,52 @@ pub fn one_section_poll<G: Guarded, C: ThreadLayer<CvLaw<G>>>(
     }
 }
 
-/// The call once more.
-fn again<G: Copy>(call: &QEdit<CvEdit<G>, CvLeave>) -> QEdit<CvEdit<G>, CvLeave>
-    ensures { result ≡ call.now }
-{
-    match call {
-        QEdit::Acquire(t) => QEdit::Acquire(*t),
-        QEdit::Inside(CvEdit::Edit(edit)) => QEdit::Inside(CvEdit::Edit(*edit)),
-        QEdit::Inside(CvEdit::SignalFront(t, side)) => {
-            QEdit::Inside(CvEdit::SignalFront(*t, *side))
-        }
-        QEdit::Release(leave) => QEdit::Release(*leave),
-    }
-}
-
 /// So many polls of a call of the thread that runs; `None` if it ends or sleeps sooner.
-pub fn section_polls<G: Guarded + Copy, C: ThreadLayer<CvLaw<G>>>(
+pub fn section_polls<G: Guarded, C: ThreadLayer<CvLaw<G>>>(
     part: &mut C,
     m: &mut C::Machine,
     buffer: BufId,
-    call: &QEdit<CvEdit<G>, CvLeave>,
+    call: &QEdit<CvEdit<G::Handed>, CvLeave>,
     polls: usize,
-) -> Option<PollSection<G::Out>>
+) -> Option<PollSection<G::Brought>>
+where
+    G::Handed: Copy,
     requires fits { C.Fits part.old m.old }
     requires buffer { IsSome (C.opening m.old (Buffer buffer)) }
     requires room { polls ≤ C.room m.old }
     requires poll_section { MayPollCondSection G.monitor_rules (lock_kernel (cv_rules G.monitor_rules) (C.opening m.old)) (C.cpu_of part.old) (C.seen m.old) (C.own part.old)
-        (C.under_way part.old) buffer call.now }
-    requires carried { (message : _) → lock_carried (cv_carried G.carried) call.now message }
+        (C.under_way part.old) buffer (call_alone (cv_meant G.meant) call.now) }
     ensures fits { C.Fits part.new m.new }
     ensures cpu { C.cpu_of part.new ≡ C.cpu_of part.old }
     ensures opening { C.opening m.new ≡ C.opening m.old }
     ensures room { C.room m.old ≤ C.room m.new + polls }
     ensures others { (p : C) → C.cpu_of p ≢ C.cpu_of part.old → C.Fits p m.old → C.Fits p m.new }
     ensures goes { result ≡ Some GoesOn → MayPollCondSection G.monitor_rules (lock_kernel (cv_rules G.monitor_rules) (C.opening m.new)) (C.cpu_of part.new) (C.seen m.new)
-        (C.own part.new) (C.under_way part.new) buffer call.now }
-    ensures waits { result ≡ Some Sleeps → (IsAcquire call.now → ⊥)
-        → WaitsAt G.monitor_rules (C.own part.new) (C.under_way part.new) (lock_caller (cv_rules G.monitor_rules) call.now) buffer }
+        (C.own part.new) (C.under_way part.new) buffer (call_alone (cv_meant G.meant) call.now) }
+    ensures waits { result ≡ Some Sleeps → (IsAcquire (call_alone (cv_meant G.meant) call.now) → ⊥)
+        → WaitsAt G.monitor_rules (C.own part.new) (C.under_way part.new) (lock_caller (cv_rules G.monitor_rules) (call_alone (cv_meant G.meant) call.now)) buffer }
     ensures ended { (outcome : _) → result ≡ Some (Answered outcome)
-        → CondHasEnded G.monitor_rules (C.own part.new) (C.under_way part.new) (lock_caller (cv_rules G.monitor_rules) call.now) }
+        → CondHasEnded G.monitor_rules (C.own part.new) (C.under_way part.new) (lock_caller (cv_rules G.monitor_rules) (call_alone (cv_meant G.meant) call.now)) }
 {
     let mut last = PollSection::GoesOn;
     for _ in 0..polls {
         let PollSection::GoesOn = last else {
             return None;
         };
-        last = one_section_poll::<G, C>(part, m, buffer, again(call));
+        last = one_section_poll::<G, C>(part, m, buffer, *call);
     }
     Some(last)
 }
 
 /// Whether the call is this thread's to make, where this is the lock's owner: an Acquire is of who
 /// does not own the lock, and each other call is the owner's.
-fn is_callers<G: Guarded>(call: &QEdit<CvEdit<G>, CvLeave>, t: Tid, owner: Option<Tid>) -> bool
-    requires { t ≡ lock_caller (cv_rules G.monitor_rules) call.now }
-    ensures { result ≡ true → IsOwners (cv_rules G.monitor_rules) call.now owner }
+fn is_callers<G: Guarded>(
+    call: &QEdit<CvEdit<G::Handed>, CvLeave>,
+    t: Tid,
+    owner: Option<Tid>,
+) -> bool
+    requires { t ≡ lock_caller (cv_rules G.monitor_rules) (call_alone (cv_meant G.meant) call.now) }
+    ensures { result ≡ true → IsOwners (cv_rules G.monitor_rules) (call_alone (cv_meant G.meant) call.now) owner }
 {
     match call {
         QEdit::Acquire(_) => owner != Some(t),
@@ -143,30 +134,31 @@ fn is_callers<G: Guarded>(call: &QEdit<CvEdit<G>, CvLeave>, t: Tid, owner: Optio
 }
 
 /// So many polls of a call; `None` if its caller may not make it, or if it ends or sleeps sooner.
-pub fn calls<G: Guarded + Copy, C: OwnedConds<G>>(
+pub fn calls<G: Guarded, C: OwnedConds<G>>(
     part: &mut C,
     m: &mut C::Machine,
     buffer: BufId,
-    call: &QEdit<CvEdit<G>, CvLeave>,
+    call: &QEdit<CvEdit<G::Handed>, CvLeave>,
     polls: usize,
-) -> Option<PollSection<G::Out>>
+) -> Option<PollSection<G::Brought>>
+where
+    G::Handed: Copy,
     requires granted { (opening : _) (past : _) (s : _) → G.monitor_rules.allowed opening past s }
     requires fits { C.Fits part.old m.old }
     requires buffer { IsSome (C.opening m.old (Buffer buffer)) }
     requires room { polls ≤ C.room m.old }
-    requires ended { CondHasEnded G.monitor_rules (C.own part.old) (C.under_way part.old) (lock_caller (cv_rules G.monitor_rules) call.now) }
-    requires carried { (message : _) → lock_carried (cv_carried G.carried) call.now message }
+    requires ended { CondHasEnded G.monitor_rules (C.own part.old) (C.under_way part.old) (lock_caller (cv_rules G.monitor_rules) (call_alone (cv_meant G.meant) call.now)) }
     ensures fits { C.Fits part.new m.new }
     ensures cpu { C.cpu_of part.new ≡ C.cpu_of part.old }
     ensures opening { C.opening m.new ≡ C.opening m.old }
     ensures room { C.room m.old ≤ C.room m.new + polls }
     ensures others { (p : C) → C.cpu_of p ≢ C.cpu_of part.old → C.Fits p m.old → C.Fits p m.new }
     ensures goes { result ≡ Some GoesOn → MayPollCondSection G.monitor_rules (lock_kernel (cv_rules G.monitor_rules) (C.opening m.new)) (C.cpu_of part.new) (C.seen m.new)
-        (C.own part.new) (C.under_way part.new) buffer call.now }
-    ensures waits { result ≡ Some Sleeps → (IsAcquire call.now → ⊥)
-        → WaitsAt G.monitor_rules (C.own part.new) (C.under_way part.new) (lock_caller (cv_rules G.monitor_rules) call.now) buffer }
+        (C.own part.new) (C.under_way part.new) buffer (call_alone (cv_meant G.meant) call.now) }
+    ensures waits { result ≡ Some Sleeps → (IsAcquire (call_alone (cv_meant G.meant) call.now) → ⊥)
+        → WaitsAt G.monitor_rules (C.own part.new) (C.under_way part.new) (lock_caller (cv_rules G.monitor_rules) (call_alone (cv_meant G.meant) call.now)) buffer }
     ensures ended { (outcome : _) → result ≡ Some (Answered outcome)
-        → CondHasEnded G.monitor_rules (C.own part.new) (C.under_way part.new) (lock_caller (cv_rules G.monitor_rules) call.now) }
+        → CondHasEnded G.monitor_rules (C.own part.new) (C.under_way part.new) (lock_caller (cv_rules G.monitor_rules) (call_alone (cv_meant G.meant) call.now)) }
 {
     let t = caller_of::<G>(call);
     if part.current() != Some(t) || part.hand().is_some() {
@@ -188,7 +180,7 @@ pub fn is_woken<G: Guarded, C: ThreadLayer<CvLaw<G>>>(
     buffer: BufId,
     t: Tid,
     side: Side,
-) -> Option<PollSection<G::Out>>
+) -> Option<PollSection<G::Brought>>
     requires fits { C.Fits part.old m.old }
     requires buffer { IsSome (C.opening m.old (Buffer buffer)) }
     requires room { 0 < C.room m.old }

@@ -17,10 +17,10 @@ use crate::PlainSched;
 use crate::cond_sections::{PollSection, calls, drains, is_woken, section_polls, switches};
 use crate::openings::{Opens, SchedLaws};
 use condvar::Cond;
-use event_log::{BufId, CPUS, CpuId, NoMemory, THREADS, Tid};
+use event_log::{BufId, CPUS, CpuId, Msg, NoMemory, THREADS, Tid};
 use layer_traits::{
-    CvEdit, CvLaw, CvLeave, CvOut, Guarded, OwnedConds, OwnedLocks, Payload, QEdit, QOut,
-    QueueEdit, Side, ThreadLayer, WaitList,
+    CvEdit, CvLaw, CvLeave, CvOut, Guarded, OwnedConds, OwnedLocks, QEdit, QOut, QueueEdit, Side,
+    ThreadLayer, WaitList,
 };
 use plain_machine::Plain;
 use queuing_lock::{QLock, QLockEdit, lock_blocks};
@@ -45,6 +45,10 @@ impl Guarded for Reads {
 
     type Out = Tid;
 
+    type Handed = Reads;
+
+    type Brought = Tid;
+
     ghost monitor_rules = { record {
       caller = λ e. e.caller;
       edited = λ e b. b;
@@ -53,11 +57,19 @@ impl Guarded for Reads {
       allowed = λ opening past s. Unit {0};
     } };
 
-    fn caller(&self) -> Tid {
-        self.caller
+    ghost meant = { λ reads message. reads };
+
+    ghost told = { λ front message. front };
+
+    fn caller(reads: &Reads) -> Tid {
+        reads.caller
     }
 
-    fn apply(&self, block: &mut Tid, _payload: &mut Payload) -> Tid {
+    fn whole(reads: &Reads, _message: &Msg) -> Reads {
+        *reads
+    }
+
+    fn apply_handed(_reads: &Reads, block: &mut Tid, _message: &mut Msg) -> Tid {
         *block
     }
 
@@ -68,12 +80,14 @@ impl Guarded for Reads {
 
 /// Thread 0 acquires in the polls of a section; after those of its Wait it waits among the receivers
 /// and the lock has no owner; and thread 1 then acquires in those of another.
-fn waits_and_frees<G: Guarded + Copy, C: OwnedConds<G>>(
+fn waits_and_frees<G: Guarded, C: OwnedConds<G>>(
     zero: &mut C,
     one: &mut C,
     m: &mut C::Machine,
     section: usize,
 ) -> bool
+where
+    G::Handed: Copy,
     requires granted { (opening : _) (past : _) (s : _) → G.monitor_rules.allowed opening past s }
     requires zero { C.Fits zero.old m.old }
     requires one { C.Fits one.old m.old }
@@ -125,11 +139,13 @@ fn waits_and_frees<G: Guarded + Copy, C: OwnedConds<G>>(
 
 /// Thread 1 signals the front of the receivers, by which thread 0 comes into CPU 1's hand and is then
 /// sent home, and leaves the lock.
-fn signals_and_leaves<G: Guarded + Copy, C: OwnedConds<G>>(
+fn signals_and_leaves<G: Guarded, C: OwnedConds<G>>(
     one: &mut C,
     m: &mut C::Machine,
     section: usize,
 ) -> bool
+where
+    G::Handed: Copy,
     requires granted { (opening : _) (past : _) (s : _) → G.monitor_rules.allowed opening past s }
     requires fits { C.Fits one.old m.old }
     requires buffer { IsSome (C.opening m.old (Buffer (record { 0 = 0 }))) }
@@ -182,12 +198,14 @@ fn is_over<G: Guarded, C: ThreadLayer<CvLaw<G>>>(
 }
 
 /// Thread 0 waits and is woken by thread 1.
-fn is_waited_for<G: Guarded + Copy, C: OwnedConds<G>>(
+fn is_waited_for<G: Guarded, C: OwnedConds<G>>(
     zero: &mut C,
     one: &mut C,
     m: &mut C::Machine,
     section: usize,
 ) -> bool
+where
+    G::Handed: Copy,
     requires granted { (opening : _) (past : _) (s : _) → G.monitor_rules.allowed opening past s }
     requires zero { C.Fits zero.old m.old }
     requires one { C.Fits one.old m.old }

@@ -204,7 +204,7 @@ impl<S: ThreadLayer<SleepLaw<Attempt>>> CallLayer<BufferLaw> for PlainFifo<S> {
 
     fn poll(&mut self, m: &mut S::Machine, t: Tid, call: &Call) -> Option<Reply> {
         let mut payload = Payload::new();
-        let outcome = whole(
+        let outcome = whole::<Attempt, S>(
             &mut self.lower,
             m,
             buffer_in(call),

@@ -6,13 +6,13 @@ ghost use Rattle.event_log.specs.declared.ids.TheConstants.{CPUS};
 ghost use Rattle.thread_blocks.specs.Queues.{is_in};
 ghost use Rattle.layer_traits.specs.QueueBlocks.{homes_in, inner};
 ghost use Rattle.layer_traits.specs.Queues.{CallAllowed, answer_of, event, kernel, lock_of};
-ghost use Rattle.layer_traits.specs.Payloads.{call_carried, queue_brought};
+ghost use Rattle.layer_traits.specs.Payloads.{call_meant, queue_told};
 ghost use Rattle.plain_layers.specs.Kernels.{CanDo, IsDone, IsKernel, calls_in, call_room, opening_of};
 ghost use Rattle.shared_queue.specs.Opening.{AreQueues};
 
 use arrayvec::ArrayVec;
 use event_log::{BufId, CpuId, EventLog, NoMemory, THREADS, Tid};
-use layer_traits::{Ghost, Moves, Payload, QueueAnswer, QueueCall, QueueEvent, kept_homes};
+use layer_traits::{BareQueueAnswer, Moves, Payload, QueueCall, QueueEvent, kept_homes};
 use std::alloc::Global;
 use std::snapshot::Snapshot;
 use thread_blocks::ThreadQueue;
@@ -76,28 +76,29 @@ impl<E: Moves> PlainKernel<E> {
         })
     }
 
-    /// Does a whole call: does it on the lists, notes it and gives its answer.
+    /// Does a whole call: notes what is meant, does it on the lists, and gives what brings its answer.
     pub fn done(
         &mut self,
         cpu: CpuId,
-        call: QueueCall<E>,
+        call: QueueCall<E::Handed>,
         payload: &mut Payload,
-    ) -> QueueAnswer<E::Out>
+    ) -> BareQueueAnswer<E::Brought>
         requires sound { IsKernel E.rules E.moves self.old.opening (calls_in self.old) self.old.lists }
         requires room { 0 < call_room self.old }
         requires cpu { cpu.0 < CPUS }
         requires lock { IsSome (opening_of self.old.opening (lock_of call)) }
-        requires call { CallAllowed (kernel E.rules E.moves (opening_of self.old.opening)) (calls_in self.old) cpu call }
-        requires carried { call_carried E.carried call payload.old }
+        requires call { CallAllowed (kernel E.rules E.moves (opening_of self.old.opening)) (calls_in self.old) cpu (call_meant E.meant call payload.old) }
         ensures sound { IsKernel E.rules E.moves self.new.opening (calls_in self.new) self.new.lists }
         ensures opening { self.new.opening ≡ self.old.opening }
-        ensures seen { calls_in self.new ≡ event cpu call ∷ calls_in self.old }
+        ensures seen { calls_in self.new ≡ event cpu (call_meant E.meant call payload.old) ∷ calls_in self.old }
         ensures room { call_room self.old ≡ call_room self.new + 1 }
-        ensures answer { answer_of (kernel E.rules E.moves (opening_of self.old.opening)) (calls_in self.old) call ≡ Some result }
-        ensures brought { queue_brought E.brought result payload.new }
+        ensures answer { answer_of (kernel E.rules E.moves (opening_of self.old.opening)) (calls_in self.old) (call_meant E.meant call payload.old)
+            ≡ Some (queue_told E.told result payload.new) }
     {
+        // What the call leaves in the payload may lie in the place of its message.
+        let meant = whole_call::<E>(&call, payload);
         let answer = do_call::<E>(&mut self.lists, &call, payload);
-        self.log.push(QueueEvent { cpu, call }).unwrap();
+        self.log.push(QueueEvent { cpu, call: meant }).unwrap();
         answer
     }
 
@@ -119,28 +120,40 @@ impl<E: Moves> PlainKernel<E> {
     }
 }
 
-/// Does a call on the lists.
+/// The call that is meant.
+fn whole_call<E: Moves>(call: &QueueCall<E::Handed>, payload: &Payload) -> QueueCall<E>
+    ensures { result ≡ call_meant E.meant call.now payload.now }
+{
+    match call {
+        QueueCall::Push(queue, t) => QueueCall::Push(*queue, *t),
+        QueueCall::TakeAll(queue) => QueueCall::TakeAll(*queue),
+        QueueCall::OnBuffer(buffer, edit) => {
+            QueueCall::OnBuffer(*buffer, E::whole(edit, payload))
+        }
+    }
+}
+
+/// Does on the lists the call that is meant.
 fn do_call<E: Moves>(
     lists: &mut Lists<E::Block>,
-    call: &QueueCall<E>,
+    call: &QueueCall<E::Handed>,
     payload: &mut Payload,
-) -> QueueAnswer<E::Out>
-    requires can { CanDo call.now lists.old }
-    requires carried { call_carried E.carried call.now payload.old }
-    ensures done { IsDone E.rules call.now lists.old lists.new result }
-    ensures brought { queue_brought E.brought result payload.new }
+) -> BareQueueAnswer<E::Brought>
+    requires { CanDo call.now lists.old }
+    ensures { IsDone E.rules (call_meant E.meant call.now payload.old) lists.old lists.new (queue_told E.told result payload.new) }
 {
     match call {
         QueueCall::Push(queue, t) => {
             lists.pending[usize::from(queue.0)].push(*t);
-            QueueAnswer::Done
+            BareQueueAnswer::Done
         }
         QueueCall::TakeAll(queue) => {
             payload.taken = lists.pending[usize::from(queue.0)].take();
-            QueueAnswer::Taken(Ghost::of(&payload.taken))
+            BareQueueAnswer::Taken
         }
         QueueCall::OnBuffer(buffer, edit) => {
-            QueueAnswer::Answer(edit.apply(&mut lists.buffers[usize::from(buffer.0)], payload))
+            let block = &mut lists.buffers[usize::from(buffer.0)];
+            BareQueueAnswer::Answer(E::apply_handed(edit, block, payload))
         }
     }
 }

@@ -6,7 +6,8 @@
 //! ```text
 //! let mut machine = PlainLock::<AddOne>::open(alloc, blocks, 1)?;
 //! let mut part = PlainLock::<AddOne>::part(CpuId(0), &[], 1);
-//! let answer = part.poll(&mut machine, lock, AddOne, &mut payload); // Some: it is done
+//! let call = LockCall { lock, edit: AddOne };
+//! let answer = part.poll(&mut machine, call, &mut payload); // Some: it is done
 //! ```
 #![tactic(auto)]
 

@@ -6,10 +6,9 @@ ghost use Rattle.layer_traits.specs.LockLaw.{IsAcquire, lock_kernel};
 ghost use Rattle.layer_traits.specs.Locking.{lock_caller, owner_of};
 ghost use Rattle.layer_traits.specs.QueueBlocks.{inner};
 ghost use Rattle.layer_traits.specs.Queues.{buffer_sections};
-ghost use Rattle.layer_traits.specs.Payloads.{lock_carried};
 ghost use Rattle.layer_traits.specs.declared.locked.QEdit.TheVariants.{Release};
 ghost use Rattle.plain_layers.specs.declared.lock_sections.PollSection.TheVariants.{Answered, GoesOn, Sleeps};
-ghost use Rattle.plain_layers.specs.LockSections.{LockHasEnded, MayPollLockSection, SleepsFor};
+ghost use Rattle.plain_layers.specs.LockSections.{LockHasEnded, MayPollLockSection, SleepsFor, call_alone};
 
 use event_log::{BufId, Tid};
 use layer_traits::{
@@ -27,30 +26,29 @@ pub enum PollSection<O> {
     Sleeps,
 }
 
-/// One poll of a call of the thread that runs.
+/// One poll of a call of the thread that runs, with no message beside it.
 pub fn one_section_poll<F: Locked, Q: ThreadLayer<QLockLaw<F>>>(
     part: &mut Q,
     m: &mut Q::Machine,
     buffer: BufId,
-    call: QEdit<F, F::Release>,
-) -> PollSection<F::Out>
+    call: QEdit<F::Handed, F::Release>,
+) -> PollSection<F::Brought>
     requires fits { Q.Fits part.old m.old }
     requires buffer { IsSome (Q.opening m.old (Buffer buffer)) }
     requires room { 0 < Q.room m.old }
     requires poll_section { MayPollLockSection F.rules (lock_kernel F.rules (Q.opening m.old)) (Q.cpu_of part.old) (Q.seen m.old) (Q.own part.old)
-        (Q.under_way part.old) buffer call }
-    requires carried { (message : _) → lock_carried F.carried call message }
+        (Q.under_way part.old) buffer (call_alone F.meant call) }
     ensures fits { Q.Fits part.new m.new }
     ensures cpu { Q.cpu_of part.new ≡ Q.cpu_of part.old }
     ensures opening { Q.opening m.new ≡ Q.opening m.old }
     ensures room { Q.room m.old ≤ Q.room m.new + 1 }
     ensures others { (p : Q) → Q.cpu_of p ≢ Q.cpu_of part.old → Q.Fits p m.old → Q.Fits p m.new }
     ensures goes { result ≡ GoesOn → MayPollLockSection F.rules (lock_kernel F.rules (Q.opening m.new)) (Q.cpu_of part.new) (Q.seen m.new) (Q.own part.new)
-        (Q.under_way part.new) buffer call }
-    ensures sleeps { result ≡ Sleeps → SleepsFor F.rules (Q.own part.new) (Q.under_way part.new) (lock_caller F.rules call) buffer }
-    ensures ended { (outcome : _) → result ≡ Answered outcome → LockHasEnded F.rules (Q.own part.new) (Q.under_way part.new) (lock_caller F.rules call) }
-    ensures owns { (outcome : _) → result ≡ Answered outcome → IsAcquire call
-        → owner_of F.rules (inner (Q.opening m.new)) (buffer_sections (Q.seen m.new)) (Buffer buffer) ≡ Some (lock_caller F.rules call) }
+        (Q.under_way part.new) buffer (call_alone F.meant call) }
+    ensures sleeps { result ≡ Sleeps → SleepsFor F.rules (Q.own part.new) (Q.under_way part.new) (lock_caller F.rules (call_alone F.meant call)) buffer }
+    ensures ended { (outcome : _) → result ≡ Answered outcome → LockHasEnded F.rules (Q.own part.new) (Q.under_way part.new) (lock_caller F.rules (call_alone F.meant call)) }
+    ensures owns { (outcome : _) → result ≡ Answered outcome → IsAcquire (call_alone F.meant call)
+        → owner_of F.rules (inner (Q.opening m.new)) (buffer_sections (Q.seen m.new)) (Buffer buffer) ≡ Some (lock_caller F.rules (call_alone F.meant call)) }
 {
     match part.poll(m, BufferCall { buffer, edit: call }, &mut Payload::new()) {
         Some(outcome) => PollSection::Answered(outcome),
@@ -63,59 +61,52 @@ pub fn one_section_poll<F: Locked, Q: ThreadLayer<QLockLaw<F>>>(
     }
 }
 
-/// The call once more.
-fn again<F: Copy, R: Copy>(call: &QEdit<F, R>) -> QEdit<F, R>
-    ensures { result ≡ call.now }
-{
-    match call {
-        QEdit::Acquire(t) => QEdit::Acquire(*t),
-        QEdit::Inside(edit) => QEdit::Inside(*edit),
-        QEdit::Release(last) => QEdit::Release(*last),
-    }
-}
-
 /// So many polls of a call of the thread that runs; `None` if it ends or sleeps sooner.
-pub fn section_polls<F: Locked + Copy, Q: ThreadLayer<QLockLaw<F>>>(
+pub fn section_polls<F: Locked, Q: ThreadLayer<QLockLaw<F>>>(
     part: &mut Q,
     m: &mut Q::Machine,
     buffer: BufId,
-    call: &QEdit<F, F::Release>,
+    call: &QEdit<F::Handed, F::Release>,
     polls: usize,
-) -> Option<PollSection<F::Out>>
+) -> Option<PollSection<F::Brought>>
+where
+    F::Handed: Copy,
     requires fits { Q.Fits part.old m.old }
     requires buffer { IsSome (Q.opening m.old (Buffer buffer)) }
     requires room { polls ≤ Q.room m.old }
     requires poll_section { MayPollLockSection F.rules (lock_kernel F.rules (Q.opening m.old)) (Q.cpu_of part.old) (Q.seen m.old) (Q.own part.old)
-        (Q.under_way part.old) buffer call.now }
-    requires carried { (message : _) → lock_carried F.carried call.now message }
+        (Q.under_way part.old) buffer (call_alone F.meant call.now) }
     ensures fits { Q.Fits part.new m.new }
     ensures cpu { Q.cpu_of part.new ≡ Q.cpu_of part.old }
     ensures opening { Q.opening m.new ≡ Q.opening m.old }
     ensures room { Q.room m.old ≤ Q.room m.new + polls }
     ensures others { (p : Q) → Q.cpu_of p ≢ Q.cpu_of part.old → Q.Fits p m.old → Q.Fits p m.new }
     ensures goes { result ≡ Some GoesOn → MayPollLockSection F.rules (lock_kernel F.rules (Q.opening m.new)) (Q.cpu_of part.new) (Q.seen m.new) (Q.own part.new)
-        (Q.under_way part.new) buffer call.now }
-    ensures sleeps { result ≡ Some Sleeps → SleepsFor F.rules (Q.own part.new) (Q.under_way part.new) (lock_caller F.rules call.now) buffer }
-    ensures ended { (outcome : _) → result ≡ Some (Answered outcome) → LockHasEnded F.rules (Q.own part.new) (Q.under_way part.new) (lock_caller F.rules call.now) }
+        (Q.under_way part.new) buffer (call_alone F.meant call.now) }
+    ensures sleeps { result ≡ Some Sleeps → SleepsFor F.rules (Q.own part.new) (Q.under_way part.new) (lock_caller F.rules (call_alone F.meant call.now)) buffer }
+    ensures ended { (outcome : _) → result ≡ Some (Answered outcome)
+        → LockHasEnded F.rules (Q.own part.new) (Q.under_way part.new) (lock_caller F.rules (call_alone F.meant call.now)) }
 {
     let mut last = PollSection::GoesOn;
     for _ in 0..polls {
         let PollSection::GoesOn = last else {
             return None;
         };
-        last = one_section_poll::<F, Q>(part, m, buffer, again(call));
+        last = one_section_poll::<F, Q>(part, m, buffer, *call);
     }
     Some(last)
 }
 
 /// So many polls of a thread's Acquire; `None` if it may not call, or if it ends or sleeps sooner.
-pub fn acquires<F: Locked + Copy, Q: OwnedQLocks<F>>(
+pub fn acquires<F: Locked, Q: OwnedQLocks<F>>(
     part: &mut Q,
     m: &mut Q::Machine,
     buffer: BufId,
     t: Tid,
     polls: usize,
-) -> Option<PollSection<F::Out>>
+) -> Option<PollSection<F::Brought>>
+where
+    F::Handed: Copy,
     requires granted { (opening : _) (past : _) (s : _) → F.rules.allowed opening past s }
     requires fits { Q.Fits part.old m.old }
     requires buffer { IsSome (Q.opening m.old (Buffer buffer)) }
@@ -142,13 +133,15 @@ pub fn acquires<F: Locked + Copy, Q: OwnedQLocks<F>>(
 }
 
 /// So many polls of an owner's Release; `None` if it may not call, or if it ends sooner.
-pub fn releases<F: Locked + Copy, Q: OwnedQLocks<F>>(
+pub fn releases<F: Locked, Q: OwnedQLocks<F>>(
     part: &mut Q,
     m: &mut Q::Machine,
     buffer: BufId,
     last: F::Release,
     polls: usize,
-) -> Option<PollSection<F::Out>>
+) -> Option<PollSection<F::Brought>>
+where
+    F::Handed: Copy,
     requires granted { (opening : _) (past : _) (s : _) → F.rules.allowed opening past s }
     requires fits { Q.Fits part.old m.old }
     requires buffer { IsSome (Q.opening m.old (Buffer buffer)) }
@@ -182,7 +175,7 @@ pub fn is_handed<F: Locked, Q: ThreadLayer<QLockLaw<F>>>(
     m: &mut Q::Machine,
     buffer: BufId,
     t: Tid,
-) -> Option<PollSection<F::Out>>
+) -> Option<PollSection<F::Brought>>
     requires fits { Q.Fits part.old m.old }
     requires buffer { IsSome (Q.opening m.old (Buffer buffer)) }
     requires room { 0 < Q.room m.old }

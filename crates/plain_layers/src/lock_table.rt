@@ -10,7 +10,7 @@ ghost use Rattle.layer_traits.specs.Polls.{Answers};
 ghost use Rattle.plain_layers.specs.Tables.{IsSlot, IsTable, opening_in, room_in, sections_noted};
 
 use event_log::{CpuId, EventLog, LockId, NoMemory};
-use layer_traits::{Edit, Payload};
+use layer_traits::{Payload, SplitEdit};
 use std::alloc::Global;
 use std::snapshot::Snapshot;
 
@@ -28,14 +28,14 @@ pub struct Noted<E> {
 /// The block of each lock as a list, and the list of the sections that were done, with room for a
 /// number of them that is fixed when it is opened. No call after [`LockTable::open`] takes memory.
 #[derive(Drop)]
-pub struct LockTable<E: Edit> {
+pub struct LockTable<E: SplitEdit> {
     log: EventLog<Noted<E>>,
     blocks: Vec<(LockId, E::Block)>,
     // The blocks that the locks opened with, for clauses alone.
     opening: Snapshot<Vec<(LockId, E::Block)>>,
 }
 
-impl<E: Edit> LockTable<E> {
+impl<E: SplitEdit> LockTable<E> {
     /// A machine with these locks, each with its block, and with room for `room` sections.
     ///
     /// Errors: `NoMemory` where the room could not be had; then the blocks are gone.
@@ -58,22 +58,30 @@ impl<E: Edit> LockTable<E> {
         })
     }
 
-    /// Does a whole section: edits the block of `lock`, notes it and gives the edit's answer.
-    pub fn done(&mut self, cpu: CpuId, lock: LockId, edit: E, payload: &mut Payload) -> E::Out
+    /// Does a whole section: edits the block of `lock` as is meant, notes it and gives what brings the
+    /// edit's answer.
+    pub fn done(
+        &mut self,
+        cpu: CpuId,
+        lock: LockId,
+        handed: E::Handed,
+        payload: &mut Payload,
+    ) -> E::Brought
         requires sound { IsTable E.rules (opening_in self.old) (sections_noted self.old) self.old.blocks.items }
         requires room { 0 < room_in self.old }
         requires cpu { cpu.0 < CPUS }
         requires lock { IsSome (opening_in self.old lock) }
-        requires allowed { E.rules.allowed (opening_in self.old) (sections_noted self.old) (section cpu lock edit) }
-        requires carried { E.carried edit payload.old }
+        requires allowed { E.rules.allowed (opening_in self.old) (sections_noted self.old) (section cpu lock (E.meant handed payload.old)) }
         ensures sound { IsTable E.rules (opening_in self.new) (sections_noted self.new) self.new.blocks.items }
         ensures opening { opening_in self.new ≡ opening_in self.old }
-        ensures seen { sections_noted self.new ≡ section cpu lock edit ∷ sections_noted self.old }
+        ensures seen { sections_noted self.new ≡ section cpu lock (E.meant handed payload.old) ∷ sections_noted self.old }
         ensures room { room_in self.old ≡ room_in self.new + 1 }
-        ensures answer { Answers E.rules (opening_in self.old) (sections_noted self.old) (section cpu lock edit) result }
-        ensures brought { E.brought result payload.new }
+        ensures answer { Answers E.rules (opening_in self.old) (sections_noted self.old) (section cpu lock (E.meant handed payload.old))
+            (E.told result payload.new) }
     {
-        let answer = edit_at(&mut self.blocks, lock, &edit, payload);
+        // The section may put its answer's message in the place of the edit's.
+        let edit = E::whole(&handed, payload);
+        let answer = edit_at::<E>(&mut self.blocks, lock, &handed, payload);
         self.log.push(Noted { cpu, lock, edit }).unwrap();
         answer
     }
@@ -89,22 +97,21 @@ impl<E: Edit> LockTable<E> {
     }
 }
 
-/// Edits the block of `lock` in the list, and gives the edit's answer.
-fn edit_at<E: Edit>(
+/// Edits the block of `lock` in the list as is meant, and gives what brings the edit's answer.
+fn edit_at<E: SplitEdit>(
     blocks: &mut Vec<(LockId, E::Block)>,
     lock: LockId,
-    edit: &E,
+    handed: &E::Handed,
     payload: &mut Payload,
-) -> E::Out
-    requires there { IsSome (opened blocks.old.items lock) }
-    requires carried { E.carried edit.now payload.old }
+) -> E::Brought
+    requires { IsSome (opened blocks.old.items lock) }
     ensures block { (l : LockId) → opened blocks.new.items l
-        ≡ (if same_lock l lock then option_map (E.rules.edited edit.now) (opened blocks.old.items l) else opened blocks.old.items l) }
-    ensures answer { option_map (E.rules.answer edit.now) (opened blocks.old.items lock) ≡ Some result }
-    ensures brought { E.brought result payload.new }
+        ≡ (if same_lock l lock then option_map (E.rules.edited (E.meant handed.now payload.old)) (opened blocks.old.items l) else opened blocks.old.items l) }
+    ensures answer { option_map (E.rules.answer (E.meant handed.now payload.old)) (opened blocks.old.items lock)
+        ≡ Some (E.told result payload.new) }
 {
     let slot = slot_of(blocks, lock);
-    edit.apply(&mut blocks[slot].1, payload)
+    E::apply_handed(handed, &mut blocks[slot].1, payload)
 }
 
 /// The slot of `lock` in the list: the first entry that names it.

@@ -17,10 +17,10 @@ use crate::lock_sections::{
     PollSection, acquires, drains, is_handed, releases, section_polls, switches,
 };
 use crate::openings::{Opens, SchedLaws};
-use event_log::{BufId, CPUS, CpuId, NoMemory, THREADS, Tid};
+use event_log::{BufId, CPUS, CpuId, Msg, NoMemory, THREADS, Tid};
 use layer_traits::{
-    Locked, OwnedLocks, OwnedQLocks, Payload, QEdit, QLockLaw, QOut, QueueEdit, Side, ThreadLayer,
-    WaitList, WakeWaiter,
+    Locked, OwnedLocks, OwnedQLocks, QEdit, QLockLaw, QOut, QueueEdit, Side, ThreadLayer, WaitList,
+    WakeWaiter,
 };
 use plain_machine::Plain;
 use queuing_lock::{QBlock, QLock, QLockEdit, lock_blocks};
@@ -46,6 +46,10 @@ impl Locked for Reads {
 
     type Out = u8;
 
+    type Handed = Reads;
+
+    type Brought = u8;
+
     type Release = Tid;
 
     ghost rules = { record {
@@ -60,15 +64,23 @@ impl Locked for Reads {
       allowed = λ opening past s. Unit {0};
     } };
 
-    fn caller(&self) -> Tid {
-        self.caller
+    ghost meant = { λ reads message. reads };
+
+    ghost told = { λ block message. block };
+
+    fn caller(reads: &Reads) -> Tid {
+        reads.caller
     }
 
-    fn apply(&self, block: &mut u8, _payload: &mut Payload) -> u8 {
+    fn whole(reads: &Reads, _message: &Msg) -> Reads {
+        *reads
+    }
+
+    fn apply_handed(_reads: &Reads, block: &mut u8, _message: &mut Msg) -> u8 {
         *block
     }
 
-    fn signals(_out: &u8) -> WakeWaiter {
+    fn signals(_block: &u8) -> WakeWaiter {
         WakeWaiter::Nobody
     }
 
@@ -80,18 +92,20 @@ impl Locked for Reads {
         *block
     }
 
-    fn waits(_out: &u8) -> Option<Side> {
+    fn waits(_block: &u8) -> Option<Side> {
         None
     }
 }
 
 /// Thread 0 acquires in the polls of a section; thread 1's Acquire then sleeps at the lock.
-fn one_sleeps<F: Locked + Copy, Q: OwnedQLocks<F>>(
+fn one_sleeps<F: Locked, Q: OwnedQLocks<F>>(
     zero: &mut Q,
     one: &mut Q,
     m: &mut Q::Machine,
     section: usize,
 ) -> bool
+where
+    F::Handed: Copy,
     requires granted { (opening : _) (past : _) (s : _) → F.rules.allowed opening past s }
     requires zero { Q.Fits zero.old m.old }
     requires one { Q.Fits one.old m.old }
@@ -125,12 +139,14 @@ fn one_sleeps<F: Locked + Copy, Q: OwnedQLocks<F>>(
 
 /// Thread 0's Release leaves thread 1 the owner and in CPU 0's hand after the polls of a section,
 /// and answers after as many more, by which thread 1 is sent home.
-fn hands_over<F: Locked + Copy, Q: OwnedQLocks<F>>(
+fn hands_over<F: Locked, Q: OwnedQLocks<F>>(
     zero: &mut Q,
     m: &mut Q::Machine,
     last: F::Release,
     section: usize,
 ) -> bool
+where
+    F::Handed: Copy,
     requires granted { (opening : _) (past : _) (s : _) → F.rules.allowed opening past s }
     requires fits { Q.Fits zero.old m.old }
     requires buffer { IsSome (Q.opening m.old (Buffer (record { 0 = 0 }))) }
@@ -155,11 +171,13 @@ fn hands_over<F: Locked + Copy, Q: OwnedQLocks<F>>(
 }
 
 /// Thread 1 is told that it owns the lock only once it runs again on its CPU.
-fn one_is_observed<F: Locked + Copy, Q: OwnedQLocks<F>>(
+fn one_is_observed<F: Locked, Q: OwnedQLocks<F>>(
     one: &mut Q,
     m: &mut Q::Machine,
     section: usize,
 ) -> bool
+where
+    F::Handed: Copy,
     requires fits { Q.Fits one.old m.old }
     requires buffer { IsSome (Q.opening m.old (Buffer (record { 0 = 0 }))) }
     requires room { section < Q.room m.old }
@@ -180,7 +198,7 @@ fn one_is_observed<F: Locked + Copy, Q: OwnedQLocks<F>>(
 }
 
 /// The lock passes from thread 0 to thread 1, for which thread 2 then sleeps.
-fn is_handed_over<F: Locked + Copy, Q: OwnedQLocks<F>>(
+fn is_handed_over<F: Locked, Q: OwnedQLocks<F>>(
     zero: &mut Q,
     one: &mut Q,
     two: &mut Q,
@@ -188,6 +206,8 @@ fn is_handed_over<F: Locked + Copy, Q: OwnedQLocks<F>>(
     last: F::Release,
     section: usize,
 ) -> bool
+where
+    F::Handed: Copy,
     requires granted { (opening : _) (past : _) (s : _) → F.rules.allowed opening past s }
     requires last { F.rules.last_caller last ≡ record { 0 = 0 } }
     requires zero { Q.Fits zero.old m.old }

@@ -4,7 +4,7 @@ ghost use Rattle.std.specs.Prelude.{◌≡◌, [], None, false, refl};
 
 use crate::lock_table::LockTable;
 use event_log::{CpuId, LockId, NoMemory};
-use layer_traits::{Edit, Layer, LockCall, LockLaw, OwnedLocks, Payload};
+use layer_traits::{Layer, LockCall, LockLaw, OwnedLocks, Payload, SplitEdit};
 use std::alloc::Global;
 use std::marker::PhantomData;
 
@@ -16,7 +16,7 @@ pub struct PlainLock<E> {
     edits: PhantomData<E>,
 }
 
-impl<E: Edit> Layer<LockLaw<E>> for PlainLock<E> {
+impl<E: SplitEdit> Layer<LockLaw<E>> for PlainLock<E> {
     ghost use Rattle.std.specs.Prelude.{◌<◌};
     ghost use Rattle.event_log.specs.declared.ids.TheConstants.{CPUS};
     ghost use Rattle.plain_layers.specs.Tables.{IsTable, opening_in, room_in, sections_noted};
@@ -69,9 +69,9 @@ impl<E: Edit> Layer<LockLaw<E>> for PlainLock<E> {
     fn poll(
         &mut self,
         m: &mut LockTable<E>,
-        call: LockCall<E>,
+        call: LockCall<E::Handed>,
         payload: &mut Payload,
-    ) -> Option<E::Out> {
+    ) -> Option<E::Brought> {
         Some(m.done(self.cpu, call.lock, call.edit, payload))
     }
 
@@ -100,7 +100,7 @@ impl<E: Edit> Layer<LockLaw<E>> for PlainLock<E> {
     ghost busy = { λ p m fits step. absurd step };
 }
 
-impl<E: Edit> OwnedLocks<E> for PlainLock<E> {
+impl<E: SplitEdit> OwnedLocks<E> for PlainLock<E> {
     ghost use Rattle.layer_traits.specs.OneLock.{AreDistinct, opened};
     ghost use Rattle.plain_layers.specs.Laws.ShownLaws.{table_shown};
     ghost use Rattle.plain_layers.specs.Tables.{opening_in, sections_noted};

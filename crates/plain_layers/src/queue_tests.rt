@@ -6,7 +6,7 @@ ghost use Rattle.event_log.specs.declared.ids.LockId.TheVariants.{Pending};
 ghost use Rattle.event_log.specs.declared.ids.TheConstants.{CPUS};
 ghost use Rattle.layer_traits.specs.QueueBlocks.{homes_in, inner};
 ghost use Rattle.layer_traits.specs.Queues.{QueueAllowed, StaysCallable, event, kernel, lock_of};
-ghost use Rattle.layer_traits.specs.Payloads.{call_carried, queue_brought};
+ghost use Rattle.layer_traits.specs.Payloads.{call_meant};
 ghost use Rattle.plain_layers.specs.Naps.{waiters_of};
 ghost use Rattle.plain_layers.specs.QueueSections.{cpu_one, cpu_zero};
 
@@ -14,7 +14,7 @@ use crate::PlainQueues;
 use crate::kernel::PlainKernel;
 use crate::sched_tests::{Nap, NapLaws};
 use event_log::{BufId, CpuId, NoMemory, Tid};
-use layer_traits::{Layer, Moves, Payload, QueueAnswer, QueueCall, QueueLayer};
+use layer_traits::{BareQueueAnswer, Layer, Moves, Payload, QueueCall, QueueLayer};
 use std::alloc::Global;
 use std::marker::PhantomData;
 use std::process::Abort;
@@ -26,33 +26,32 @@ use thread_blocks::ThreadQueue;
 fn at_once<E: Moves, Q: QueueLayer<E>>(
     part: &mut Q,
     m: &mut Q::Machine,
-    call: QueueCall<E>,
+    call: QueueCall<E::Handed>,
     payload: &mut Payload,
-) -> QueueAnswer<E::Out>
+) -> BareQueueAnswer<E::Brought>
     requires whole { Q.IsWhole }
     requires all { (c : CpuId) → c.0 < CPUS → Q.ActsFor m.old c }
     requires fits { Q.Fits part.old m.old }
     requires idle { Q.under_way part.old ≡ None }
     requires lock { IsSome (Q.opening m.old (lock_of call)) }
     requires room { 0 < Q.room m.old }
-    requires call { StaysCallable (QueueAllowed (kernel E.rules E.moves (Q.opening m.old))) (Q.seen m.old) (event (Q.cpu_of part.old) call) }
-    requires carried { call_carried E.carried call payload.old }
+    requires call { StaysCallable (QueueAllowed (kernel E.rules E.moves (Q.opening m.old))) (Q.seen m.old) (event (Q.cpu_of part.old)
+        (call_meant E.meant call payload.old)) }
     ensures all { (c : CpuId) → c.0 < CPUS → Q.ActsFor m.new c }
     ensures fits { Q.Fits part.new m.new }
     ensures idle { Q.under_way part.new ≡ None }
     ensures cpu { Q.cpu_of part.new ≡ Q.cpu_of part.old }
     ensures opening { Q.opening m.new ≡ Q.opening m.old }
     ensures room { Q.room m.old ≤ Q.room m.new + 1 }
-    ensures seen { Q.seen m.new ≡ event (Q.cpu_of part.old) call ∷ Q.seen m.old }
+    ensures seen { Q.seen m.new ≡ event (Q.cpu_of part.old) (call_meant E.meant call payload.old) ∷ Q.seen m.old }
     ensures others { (p : Q) → Q.cpu_of p ≢ Q.cpu_of part.old → Q.Fits p m.old → Q.Fits p m.new }
-    ensures brought { queue_brought E.brought result payload.new }
 {
     part.poll(m, call, payload).unwrap()
 }
 
 /// Whether the threads that were taken, which lie in the payload, are this one alone.
-fn is_taken(answer: QueueAnswer<(bool, Option<Tid>)>, payload: &mut Payload, t: Tid) -> bool {
-    let QueueAnswer::Taken(_) = answer else {
+fn is_taken(answer: BareQueueAnswer<(bool, Option<Tid>)>, payload: &mut Payload, t: Tid) -> bool {
+    let BareQueueAnswer::Taken = answer else {
         return false;
     };
     let mut queue = ThreadQueue::new();
@@ -94,13 +93,13 @@ fn meet_at_one_queue<Q: QueueLayer<Nap>>(
         wakes: true,
     };
     let mut payload = Payload::new();
-    let slept = at_once(first, m, QueueCall::OnBuffer(BufId(0), sleep), &mut payload);
-    assert!(rt; matches!(slept, QueueAnswer::Answer((true, None))));
-    let woke = at_once(second, m, QueueCall::OnBuffer(BufId(0), wake), &mut payload);
-    assert!(rt; matches!(woke, QueueAnswer::Answer((false, Some(Tid(1))))));
-    let pushed = at_once(second, m, QueueCall::Push(CpuId(0), Tid(1)), &mut payload);
-    assert!(rt; matches!(pushed, QueueAnswer::Done));
-    let taken = at_once(first, m, QueueCall::TakeAll(CpuId(0)), &mut payload);
+    let slept = at_once::<Nap, Q>(first, m, QueueCall::OnBuffer(BufId(0), sleep), &mut payload);
+    assert!(rt; matches!(slept, BareQueueAnswer::Answer((true, None))));
+    let woke = at_once::<Nap, Q>(second, m, QueueCall::OnBuffer(BufId(0), wake), &mut payload);
+    assert!(rt; matches!(woke, BareQueueAnswer::Answer((false, Some(Tid(1))))));
+    let pushed = at_once::<Nap, Q>(second, m, QueueCall::Push(CpuId(0), Tid(1)), &mut payload);
+    assert!(rt; matches!(pushed, BareQueueAnswer::Done));
+    let taken = at_once::<Nap, Q>(first, m, QueueCall::TakeAll(CpuId(0)), &mut payload);
     assert!(rt; is_taken(taken, &mut payload, Tid(1)));
 }
 

@@ -4,7 +4,7 @@ ghost use Rattle.std.specs.Prelude.{[], None, false, refl};
 
 use crate::kernel::PlainKernel;
 use event_log::{BufId, CpuId, Tid};
-use layer_traits::{Layer, Moves, OwnedQueues, Payload, QueueAnswer, QueueCall, QueueLaw};
+use layer_traits::{BareQueueAnswer, Layer, Moves, OwnedQueues, Payload, QueueCall, QueueLaw};
 use std::marker::PhantomData;
 
 /// One CPU's part of shared queues as they are meant: a push, a taking or an edit is done in one
@@ -68,9 +68,9 @@ impl<E: Moves> Layer<QueueLaw<E>> for PlainQueues<E> {
     fn poll(
         &mut self,
         m: &mut PlainKernel<E>,
-        call: QueueCall<E>,
+        call: QueueCall<E::Handed>,
         payload: &mut Payload,
-    ) -> Option<QueueAnswer<E::Out>> {
+    ) -> Option<BareQueueAnswer<E::Brought>> {
         Some(m.done(self.cpu, call, payload))
     }
 

@@ -14,8 +14,8 @@ use crate::openings::{Opens, SchedLaws};
 use crate::{PlainLock, PlainQueues, PlainSched};
 use event_log::{BufId, CPUS, CpuId, LockId, NoMemory, Tid};
 use layer_traits::{
-    Edit, Moves, OwnedLocks, OwnedScheds, Pass, Payload, QueueAnswer, QueueBlock, QueueEdit,
-    SchedCall, SchedLayer, WaitList,
+    BareQueueAnswer, Moves, OwnedLocks, OwnedScheds, Pass, Payload, QueueAnswer, QueueBlock,
+    QueueEdit, SchedCall, SchedLayer, SplitEdit, WaitList,
 };
 use plain_machine::{GrantLockWords, GrantPlain, Plain};
 use scheduler::Sched;
@@ -33,24 +33,40 @@ pub(crate) struct Nap {
     pub(crate) wakes: bool,
 }
 
-impl Edit for Nap {
+impl SplitEdit for Nap {
     ghost use Rattle.plain_layers.specs.Naps.{nap_rules};
 
     type Block = Option<Tid>;
 
     type Out = (bool, Option<Tid>);
 
+    type Handed = Nap;
+
+    type Brought = (bool, Option<Tid>);
+
     ghost rules = { nap_rules (λ e. e.wakes) (λ e. e.by) };
 
-    fn apply(&self, block: &mut Option<Tid>, _payload: &mut Payload) -> (bool, Option<Tid>) {
-        if self.wakes {
+    ghost meant = { λ nap payload. nap };
+
+    ghost told = { λ out payload. out };
+
+    fn whole(nap: &Nap, _payload: &Payload) -> Nap {
+        *nap
+    }
+
+    fn apply_handed(
+        nap: &Nap,
+        block: &mut Option<Tid>,
+        _payload: &mut Payload,
+    ) -> (bool, Option<Tid>) {
+        if nap.wakes {
             let woke = *block;
             *block = None;
             return (false, woke);
         }
         match *block {
             None => {
-                *block = Some(self.by);
+                *block = Some(nap.by);
                 (true, None)
             }
             Some(_) => (false, None),
@@ -86,6 +102,7 @@ pub(crate) type NapLaws = PhantomData<
         SchedLaws<Nap>,
         QueueBlock<Option<Tid>>,
         QueueAnswer<(bool, Option<Tid>)>,
+        BareQueueAnswer<(bool, Option<Tid>)>,
     ),
 >;
 

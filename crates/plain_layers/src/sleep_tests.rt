@@ -12,7 +12,7 @@ ghost use Rattle.sleep_wakeup.specs.Nested.{state_of};
 
 use crate::PlainSched;
 use crate::openings::{Opens, SchedLaws};
-use event_log::{BufId, CPUS, CpuId, NoMemory, Tid};
+use event_log::{BufId, CPUS, CpuId, Msg, NoMemory, Tid};
 use layer_traits::{
     BufferCall, Outcome, OwnedLocks, OwnedSleeps, Pass, Payload, QueueEdit, SleepLaw, Sleeps,
     ThreadLayer, WaitList, Wake,
@@ -43,6 +43,10 @@ impl Sleeps for Nap {
 
     type Out = Nap;
 
+    type Handed = Nap;
+
+    type Brought = Nap;
+
     ghost rules = { record {
       caller = λ e. e.caller;
       edited = λ e first b. b;
@@ -52,26 +56,34 @@ impl Sleeps for Nap {
       allowed = λ opening past s. Unit {0};
     } };
 
-    fn caller(&self) -> Tid {
-        self.caller
+    ghost meant = { λ nap message. nap };
+
+    ghost told = { λ nap message. nap };
+
+    fn caller(nap: &Nap) -> Tid {
+        nap.caller
     }
 
-    fn apply(&self, _first: Option<Tid>, _block: &mut u8, _payload: &mut Payload) -> Nap {
-        *self
+    fn whole(nap: &Nap, _message: &Msg) -> Nap {
+        *nap
     }
 
-    fn joins(out: &Nap) -> Option<WaitList> {
-        if out.sleeps {
+    fn apply_handed(nap: &Nap, _first: Option<Tid>, _block: &mut u8, _message: &mut Msg) -> Nap {
+        *nap
+    }
+
+    fn joins(nap: &Nap) -> Option<WaitList> {
+        if nap.sleeps {
             return Some(WaitList::Receivers);
         }
         None
     }
 
-    fn leaves(out: &Nap) -> Wake {
-        if out.sleeps {
+    fn leaves(nap: &Nap) -> Wake {
+        if nap.sleeps {
             return Wake::Nobody;
         }
-        Wake::Receiver(out.other)
+        Wake::Receiver(nap.other)
     }
 }
 

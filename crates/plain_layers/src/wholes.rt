@@ -4,22 +4,25 @@ ghost use Rattle.std.specs.Prelude.{◌≡◌, ◌≢◌, ◌+◌, ◌<◌, ◌�
 ghost use Rattle.event_log.specs.declared.ids.CpuId.{CpuId};
 ghost use Rattle.event_log.specs.declared.ids.LockId.TheVariants.{Buffer};
 ghost use Rattle.event_log.specs.declared.ids.TheConstants.{CPUS};
+ghost use Rattle.layer_traits.specs.Payloads.{outcome_told};
 ghost use Rattle.layer_traits.specs.SleepLaw.{MaySleep, sleep_kernel};
 ghost use Rattle.plain_layers.specs.Wholes.{IsDoneWhole, asked};
 
 use event_log::BufId;
 use layer_traits::{BufferCall, Outcome, Payload, SleepLaw, Sleeps, ThreadLayer};
 
-/// Does the whole section of `edit` at the lock of `buffer`, where the holder of the machine acts
-/// for every CPU: one poll, or two where the section wakes a thread of another CPU and its caller
-/// goes on.
-pub fn whole<E: Sleeps + Copy, S: ThreadLayer<SleepLaw<E>>>(
+/// Does the whole section of the edit that is meant at the lock of `buffer`, where the holder of the
+/// machine acts for every CPU: one poll, or two where the section wakes a thread of another CPU and
+/// its caller goes on.
+pub fn whole<E: Sleeps, S: ThreadLayer<SleepLaw<E>>>(
     part: &mut S,
     m: &mut S::Machine,
     buffer: BufId,
-    edit: E,
+    edit: E::Handed,
     payload: &mut Payload,
-) -> Outcome<E::Out>
+) -> Outcome<E::Brought>
+where
+    E::Handed: Copy,
     requires whole { S.IsWhole }
     requires all { (c : CpuId) → c.0 < CPUS → S.ActsFor m.old c }
     requires fits { S.Fits part.old m.old }
@@ -27,11 +30,10 @@ pub fn whole<E: Sleeps + Copy, S: ThreadLayer<SleepLaw<E>>>(
     requires deferred { (S.own part.old).deferred ≡ None }
     requires buffer { IsSome (S.opening m.old (Buffer buffer)) }
     requires room { 1 < S.room m.old }
-    requires call { MaySleep (sleep_kernel E.rules (S.opening m.old)) (S.cpu_of part.old) (S.seen m.old) (S.own part.old).threads buffer edit }
-    requires carried { E.carried edit payload.old.message }
-    ensures done { IsDoneWhole (asked (sleep_kernel E.rules (S.opening m.old)) (S.cpu_of part.old) buffer edit) (S.seen m.old) (S.seen m.new)
-        (S.own part.old).threads (S.own part.new) result }
-    ensures brought { E.brought result.out payload.new.message }
+    requires call { MaySleep (sleep_kernel E.rules (S.opening m.old)) (S.cpu_of part.old) (S.seen m.old) (S.own part.old).threads buffer
+        (E.meant edit payload.old.message) }
+    ensures done { IsDoneWhole (asked (sleep_kernel E.rules (S.opening m.old)) (S.cpu_of part.old) buffer (E.meant edit payload.old.message))
+        (S.seen m.old) (S.seen m.new) (S.own part.old).threads (S.own part.new) (outcome_told E.told result payload.new.message) }
     ensures fits { S.Fits part.new m.new }
     ensures cpu { S.cpu_of part.new ≡ S.cpu_of part.old }
     ensures none { S.under_way part.new ≡ None }

@@ -14,6 +14,7 @@
 
 mod cells;
 mod line_words;
+mod meant;
 mod notes;
 mod plain;
 #[cfg(test)]
@@ -22,4 +23,5 @@ mod stored_words;
 mod tests;
 
 pub use line_words::{GrantLockWords, Granting, LineWords, LockWords};
+pub use meant::Meant;
 pub use plain::{GrantPlain, Plain};

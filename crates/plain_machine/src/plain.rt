@@ -4,9 +4,10 @@ ghost use Rattle.std.specs.Prelude.{◌≡◌, ℕ, ◌%◌, ◌^◌, ◌<◌, [
 
 use crate::cells::{self, Cell};
 use crate::line_words::{GrantLockWords, Granting, LineWords, LockWords};
+use crate::meant::Meant;
 use crate::notes::Notes;
 use event_log::{CPUS, CpuId, LockId, NoMemory};
-use layer_traits::{Edit, GrantWords, Mark, OwnedWords, UsesGrantWords, Words};
+use layer_traits::{GrantWords, Mark, OwnedWords, SplitEdit, UsesGrantWords, Words};
 use std::alloc::Global;
 use std::snapshot::Snapshot;
 
@@ -14,8 +15,8 @@ use std::snapshot::Snapshot;
 /// happened to them. It acts for every CPU. No call after [`Plain::open`] takes memory. Its locks
 /// are ticket locks, if no other words are named.
 #[derive(Drop)]
-pub struct Plain<E: Edit, K: LineWords = LockWords> {
-    log: Notes<Mark<E>>,
+pub struct Plain<E: SplitEdit, K: LineWords = LockWords> {
+    log: Notes<Mark<Meant<E, E::Handed>>>,
     cells: Vec<Option<Cell<K, E::Block>>>,
     // The blocks that the locks opened with, for clauses alone.
     opening: Snapshot<Vec<(LockId, E::Block)>>,
@@ -24,7 +25,7 @@ pub struct Plain<E: Edit, K: LineWords = LockWords> {
 /// The owned machine whose locks have a grant word for each waiter.
 pub type GrantPlain<E> = Plain<E, Granting>;
 
-impl<E: Edit, K: LineWords> Plain<E, K> {
+impl<E: SplitEdit, K: LineWords> Plain<E, K> {
     ghost use Rattle.event_log.specs.Sections.{block_after};
     ghost use Rattle.event_log.specs.declared.ids.CpuId.{CpuId};
     ghost use Rattle.event_log.specs.declared.ids.TheConstants.{CPUS};
@@ -79,7 +80,7 @@ impl<E: Edit, K: LineWords> Plain<E, K> {
     }
 }
 
-impl<E: Edit> Plain<E, LockWords> {
+impl<E: SplitEdit> Plain<E, LockWords> {
     ghost use Rattle.event_log.specs.WordsLog.{draws, frees};
 
     /// The words of `lock`, modulo 2^64: how often it was drawn at, and how often it was freed.
@@ -95,7 +96,7 @@ impl<E: Edit> Plain<E, LockWords> {
     }
 }
 
-impl<E: Edit> Plain<E, Granting> {
+impl<E: SplitEdit> Plain<E, Granting> {
     ghost use Rattle.std.specs.Prelude.{slice_index};
     ghost use Rattle.event_log.specs.declared.ids.TheConstants.{CPUS};
     ghost use Rattle.event_log.specs.Grants.{tickets, grant_word};
@@ -115,14 +116,14 @@ impl<E: Edit> Plain<E, Granting> {
     }
 }
 
-impl<E: Edit, K: LineWords> Words for Plain<E, K> {
+impl<E: SplitEdit, K: LineWords> Words for Plain<E, K> {
     ghost use Rattle.event_log.specs.declared.ids.TheConstants.{CPUS};
     ghost use Rattle.layer_traits.specs.OneLock.{opened};
     ghost use Rattle.plain_machine.specs.Machine.{IsServed, history, room_left};
 
     type Edit = E;
 
-    type Mark = Mark<E>;
+    type Mark = Mark<Meant<E, E::Handed>>;
 
     ghost edit_in = { λ mark. mark.edit };
 
@@ -135,8 +136,10 @@ impl<E: Edit, K: LineWords> Words for Plain<E, K> {
     ghost room = { λ w. room_left w.log };
 
     #[inline(always)]
-    fn mark(edit: E) -> Mark<E> {
-        Mark { edit }
+    fn mark(handed: E::Handed, edit: E) -> Mark<Meant<E, E::Handed>> {
+        Mark {
+            edit: Meant::of(handed, &edit),
+        }
     }
 
     #[inline(always)]
@@ -153,7 +156,7 @@ impl<E: Edit, K: LineWords> Words for Plain<E, K> {
     }
 
     #[inline(always)]
-    fn free(&mut self, cpu: CpuId, lock: LockId, block: E::Block, mark: Mark<E>) {
+    fn free(&mut self, cpu: CpuId, lock: LockId, block: E::Block, mark: Mark<Meant<E, E::Handed>>) {
         cells::give(&mut self.cells, lock, block);
         self.log.free(cpu, lock, mark);
     }
@@ -161,7 +164,7 @@ impl<E: Edit, K: LineWords> Words for Plain<E, K> {
     ghost legal = { λ w c acts. acts.1.legal };
 }
 
-impl<E: Edit, K: LineWords> OwnedWords for Plain<E, K> {
+impl<E: SplitEdit, K: LineWords> OwnedWords for Plain<E, K> {
     ghost use Rattle.event_log.specs.declared.ids.TheConstants.{CPUS};
     ghost use Rattle.layer_traits.specs.OneLock.{AreDistinct, opened};
     ghost use Rattle.plain_machine.specs.Laws.HomeLaws.{home_reads};
@@ -188,4 +191,4 @@ impl<E: Edit, K: LineWords> OwnedWords for Plain<E, K> {
         (acts.1.fits lock there) };
 }
 
-impl<E: Edit> UsesGrantWords for Plain<E, Granting> {}
+impl<E: SplitEdit> UsesGrantWords for Plain<E, Granting> {}

@@ -7,7 +7,7 @@ ghost use Rattle.event_log.specs.WordsLog.{lock_phase, Idle};
 use crate::stored_words::StoredWords;
 use crate::{GrantLockWords, Granting, LineWords, LockWords, Plain};
 use event_log::{BufId, CPUS, CpuId, LockId, NoMemory};
-use layer_traits::{Edit, GrantWords, Payload, Words};
+use layer_traits::{GrantWords, Payload, SplitEdit, Words};
 use std::alloc::Global;
 use std::test::Fail;
 
@@ -15,10 +15,14 @@ use std::test::Fail;
 #[derive(Drop)]
 struct AddOne;
 
-impl Edit for AddOne {
+impl SplitEdit for AddOne {
     type Block = u64;
 
     type Out = u64;
+
+    type Handed = AddOne;
+
+    type Brought = u64;
 
     ghost rules = { record {
       edited = λ e n. (n + 1) % 2 ^ 64;
@@ -26,7 +30,15 @@ impl Edit for AddOne {
       allowed = λ opening past s. Unit {0};
     } };
 
-    fn apply(&self, block: &mut u64, _payload: &mut Payload) -> u64 {
+    ghost meant = { λ handed payload. handed };
+
+    ghost told = { λ brought payload. brought };
+
+    fn whole(_handed: &AddOne, _payload: &Payload) -> AddOne {
+        AddOne
+    }
+
+    fn apply_handed(_handed: &AddOne, block: &mut u64, _payload: &mut Payload) -> u64 {
         let old = *block;
         *block = old.wrapping_add(1);
         old
@@ -73,8 +85,8 @@ fn add_one<W: Words<Edit = AddOne>>(words: &mut W, cpu: CpuId, lock: LockId) -> 
 {
     let ticket = words.draw(cpu, lock);
     let mut block = words.look(cpu, lock, ticket)?;
-    let number = AddOne.apply(&mut block, &mut Payload::new());
-    words.free(cpu, lock, block, W::mark(AddOne));
+    let number = AddOne::apply_handed(&AddOne, &mut block, &mut Payload::new());
+    words.free(cpu, lock, block, W::mark(AddOne, AddOne));
     Some(number)
 }
 
@@ -93,8 +105,8 @@ fn add_one_granted<W: GrantWords<Edit = AddOne>>(
 {
     let ticket = words.take(cpu, lock);
     let mut block = words.peek(cpu, lock, ticket)?;
-    let number = AddOne.apply(&mut block, &mut Payload::new());
-    words.give(cpu, lock, block, W::mark(AddOne));
+    let number = AddOne::apply_handed(&AddOne, &mut block, &mut Payload::new());
+    words.give(cpu, lock, block, W::mark(AddOne, AddOne));
     Some(number)
 }
 

@@ -46,12 +46,12 @@ use Rattle.queuing_lock.proofs.DeferredLemmas.{DeferredIn, asks_none, deferred_r
 use Rattle.queuing_lock.proofs.OwnerLemmas.{locks_may, runs_awake}
 use Rattle.queuing_lock.proofs.PollLemmas.{SectionPoll, awaits_owner, slept_of_others, slept_polled, slept_queued}
 
--- the call under way beneath is the one under way here
-pub under_is : {F R O : Type 0} (under : Option (SchedCall (QLockEdit F R))) (answer : Option O) (b : BufId) (e : QEdit F R)
+-- the call under way beneath is the one under way here, whatever the answer tells
+pub under_is : {F R A T : Type 0} (told : A → T) (under : Option (SchedCall (QLockEdit F R))) (answer : Option A) (b : BufId) (e : QEdit F R)
     → under ≡ (if is_some answer then None else Some (call.OnBuffer b (as_section e)))
-    → option_map (renamed_sched edit_in) under ≡ (if is_some answer then None else Some (call.OnBuffer b e))
-under_is under None b e is = ap (option_map (renamed_sched edit_in)) is
-under_is under (Some a) b e is = ap (option_map (renamed_sched edit_in)) is
+    → option_map (renamed_sched edit_in) under ≡ (if is_some (option_map told answer) then None else Some (call.OnBuffer b e))
+under_is told under None b e is = ap (option_map (renamed_sched edit_in)) is
+under_is told under (Some a) b e is = ap (option_map (renamed_sched edit_in)) is
 
 -- and so is a pass
 pub pass_is : {F R A : Type 0} (under : Option (SchedCall (QLockEdit F R))) (answer : Option A) (p : Pass)

@@ -10,6 +10,7 @@ use Rattle.event_log.specs.declared.ids.LockId.{LockId}
 use Rattle.event_log.specs.declared.ids.LockId.TheVariants.{Buffer}
 use Rattle.event_log.specs.declared.ids.TheConstants.{THREADS}
 use Rattle.event_log.specs.declared.ids.Tid.{Tid}
+use Rattle.event_log.specs.declared.messages.Msg.{Msg}
 use Rattle.event_log.specs.History.{IsLawful, same_cpu}
 use Rattle.event_log.proofs.Foreign.{lawful_before}
 use Rattle.event_log.proofs.Same.{same_cpu_true, same_lock_self}
@@ -30,6 +31,7 @@ use Rattle.layer_traits.specs.Locking.{LockRules, LockState, asked, wait_list_in
 use Rattle.layer_traits.specs.Locking.{asker_report}
 use Rattle.layer_traits.specs.LockLaw.{HasOrAwaits, left_locked, locking, lock_kernel, slept_for}
 use Rattle.layer_traits.specs.Passes.{queue_for}
+use Rattle.layer_traits.specs.Payloads.{lock_told, outcome_told}
 use Rattle.layer_traits.specs.Places.{Threads, home_of}
 use Rattle.layer_traits.specs.QueueBlocks.{homes_in, inner}
 use Rattle.layer_traits.specs.Queues.{QueueAllowed, buffer_sections, event}
@@ -82,6 +84,23 @@ reported_is t b slept sleep Acquired outcome = refl
 reported_is t b slept sleep Queued outcome = refl
 reported_is t b slept sleep (Did out) outcome = refl
 reported_is t b slept sleep (Released out) outcome = refl
+
+-- whether a call slept does not depend on what its answer tells
+pub slept_told : {B O : Type 0} (told : B → Msg → O) (message : Msg) (t : Tid) (b : BufId) (slept : List (Option BufId)) (out : QOut B)
+    → slept_left_with t b slept out ≡ slept_left_with t b slept (lock_told told out message)
+slept_told told message t b slept Acquired = refl
+slept_told told message t b slept Queued = refl
+slept_told told message t b slept (Did out) = refl
+slept_told told message t b slept (Released out) = refl
+
+-- nor does whether its outcome is handed on
+pub reported_told : {B O : Type 0} (told : B → Msg → O) (message : Msg) (out : QOut B) (outcome : Outcome (QOut B))
+    → option_map (λ o. outcome_told (lock_told told) o message) (reported_with out outcome)
+    ≡ reported_with (lock_told told out message) (outcome_told (lock_told told) outcome message)
+reported_told told message Acquired outcome = refl
+reported_told told message Queued outcome = refl
+reported_told told message (Did out) outcome = refl
+reported_told told message (Released out) outcome = refl
 
 module _ {F R B O : Type 0} (rules : LockRules F R B O) where
   asked_waits : (t : Tid) (owner : Option Tid) (state : LockState B) → t.0 < THREADS → asker_report {O = O} owner ≡ Queued

@@ -2,6 +2,7 @@
 use Rattle.std.specs.Prelude.{map, Option, Some, None, option_map}
 use Rattle.event_log.specs.declared.ids.LockId.{LockId}
 use Rattle.event_log.specs.declared.ids.Tid.{Tid}
+use Rattle.event_log.specs.declared.messages.Msg.{Msg}
 use Rattle.event_log.specs.Sections.{renamed_section}
 use Rattle.layer_traits.specs.declared.locked.QEdit.{QEdit}
 use Rattle.layer_traits.specs.declared.locked.QEdit.TheVariants.{Acquire, Inside, Release}
@@ -12,6 +13,7 @@ use Rattle.layer_traits.specs.declared.locked.WakeWaiter.TheVariants as signal
 use Rattle.layer_traits.specs.declared.sleeps.Wake.{Wake}
 use Rattle.layer_traits.specs.declared.sleeps.Wake.TheVariants.{Nobody, FirstSleeper, Receiver, Sender}
 use Rattle.layer_traits.specs.Locking.{LockAllowed, LockRules, LockState, wait_list_slept, lock_caller, asker_report}
+use Rattle.layer_traits.specs.Payloads.{lock_meant}
 use Rattle.layer_traits.specs.Sleeping.{SleepRules, SleepState}
 use Rattle.queuing_lock.specs.declared.edits.QBlock.{QBlock}
 use Rattle.queuing_lock.specs.declared.edits.QLockEdit.{QLockEdit}
@@ -23,6 +25,10 @@ edit_in section = section.edit
 -- the section that a call is
 abbrev pub as_section : {F R : Type 0} → QEdit F R → QLockEdit F R
 as_section e = record { edit = e }
+
+-- the section that is meant by what is handed on: of the call that is meant, with this message
+abbrev pub section_meant : {H F R : Type 0} → (H → Msg → F) → QLockEdit H R → Msg → QLockEdit F R
+section_meant meant section message = record { edit = lock_meant meant section.edit message }
 
 -- a block of the layer above under a lock without an owner
 abbrev pub unowned : {B : Type 0} → B → QBlock B

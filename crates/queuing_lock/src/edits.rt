@@ -2,14 +2,16 @@
 
 ghost use Rattle.std.specs.Prelude.{◌≡◌};
 ghost use Rattle.layer_traits.specs.Locking.{wait_list_for};
-ghost use Rattle.layer_traits.specs.Payloads.{lock_brought, lock_carried};
-ghost use Rattle.queuing_lock.specs.Nested.{busy_rules, leaving};
+ghost use Rattle.layer_traits.specs.Payloads.{lock_told};
+ghost use Rattle.queuing_lock.specs.Nested.{busy_rules, leaving, section_meant};
 
-use event_log::Tid;
-use layer_traits::{Locked, Payload, QEdit, QOut, Side, Sleeps, WaitList, Wake, WakeWaiter};
+use event_log::{Msg, Tid};
+use layer_traits::{
+    Locked, QEdit, QOut, Side, Sleeps, WaitList, Wake, WakeWaiter, WholeLocked, WholeSleeps,
+};
 
 /// A call on a queuing lock, as a section of the layer that lets threads sleep.
-#[derive(Drop)]
+#[derive(Clone, Copy, Debug, PartialEq, Eq)]
 pub struct QLockEdit<F, R> {
     /// The call.
     pub edit: QEdit<F, R>,
@@ -30,29 +32,48 @@ impl<F: Locked> Sleeps for QLockEdit<F, F::Release> {
 
     type Out = QOut<F::Out>;
 
+    type Handed = QLockEdit<F::Handed, F::Release>;
+
+    type Brought = QOut<F::Brought>;
+
     ghost rules = { busy_rules F.rules };
 
-    ghost carried = { λ section. lock_carried F.carried section.edit };
+    ghost meant = { section_meant F.meant };
 
-    ghost brought = { lock_brought F.brought };
+    ghost told = { lock_told F.told };
 
     #[inline(always)]
-    fn caller(&self) -> Tid {
-        match &self.edit {
+    fn caller(handed: &QLockEdit<F::Handed, F::Release>) -> Tid {
+        match &handed.edit {
             QEdit::Acquire(t) => *t,
-            QEdit::Inside(inside) => inside.caller(),
+            QEdit::Inside(inside) => F::caller(inside),
             QEdit::Release(last) => F::last_caller(*last),
         }
     }
 
     #[inline(always)]
-    fn apply(
-        &self,
+    fn whole(handed: &QLockEdit<F::Handed, F::Release>, message: &Msg) -> QLockEdit<F, F::Release> {
+        match &handed.edit {
+            QEdit::Acquire(t) => QLockEdit {
+                edit: QEdit::Acquire(*t),
+            },
+            QEdit::Inside(inside) => QLockEdit {
+                edit: QEdit::Inside(F::whole(inside, message)),
+            },
+            QEdit::Release(last) => QLockEdit {
+                edit: QEdit::Release(*last),
+            },
+        }
+    }
+
+    #[inline(always)]
+    fn apply_handed(
+        handed: &QLockEdit<F::Handed, F::Release>,
         first: Option<Tid>,
         block: &mut QBlock<F::Block>,
-        payload: &mut Payload,
-    ) -> QOut<F::Out> {
-        match &self.edit {
+        message: &mut Msg,
+    ) -> QOut<F::Brought> {
+        match &handed.edit {
             QEdit::Acquire(t) => {
                 if block.busy.is_some() {
                     return QOut::Queued;
@@ -60,7 +81,9 @@ impl<F: Locked> Sleeps for QLockEdit<F, F::Release> {
                 block.busy = Some(*t);
                 QOut::Acquired
             }
-            QEdit::Inside(inside) => QOut::Did(inside.apply(&mut block.above, payload)),
+            QEdit::Inside(inside) => {
+                QOut::Did(F::apply_handed(inside, &mut block.above, message))
+            }
             QEdit::Release(last) => {
                 block.busy = first;
                 QOut::Released(F::apply_last(*last, &mut block.above))
@@ -69,8 +92,8 @@ impl<F: Locked> Sleeps for QLockEdit<F, F::Release> {
     }
 
     #[inline(always)]
-    fn joins(out: &QOut<F::Out>) -> Option<WaitList> {
-        match out {
+    fn joins(brought: &QOut<F::Brought>) -> Option<WaitList> {
+        match brought {
             QOut::Queued => Some(WaitList::Sleepers),
             QOut::Released(last) => wait_list(F::waits(last)),
             QOut::Acquired | QOut::Did(_) => None,
@@ -78,8 +101,8 @@ impl<F: Locked> Sleeps for QLockEdit<F, F::Release> {
     }
 
     #[inline(always)]
-    fn leaves(out: &QOut<F::Out>) -> Wake {
-        match out {
+    fn leaves(brought: &QOut<F::Brought>) -> Wake {
+        match brought {
             QOut::Did(inside) => leave(F::signals(inside)),
             QOut::Released(_) => Wake::FirstSleeper,
             QOut::Acquired | QOut::Queued => Wake::Nobody,
@@ -108,5 +131,30 @@ fn leave(signal: WakeWaiter) -> Wake
         WakeWaiter::Nobody => Wake::Nobody,
         WakeWaiter::Receiver(t) => Wake::Receiver(t),
         WakeWaiter::Sender(t) => Wake::Sender(t),
+    }
+}
+
+impl<F: WholeLocked> WholeSleeps for QLockEdit<F, F::Release> {
+    fn hand_on(self, message: &mut Msg) -> QLockEdit<F::Handed, F::Release> {
+        match self.edit {
+            QEdit::Acquire(t) => QLockEdit {
+                edit: QEdit::Acquire(t),
+            },
+            QEdit::Inside(inside) => QLockEdit {
+                edit: QEdit::Inside(inside.hand_on(message)),
+            },
+            QEdit::Release(last) => QLockEdit {
+                edit: QEdit::Release(last),
+            },
+        }
+    }
+
+    fn bring_back(brought: QOut<F::Brought>, message: &Msg) -> QOut<F::Out> {
+        match brought {
+            QOut::Acquired => QOut::Acquired,
+            QOut::Queued => QOut::Queued,
+            QOut::Did(out) => QOut::Did(F::bring_back(out, message)),
+            QOut::Released(out) => QOut::Released(F::bring_back(out, message)),
+        }
     }
 }

@@ -5,8 +5,9 @@
 //!
 //! ```text
 //! let mut part = QLock::<S>::part(CpuId(0), &homes, 1);
-//! let call = QEdit::Acquire(Tid(3));
-//! let outcome = part.poll(&mut machine, BufId(0), call, &mut payload); // None: poll it again
+//! let edit = QEdit::Acquire(Tid(3));
+//! let call = BufferCall { buffer: BufId(0), edit };
+//! let outcome = part.poll(&mut machine, call, &mut payload); // None: poll it again
 //! ```
 #![tactic(auto)]
 

@@ -115,12 +115,12 @@ impl<F: Locked, S: ThreadLayer<SleepLaw<QLockEdit<F, F::Release>>>> ThreadLayer<
     fn poll(
         &mut self,
         m: &mut S::Machine,
-        call: BufferCall<QEdit<F, F::Release>>,
+        call: BufferCall<QEdit<F::Handed, F::Release>>,
         payload: &mut Payload,
-    ) -> Option<Outcome<QOut<F::Out>>> {
+    ) -> Option<Outcome<QOut<F::Brought>>> {
         let BufferCall { buffer, edit } = call;
         let section = QLockEdit { edit };
-        let t = section.caller();
+        let t = <QLockEdit<F, F::Release> as Sleeps>::caller(&section);
         if self.slept.has(t) {
             self.slept.over(t);
             return Some(Outcome {

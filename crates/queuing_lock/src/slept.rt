@@ -66,12 +66,12 @@ impl Slept {
     ///
     /// Requires: the thread is below `THREADS`.
     #[inline(always)]
-    pub fn complete<O: Drop>(
+    pub fn complete<B: Drop>(
         &mut self,
         t: Tid,
         buffer: BufId,
-        outcome: Outcome<QOut<O>>,
-    ) -> Option<Outcome<QOut<O>>>
+        outcome: Outcome<QOut<B>>,
+    ) -> Option<Outcome<QOut<B>>>
         requires { t.0 < THREADS }
         ensures slept { self.new.buffers ≡ slept_left_by t buffer self.old.buffers outcome }
         ensures complete { result ≡ reported_by outcome }

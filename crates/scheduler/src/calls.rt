@@ -4,25 +4,31 @@
 
 ghost use Rattle.std.specs.Prelude.{◌≡◌, Some, None, IfOk, IfErr};
 ghost use Rattle.layer_traits.specs.declared.scheds.SchedCall.TheVariants as calls;
+ghost use Rattle.layer_traits.specs.declared.payloads.Payload.{Payload};
 ghost use Rattle.layer_traits.specs.Passes.{queue_for};
+ghost use Rattle.layer_traits.specs.Payloads.{call_meant, sched_meant};
 ghost use Rattle.layer_traits.specs.Scheds.{queue_call};
 
 use event_log::{CpuId, Tid};
-use layer_traits::{Pass, QueueCall, SchedCall};
+use layer_traits::{Moves, Pass, QueueCall, SchedCall};
 
-/// The call of `cpu` at the shared queues, into which `call` is moved. `homes` holds the home of
-/// each thread.
+/// The call of `cpu` at the shared queues, into which `call` is moved. Whatever payload lies beside it,
+/// it means the call there of what `call` means. `homes` holds the home of each thread.
 ///
 /// Errors: the pass that `call` is, if it touches nothing shared: there is no call beneath. Nothing
 /// else has changed.
 #[inline(always)]
-pub fn call_beneath<E>(
+pub fn call_beneath<E: Moves>(
     homes: &[CpuId],
     cpu: CpuId,
-    call: SchedCall<E>,
-) -> Result<QueueCall<E>, Pass>
-    ensures shared { IfOk result (λ step. queue_call homes.now cpu call ≡ Some step) }
-    ensures local { IfErr result (λ pass. (call ≡ calls.Pass pass) × (queue_call homes.now cpu call ≡ None)) }
+    call: SchedCall<E::Handed>,
+) -> Result<QueueCall<E::Handed>, Pass>
+    ensures step { IfOk result (λ step. queue_call homes.now cpu call ≡ Some step) }
+    ensures pass { IfErr result (λ pass. (call ≡ calls.Pass pass) × (queue_call homes.now cpu call ≡ None)) }
+    ensures shared { IfOk result (λ step. (payload : Payload)
+        → queue_call homes.now cpu (sched_meant E.meant call payload) ≡ Some (call_meant E.meant step payload)) }
+    ensures local { IfErr result (λ pass. (payload : Payload)
+        → (sched_meant E.meant call payload ≡ calls.Pass pass) × (queue_call homes.now cpu (sched_meant E.meant call payload) ≡ None)) }
 {
     match call {
         SchedCall::Pass(Pass::YieldNow) => Ok(QueueCall::TakeAll(cpu)),

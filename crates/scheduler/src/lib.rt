@@ -5,7 +5,7 @@
 //! ```text
 //! let mut part = Sched::<SharedQueues<L>>::part(CpuId(0), &homes, 1);
 //! part.poll(&mut machine, SchedCall::Pass(Pass::Switch), &mut payload); // answers at once
-//! let call = SchedCall::OnBuffer(BufId(0), edit);
+//! let call = SchedCall::OnBuffer(BufId(0), edit.hand_on(&mut payload));
 //! let answer = part.poll(&mut machine, call, &mut payload); // None: poll the same call again
 //! ```
 #![tactic(auto)]

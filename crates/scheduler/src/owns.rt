@@ -9,11 +9,11 @@ ghost use Rattle.thread_blocks.specs.Queues.{is_in, AreApart};
 ghost use Rattle.layer_traits.specs.Places.{at_boot, home_of, is_cpu};
 ghost use Rattle.layer_traits.specs.Passes.{switched, took, passed_on, finished, own_slept, own_woken};
 ghost use Rattle.layer_traits.specs.Scheds.{own_by, answer_by};
-ghost use Rattle.layer_traits.specs.Payloads.{queue_brought, sched_brought};
+ghost use Rattle.layer_traits.specs.Payloads.{queue_told, sched_told};
 ghost use Rattle.scheduler.specs.Owns.{MayFinish, MayJoin, MaySettle, MayTake, passed_by};
 
 use event_log::{CpuId, Tid};
-use layer_traits::{Moves, Pass, Payload, QueueAnswer, SchedAnswer, WaitList};
+use layer_traits::{BareQueueAnswer, Moves, Pass, Payload, SchedAnswer, WaitList};
 use std::marker::Model;
 use thread_blocks::{ThreadList, ThreadQueue};
 
@@ -178,31 +178,29 @@ impl OwnThreads {
     /// taken go straight from the payload to those that are ready.
     ///
     /// Requires: who becomes ready by the answer is below `THREADS`, is not ready yet and comes
-    /// once, and the payload holds what the answer brings.
+    /// once.
     #[inline(always)]
     pub fn answered<E: Moves>(
         &mut self,
         homes: &[CpuId],
         cpu: CpuId,
-        answer: QueueAnswer<E::Out>,
+        answer: BareQueueAnswer<E::Brought>,
         payload: &mut Payload,
-    ) -> SchedAnswer<E::Out>
-        requires may { MayTake E.moves answer self.old }
-        requires brought { queue_brought E.brought answer payload.old }
-        ensures own { self.new ≡ own_by E.moves homes.now cpu answer self.old }
-        ensures answer { result ≡ answer_by answer }
-        ensures brought { sched_brought E.brought result payload.new }
+    ) -> SchedAnswer<E::Brought>
+        requires { MayTake E.moves (queue_told E.told answer payload.old) self.old }
+        ensures own { self.new ≡ own_by E.moves homes.now cpu (queue_told E.told answer payload.old) self.old }
+        ensures answer { sched_told E.told result payload.new ≡ answer_by (queue_told E.told answer payload.old) }
     {
         match answer {
-            QueueAnswer::Done => {
+            BareQueueAnswer::Done => {
                 self.pass_on();
                 SchedAnswer::Done
             }
-            QueueAnswer::Taken(_) => {
+            BareQueueAnswer::Taken => {
                 self.take(&mut payload.taken);
                 SchedAnswer::Done
             }
-            QueueAnswer::Answer(out) => {
+            BareQueueAnswer::Answer(out) => {
                 self.settle(homes, cpu, E::slept(&out), E::woke(&out));
                 SchedAnswer::Answer(out)
             }

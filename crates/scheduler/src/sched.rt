@@ -83,11 +83,11 @@ impl<E: Moves, Q: Layer<QueueLaw<E>>> Layer<SchedLaw<E>> for Sched<Q> {
     fn poll(
         &mut self,
         m: &mut Q::Machine,
-        call: SchedCall<E>,
+        call: SchedCall<E::Handed>,
         payload: &mut Payload,
-    ) -> Option<SchedAnswer<E::Out>> {
+    ) -> Option<SchedAnswer<E::Brought>> {
         let homes = self.homes.as_slice();
-        match call_beneath(homes, self.cpu, call) {
+        match call_beneath::<E>(homes, self.cpu, call) {
             Err(pass) => {
                 self.own.local(pass);
                 Some(SchedAnswer::Done)

@@ -6,7 +6,7 @@
 //! let homes = [CpuId(0), CpuId(1)];
 //! let mut machine = L::open(alloc, queue_blocks(alloc, blocks, 2, &homes)?, 100)?;
 //! let mut part = SharedQueues::<L>::part(CpuId(0), &homes, 1);
-//! let call = QueueCall::OnBuffer(BufId(0), edit);
+//! let call = QueueCall::OnBuffer(BufId(0), edit.hand_on(&mut payload));
 //! let answer = part.poll(&mut machine, call, &mut payload); // None: poll the same call again
 //! ```
 #![tactic(auto)]

@@ -7,7 +7,7 @@ ghost use Rattle.layer_traits.specs.Queues.{lock_of, edit_of};
 
 use event_log::{BufId, CpuId, LockId, Tid};
 use layer_traits::{
-    Layer, LockCall, LockLaw, Moves, OwnedLocks, OwnedQueues, Payload, QueueAnswer, QueueBlock,
+    BareQueueAnswer, Layer, LockCall, LockLaw, Moves, OwnedLocks, OwnedQueues, Payload, QueueBlock,
     QueueCall, QueueEdit, QueueLaw,
 };
 
@@ -93,9 +93,9 @@ impl<E: Moves, L: Layer<LockLaw<QueueEdit<E>>>> Layer<QueueLaw<E>> for SharedQue
     fn poll(
         &mut self,
         m: &mut L::Machine,
-        call: QueueCall<E>,
+        call: QueueCall<E::Handed>,
         payload: &mut Payload,
-    ) -> Option<QueueAnswer<E::Out>> {
+    ) -> Option<BareQueueAnswer<E::Brought>> {
         self.lower.poll(m, section_of(call), payload)
     }
 

@@ -1,5 +1,5 @@
 -- One poll of a part: what it owes the scheduler, and what the scheduler's poll is here.
-use Rattle.std.proofs.Common.{◌≡◌, Bool, true, false, List, Option, Some, None, if◌then◌else◌, map, refl, ap, sym, ◌∙◌, subst}
+use Rattle.std.proofs.Common.{◌≡◌, Bool, true, false, List, Option, Some, None, option_map, if◌then◌else◌, map, refl, ap, sym, ◌∙◌, subst}
 use Rattle.event_log.specs.declared.ids.BufId.{BufId}
 use Rattle.event_log.specs.declared.ids.CpuId.{CpuId}
 use Rattle.event_log.specs.declared.ids.LockId.{LockId}
@@ -8,6 +8,7 @@ use Rattle.event_log.specs.declared.messages.Msg.{Msg}
 use Rattle.event_log.specs.History.{IsLawful}
 use Rattle.event_log.specs.Actions.{Action, renamed}
 use Rattle.layer_traits.specs.declared.passes.Pass.{Pass}
+use Rattle.layer_traits.specs.declared.payloads.Payload.{Payload}
 use Rattle.layer_traits.specs.declared.queue_edits.QueueBlock.{QueueBlock}
 use Rattle.layer_traits.specs.declared.queue_edits.QueueEdit.{QueueEdit}
 use Rattle.layer_traits.specs.declared.queues.QueueEvent.{QueueEvent}
@@ -16,6 +17,7 @@ use Rattle.layer_traits.specs.declared.scheds.SchedAnswer.TheVariants.{Done, Ans
 use Rattle.layer_traits.specs.declared.scheds.SchedCall.{SchedCall}
 use Rattle.layer_traits.specs.declared.scheds.SchedCall.TheVariants as call
 use Rattle.layer_traits.specs.declared.sleeps.Outcome.{Outcome}
+use Rattle.layer_traits.specs.Payloads.{outcome_told, sched_told, told_by}
 use Rattle.layer_traits.specs.Places.{Stands, Threads}
 use Rattle.layer_traits.specs.Plans.{Follows, Left, table_of}
 use Rattle.layer_traits.specs.QueueBlocks.{StartsWell, homes_in, inner}
@@ -32,8 +34,8 @@ use Rattle.sleep_wakeup.specs.declared.edits.SleepBlock.{SleepBlock}
 use Rattle.sleep_wakeup.specs.declared.edits.SleepEdit.{SleepEdit}
 use Rattle.sleep_wakeup.specs.declared.deferred.DeferredOutcome.{DeferredOutcome}
 use Rattle.sleep_wakeup.specs.Laws.NestedLaws.{beneath, here, nested_stays, nested_wraps}
-use Rattle.sleep_wakeup.specs.Nested.{edit_in, nested_moves, nested_rules, state_of, states}
-use Rattle.sleep_wakeup.specs.Parts.{DeferredFits, answer_reported, as_edit, done_of, deferred_of_answer, must_wait, outcome_in, own_of, under_of}
+use Rattle.sleep_wakeup.specs.Nested.{edit_in, nested_moves, nested_rules, nested_told, state_of, states}
+use Rattle.sleep_wakeup.specs.Parts.{Deferred, DeferredFits, answer_reported, as_edit, deferred_of_answer, deferred_told, done_of, message_reported, must_wait, outcome_in, own_of, under_of}
 
 -- where nobody sleeps at the opening here, nobody does beneath
 pub nobody_beneath : {B : Type 0} (opening : LockId → Option (QueueBlock (SleepBlock B))) → NobodySleeps (inner (viewed state_of opening))
@@ -47,7 +49,7 @@ fresh_deferred O None hand none = tt
 fresh_deferred O (Some s) hand none = absurd cc
 
 -- an outcome is kept exactly while a thread stands in the hand, where a section may be polled
-pub hand_defers : {E O : Type 0} (deferred : Option (DeferredOutcome E O)) (under : Option (SchedCall (SleepEdit E))) (hand : Option Tid) (b : BufId)
+pub hand_defers : {E O : Type 0} (deferred : Option (Deferred E O)) (under : Option (SchedCall (SleepEdit E))) (hand : Option Tid) (b : BufId)
     (e : E) (duty : Type 0)
     → DeferredFits deferred under hand
     → MayCall (under_of deferred under) (call.OnBuffer b e) duty → (duty → hand ≡ None) → HandDefers hand (outcome_in deferred)
@@ -73,6 +75,12 @@ pub done_is : {O : Type 0} (answer : Option (SchedAnswer (Outcome O))) → ((a :
 done_is None only = refl
 done_is (Some a) only = ap Some (sym (only a refl))
 
+-- whether it is done does not depend on what its answer tells
+pub done_told : {B O : Type 0} (told : SchedAnswer B → Payload → SchedAnswer O) (answer : Option (SchedAnswer B)) (payload : Payload)
+    → done_of answer ≡ done_of (told_by told answer payload)
+done_told told None payload = refl
+done_told told (Some a) payload = refl
+
 -- what a section that is done leaves, by whether it has to wait
 abbrev left_if : {O : Type 0} → Bool → Outcome O → Threads → Left (Sleeping O) (Outcome O)
 left_if waits outcome threads =
@@ -80,39 +88,54 @@ left_if waits outcome threads =
     then record { own = record { threads = threads; deferred = Some outcome }; answer = None }
     else record { own = record { threads = threads; deferred = None }; answer = Some outcome }
 
--- what the part keeps and answers then
-abbrev deferred_if : {E O : Type 0} → Bool → BufId → E → Outcome O → Msg → Threads → Left (Sleeping O) (Outcome O)
-deferred_if waits b e outcome message threads = record {
-  own = own_of (if waits then Some (record { buffer = b; edit = e; outcome = outcome; message = message }) else None) threads;
-  answer = if waits then None else Some outcome;
+-- what the part keeps and answers then, told with the message
+abbrev deferred_if : {E B O : Type 0} → (B → Msg → O) → Bool → BufId → E → Outcome B → Msg → Threads → Left (Sleeping O) (Outcome O)
+deferred_if told waits b e outcome message threads = record {
+  own = own_of (option_map (deferred_told told)
+      (if waits then Some (record { buffer = b; edit = e; outcome = outcome; message = message }) else None)) threads;
+  answer = option_map (λ o. outcome_told told o message) (if waits then None else Some outcome);
 }
 
 -- what is kept and answered is what the scheduler's answer tells
-pub reported_is : {E O : Type 0} (deferred : Option (DeferredOutcome E O)) (threads : Threads) (b : BufId) (e ghost_of : E) (answer : SchedAnswer
-    (Outcome O)) (message : Msg)
-    (hand : Option Tid) (deferred' : Option (DeferredOutcome E O)) (result : Option (Outcome O))
-    → ghost_of ≡ e → hand ≡ threads.hand → deferred' ≡ deferred_of_answer hand b ghost_of answer message → result ≡ answer_reported deferred hand answer
-    → left_reported (outcome_in deferred) threads (Some answer) ≡ record { own = own_of deferred' threads; answer = result }
-reported_is {O = O} deferred threads b e ghost_of Done message hand deferred' result same in_hand keeps gives =
-    λ i. record { own = own_of (sym keeps i) threads; answer = sym gives i }
-reported_is {O = O} deferred threads b e ghost_of (Answer outcome) message hand deferred' result same in_hand keeps gives =
-    by_test (must_wait outcome threads.hand)
-    ∙ ((λ i. record {
-      own = own_of (deferred_of_answer (sym in_hand i) b (sym same i) (Answer outcome) message) threads;
-      answer = answer_reported deferred (sym in_hand i) (Answer outcome);
+pub reported_is : {E B O : Type 0} (told : B → Msg → O) (deferred : Option (DeferredOutcome E B)) (threads : Threads) (b : BufId) (e : E)
+    (answer : SchedAnswer (Outcome B)) (payload payload' : Payload)
+    (hand : Option Tid) (deferred' : Option (DeferredOutcome E B)) (result : Option (Outcome B))
+    → hand ≡ threads.hand → deferred' ≡ deferred_of_answer hand b e answer payload.message → result ≡ answer_reported deferred hand answer
+    → payload'.message ≡ message_reported deferred answer payload.message
+    → left_reported (outcome_in (option_map (deferred_told told) deferred)) threads (Some (sched_told (nested_told told) answer payload))
+    ≡ record { own = own_of (option_map (deferred_told told) deferred') threads; answer = told_by (nested_told told) result payload' }
+reported_is {E = E} {B = B} {O = O} told deferred threads b e answer payload payload' hand deferred' result in_hand keeps gives brings =
+    by_answer deferred answer
+    ∙ ((λ i. leaves deferred answer (sym in_hand i))
+    ∙ λ i. record {
+      own = own_of (option_map (deferred_told told) (sym keeps i)) threads;
+      answer = option_map (λ o. outcome_told told o (sym brings i)) (sym gives i);
     })
-    ∙ λ i. record { own = own_of (sym keeps i) threads; answer = sym gives i })
   where
-    by_test : (waits : Bool) → left_if waits outcome threads ≡ deferred_if waits b e outcome message threads
-    by_test true = refl
-    by_test false = refl
+    leaves : Option (DeferredOutcome E B) → SchedAnswer (Outcome B) → Option Tid → Left (Sleeping O) (Outcome O)
+    leaves d a h = record {
+      own = own_of (option_map (deferred_told told) (deferred_of_answer h b e a payload.message)) threads;
+      answer = option_map (λ o. outcome_told told o (message_reported d a payload.message)) (answer_reported d h a);
+    }
+
+    by_test : (outcome : Outcome B) (waits : Bool)
+        → left_if waits (outcome_told told outcome payload.message) threads ≡ deferred_if told waits b e outcome payload.message threads
+    by_test outcome true = refl
+    by_test outcome false = refl
+
+    by_answer : (d : Option (DeferredOutcome E B)) (a : SchedAnswer (Outcome B))
+        → left_reported (outcome_in (option_map (deferred_told told) d)) threads (Some (sched_told (nested_told told) a payload)) ≡ leaves d a threads.hand
+    by_answer None Done = refl
+    by_answer (Some k) Done = refl
+    by_answer None (Answer outcome) = by_test outcome (must_wait outcome threads.hand)
+    by_answer (Some k) (Answer outcome) = by_test outcome (must_wait outcome threads.hand)
 
 module _ {E B O : Type 0} (rules : SleepRules E B O) (opening : LockId → Option (QueueBlock (SleepBlock B))) where
   -- the call that is due may be polled on the scheduler
   pub nested_may : (c : CpuId) (past : List (QueueEvent (SleepEdit E))) (threads : Threads) (b : BufId) (e : E) → StartsWell opening
       → IsLawful (QueueAllowed (beneath rules opening)) past
       → NobodySleeps (states (inner opening)) → Stands (homes_in opening) c (moves_in (beneath rules opening) past) threads
-      → (deferred : Option (DeferredOutcome E O)) (under : Option (SchedCall (SleepEdit E))) (hand : Option Tid) → hand ≡ threads.hand
+      → (deferred : Option (Deferred E O)) (under : Option (SchedCall (SleepEdit E))) (hand : Option Tid) → hand ≡ threads.hand
       → DeferredFits deferred under hand
       → MayCall (under_of deferred under) (call.OnBuffer b e) (MaySleep (here rules opening) c (renamed_events edit_in past) threads b e)
       → MaySched (beneath rules opening) c past threads under (due hand b (as_edit e))
@@ -148,7 +171,7 @@ module _ {E B O : Type 0} (rules : SleepRules E B O) (opening : LockId → Optio
   -- the poll of the call that is due is a poll of the section
   pub nested_sleeps : (ActsFor : CpuId → Type 0) (c : CpuId) (b : BufId) (e : E) (answer : Option (SchedAnswer (Outcome O)))
       (old new : List (QueueEvent (SleepEdit E))) (threads threads' : Threads)
-      (deferred : Option (DeferredOutcome E O)) (hand : Option Tid) → hand ≡ threads.hand → HandDefers hand (outcome_in deferred)
+      (deferred : Option (Deferred E O)) (hand : Option Tid) → hand ≡ threads.hand → HandDefers hand (outcome_in deferred)
       → SchedPolled (beneath rules opening) ActsFor c (due hand b (as_edit e)) answer old new threads threads'
       → SleepPolled (here rules opening) ActsFor c b e (renamed_events edit_in old) (renamed_events edit_in new) (own_of deferred threads)
       (left_reported (outcome_in deferred) threads' answer)
@@ -192,7 +215,7 @@ module _ {E B O : Type 0} (rules : SleepRules E B O) (opening : LockId → Optio
       (sched_plan (nested_moves rules) (homes_in opening) c s threads) acts acts' (left threads' answer) follows)
 
   pub nested_sleep_follows : (ActsFor : CpuId → Type 0) (c : CpuId) (b : BufId) (e : E) (acts acts' : List (Action (QueueEdit (SleepEdit E))))
-      (deferred : Option (DeferredOutcome E O)) (threads threads' : Threads)
+      (deferred : Option (Deferred E O)) (threads threads' : Threads)
       (hand : Option Tid) (answer : Option (SchedAnswer (Outcome O))) → hand ≡ threads.hand
       → Follows ActsFor (table_of (queue_rules (nested_rules rules) (nested_moves rules))) opening c
       (sched_plan (nested_moves rules) (homes_in opening) c (due hand b (as_edit e)) threads) acts acts' (left threads' answer)
@@ -211,7 +234,7 @@ module _ {E B O : Type 0} (rules : SleepRules E B O) (opening : LockId → Optio
       (nested_follows ActsFor c (due hand b (as_edit e)) acts acts' threads threads' answer follows))
 
   pub nested_pass_follows : (ActsFor : CpuId → Type 0) (c : CpuId) (p : Pass) (acts acts' : List (Action (QueueEdit (SleepEdit E))))
-      (deferred : Option (DeferredOutcome E O)) (threads threads' : Threads)
+      (deferred : Option (Deferred E O)) (threads threads' : Threads)
       (answer : Option (SchedAnswer (Outcome O))) (result : Option (Unit {0})) → result ≡ done_of answer
       → Follows ActsFor (table_of (queue_rules (nested_rules rules) (nested_moves rules))) opening c
       (sched_plan (nested_moves rules) (homes_in opening) c (call.Pass p) threads) acts acts' (left threads' answer)

@@ -1,10 +1,13 @@
 -- A section's edit with the waiting lists of its lock, as an edit of what the lock guards.
 use Rattle.std.specs.Prelude.{List, [], Option, map, option_map}
 use Rattle.event_log.specs.declared.ids.LockId.{LockId}
+use Rattle.event_log.specs.declared.messages.Msg.{Msg}
 use Rattle.event_log.specs.Sections.{Section, renamed_section}
 use Rattle.layer_traits.specs.declared.moves.WaitList.TheVariants.{Sleepers, Receivers, Senders}
+use Rattle.layer_traits.specs.declared.payloads.Payload.{Payload}
 use Rattle.layer_traits.specs.declared.sleeps.Outcome.{Outcome}
 use Rattle.layer_traits.specs.MoveRules.{MoveRules}
+use Rattle.layer_traits.specs.Payloads.{outcome_told}
 use Rattle.layer_traits.specs.Protocol.{Rules}
 use Rattle.layer_traits.specs.Sleeping.{IsAwake, NobodySleeps, SleepRules, SleepState, wait_list_after, sleep_answer}
 use Rattle.sleep_wakeup.specs.declared.edits.SleepBlock.{SleepBlock}
@@ -14,6 +17,14 @@ use Rattle.thread_blocks.specs.Queues.{first}
 -- the edit of the layer above
 abbrev pub edit_in : {E : Type 0} → SleepEdit E → E
 edit_in d = d.edit
+
+-- the edit that is meant by what is handed on: of the layer above, with the message of the payload
+abbrev pub nested_meant : {H E : Type 0} → (H → Msg → E) → SleepEdit H → Payload → SleepEdit E
+nested_meant meant section payload = record { edit = meant section.edit payload.message }
+
+-- the outcome that is told, with that message
+abbrev pub nested_told : {B O : Type 0} → (B → Msg → O) → Outcome B → Payload → Outcome O
+nested_told told outcome payload = outcome_told told outcome payload.message
 
 -- a block with nobody in its waiting lists
 abbrev pub resting : {B : Type 0} → B → SleepBlock B

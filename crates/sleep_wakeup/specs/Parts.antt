@@ -9,6 +9,7 @@ use Rattle.layer_traits.specs.declared.scheds.SchedAnswer.TheVariants.{Done, Ans
 use Rattle.layer_traits.specs.declared.scheds.SchedCall.{SchedCall}
 use Rattle.layer_traits.specs.declared.scheds.SchedCall.TheVariants as call
 use Rattle.layer_traits.specs.declared.sleeps.Outcome.{Outcome}
+use Rattle.layer_traits.specs.Payloads.{outcome_told}
 use Rattle.layer_traits.specs.Places.{Threads}
 use Rattle.layer_traits.specs.Renaming.{renamed_sched}
 use Rattle.layer_traits.specs.SleepLaw.{Sleeping}
@@ -20,22 +21,32 @@ use Rattle.sleep_wakeup.specs.Nested.{edit_in}
 abbrev pub as_edit : {E : Type 0} → E → SleepEdit E
 as_edit e = record { edit = e }
 
+-- a section that is done and not answered yet, with the outcome that is told
+pub record Deferred (E O : Type 0) : Type 0 where
+  pub buffer : BufId
+  pub edit : E
+  pub outcome : Outcome O
+
+-- what is told of one that is kept with its message
+abbrev pub deferred_told : {E B O : Type 0} → (B → Msg → O) → DeferredOutcome E B → Deferred E O
+deferred_told told k = record { buffer = k.buffer; edit = k.edit; outcome = outcome_told told k.outcome k.message }
+
 -- the outcome of a section that is kept
-abbrev pub outcome_in : {E O : Type 0} → Option (DeferredOutcome E O) → Option (Outcome O)
+abbrev pub outcome_in : {E O : Type 0} → Option (Deferred E O) → Option (Outcome O)
 outcome_in deferred = option_map (λ k. k.outcome) deferred
 
 -- a part's own state
-abbrev pub own_of : {E O : Type 0} → Option (DeferredOutcome E O) → Threads → Sleeping O
+abbrev pub own_of : {E O : Type 0} → Option (Deferred E O) → Threads → Sleeping O
 own_of deferred threads = record { threads = threads; deferred = outcome_in deferred }
 
 -- the call under way: the section whose outcome is kept, or else the scheduler's call
-abbrev pub under_of : {E O : Type 0} → Option (DeferredOutcome E O) → Option (SchedCall (SleepEdit E)) → Option (SchedCall E)
+abbrev pub under_of : {E O : Type 0} → Option (Deferred E O) → Option (SchedCall (SleepEdit E)) → Option (SchedCall E)
 under_of None under = option_map (renamed_sched edit_in) under
 under_of (Some k) under = Some (call.OnBuffer k.buffer k.edit)
 
 -- an outcome is kept only while a thread stands in the hand, and then the scheduler's call, if there is one, sends that thread home;
 -- while a section is under way nobody stands in the hand
-abbrev pub DeferredFits : {E O : Type 0} → Option (DeferredOutcome E O) → Option (SchedCall (SleepEdit E)) → Option Tid → Type 0
+abbrev pub DeferredFits : {E O : Type 0} → Option (Deferred E O) → Option (SchedCall (SleepEdit E)) → Option Tid → Type 0
 DeferredFits None None hand = Unit {0}
 DeferredFits None (Some (call.Pass p)) hand = Unit {0}
 DeferredFits None (Some (call.OnBuffer b d)) hand = hand ≡ None
@@ -44,28 +55,23 @@ DeferredFits (Some k) (Some under) (Some t) = under ≡ call.Pass (MakeReady t)
 DeferredFits (Some k) None None = ⊥
 DeferredFits (Some k) (Some under) None = ⊥
 
--- of a kept outcome that message is kept which it brings
-abbrev pub DeferredBrings : {E O : Type 0} → (O → Msg → Type 0) → Option (DeferredOutcome E O) → Type 0
-DeferredBrings brought None = Unit {0}
-DeferredBrings brought (Some k) = brought k.outcome.out k.message
-
 -- the outcome has to wait: its caller goes on, and a thread stands in the hand
 abbrev pub must_wait : {O : Type 0} → Outcome O → Option Tid → Bool
 must_wait outcome hand = not outcome.slept && is_some hand
 
 -- what is kept after the scheduler's answer, where this message lies in the payload
-abbrev pub deferred_of_answer : {E O : Type 0} → Option Tid → BufId → E → SchedAnswer (Outcome O) → Msg → Option (DeferredOutcome E O)
+abbrev pub deferred_of_answer : {E B : Type 0} → Option Tid → BufId → E → SchedAnswer (Outcome B) → Msg → Option (DeferredOutcome E B)
 deferred_of_answer hand b e Done message = None
 deferred_of_answer hand b e (Answer outcome) message =
     if must_wait outcome hand then Some (record { buffer = b; edit = e; outcome = outcome; message = message }) else None
 
--- what is answered after it
-abbrev pub answer_reported : {E O : Type 0} → Option (DeferredOutcome E O) → Option Tid → SchedAnswer (Outcome O) → Option (Outcome O)
-answer_reported deferred hand Done = outcome_in deferred
+-- what is handed back after it
+abbrev pub answer_reported : {E B : Type 0} → Option (DeferredOutcome E B) → Option Tid → SchedAnswer (Outcome B) → Option (Outcome B)
+answer_reported deferred hand Done = option_map (λ k. k.outcome) deferred
 answer_reported deferred hand (Answer outcome) = if must_wait outcome hand then None else Some outcome
 
 -- the message in the payload after it: that of the kept outcome, where that is answered
-abbrev pub message_reported : {E O : Type 0} → Option (DeferredOutcome E O) → SchedAnswer (Outcome O) → Msg → Msg
+abbrev pub message_reported : {E B : Type 0} → Option (DeferredOutcome E B) → SchedAnswer (Outcome B) → Msg → Msg
 message_reported None Done message = message
 message_reported (Some k) Done message = k.message
 message_reported deferred (Answer outcome) message = message

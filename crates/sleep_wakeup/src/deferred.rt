@@ -2,29 +2,38 @@
 
 ghost use Rattle.std.specs.Prelude.{◌≡◌};
 ghost use Rattle.layer_traits.specs.SleepLaw.{due};
-ghost use Rattle.sleep_wakeup.specs.Parts.{answer_reported, as_edit, done_of, deferred_of_answer, message_reported};
+ghost use Rattle.sleep_wakeup.specs.Parts.{answer_reported, as_edit, deferred_of_answer, done_of, message_reported};
 
 use crate::edits::SleepEdit;
 use event_log::{BufId, Msg, Tid};
-use layer_traits::{Ghost, Outcome, Payload, SchedAnswer, SchedCall};
+use layer_traits::{Ghost, Outcome, Payload, SchedAnswer, SchedCall, Sleeps};
 
 /// A section that is done and not answered yet: which it was, its outcome, and the message that the
 /// outcome brings. The section's edit has gone down with its call, and clauses alone speak of it.
 #[derive(Drop)]
-pub struct DeferredOutcome<E, O> {
+pub struct DeferredOutcome<E, B> {
     /// The buffer whose block it edited.
     pub buffer: BufId,
     /// Its edit.
     pub edit: Ghost<E>,
     /// What it answers once the thread that it woke has left the hand.
-    pub outcome: Outcome<O>,
+    pub outcome: Outcome<B>,
     /// What lies in the payload then, as others use the payload until then.
     pub message: Msg,
 }
 
+/// The edit that is meant, for clauses alone. It is made before the poll beneath, which writes the
+/// payload.
+#[inline(always)]
+pub(crate) fn kept_edit<E: Sleeps>(handed: &E::Handed, payload: &Payload) -> Ghost<E>
+    ensures { result ≡ E.meant handed.now payload.now.message }
+{
+    Ghost::of(&E::whole(handed, &payload.message))
+}
+
 /// The section's call on the scheduler.
 #[inline(always)]
-pub(crate) fn section<E: Drop>(buffer: BufId, edit: E) -> SchedCall<SleepEdit<E>>
+pub(crate) fn section<H: Drop>(buffer: BufId, edit: H) -> SchedCall<SleepEdit<H>>
     ensures { result ≡ due None buffer (as_edit edit) }
 {
     SchedCall::OnBuffer(buffer, SleepEdit { edit })
@@ -34,14 +43,14 @@ pub(crate) fn section<E: Drop>(buffer: BufId, edit: E) -> SchedCall<SleepEdit<E>
 /// if it has one now, with its message in the payload. It is kept while its caller goes on and a thread
 /// stands in the hand.
 #[inline(always)]
-pub(crate) fn complete<E, O: Drop>(
-    deferred: &mut Option<DeferredOutcome<E, O>>,
+pub(crate) fn complete<E, B: Drop>(
+    deferred: &mut Option<DeferredOutcome<E, B>>,
     hand: Option<Tid>,
     buffer: BufId,
     edit: Ghost<E>,
-    answer: SchedAnswer<Outcome<O>>,
+    answer: SchedAnswer<Outcome<B>>,
     payload: &mut Payload,
-) -> Option<Outcome<O>>
+) -> Option<Outcome<B>>
     ensures deferred { deferred.new ≡ deferred_of_answer hand buffer edit answer payload.old.message }
     ensures answer { result ≡ answer_reported deferred.old hand answer }
     ensures message { payload.new.message ≡ message_reported deferred.old answer payload.old.message }

@@ -7,11 +7,11 @@ ghost use Rattle.sleep_wakeup.specs.Nested.{state_of};
 ghost use Rattle.layer_traits.specs.Sleeping.{joined, left, wait_list_joined, woken};
 
 use event_log::{THREADS, Tid};
-use layer_traits::{Edit, Moves, Outcome, Payload, Sleeps, WaitList, Wake};
+use layer_traits::{Edit, Moves, Outcome, Payload, Sleeps, SplitEdit, WaitList, Wake, WholeSleeps};
 use thread_blocks::ThreadQueue;
 
 /// An edit of the layer above, with what it makes of the waiting lists.
-#[derive(Drop)]
+#[derive(Clone, Copy, Debug, PartialEq, Eq)]
 pub struct SleepEdit<E> {
     /// The edit.
     pub edit: E,
@@ -109,23 +109,39 @@ fn fall_asleep(
     }
 }
 
-impl<E: Sleeps> Edit for SleepEdit<E> {
-    ghost use Rattle.sleep_wakeup.specs.Nested.{nested_rules};
+impl<E: Sleeps> SplitEdit for SleepEdit<E> {
+    ghost use Rattle.sleep_wakeup.specs.Nested.{nested_meant, nested_rules, nested_told};
 
     type Block = SleepBlock<E::Block>;
 
     type Out = Outcome<E::Out>;
 
+    type Handed = SleepEdit<E::Handed>;
+
+    type Brought = Outcome<E::Brought>;
+
     ghost rules = { nested_rules E.rules };
 
-    ghost carried = { λ section payload. E.carried section.edit payload.message };
+    ghost meant = { nested_meant E.meant };
 
-    ghost brought = { λ outcome payload. E.brought outcome.out payload.message };
+    ghost told = { nested_told E.told };
 
     #[inline(always)]
-    fn apply(&self, block: &mut SleepBlock<E::Block>, payload: &mut Payload) -> Outcome<E::Out> {
+    fn whole(handed: &SleepEdit<E::Handed>, payload: &Payload) -> SleepEdit<E> {
+        SleepEdit {
+            edit: E::whole(&handed.edit, &payload.message),
+        }
+    }
+
+    #[inline(always)]
+    fn apply_handed(
+        handed: &SleepEdit<E::Handed>,
+        block: &mut SleepBlock<E::Block>,
+        payload: &mut Payload,
+    ) -> Outcome<E::Brought> {
+        let caller = E::caller(&handed.edit);
         let first = block.sleepers.front();
-        let out = self.edit.apply(first, &mut block.above, payload);
+        let out = E::apply_handed(&handed.edit, first, &mut block.above, &mut payload.message);
         let line = E::joins(&out);
         let leave = E::leaves(&out);
         let woke = let_out(
@@ -136,7 +152,7 @@ impl<E: Sleeps> Edit for SleepEdit<E> {
         );
         fall_asleep(
             line,
-            self.edit.caller(),
+            caller,
             &mut block.sleepers,
             &mut block.receivers,
             &mut block.senders,
@@ -156,14 +172,30 @@ impl<E: Sleeps> Moves for SleepEdit<E> {
     ghost moves = { nested_moves E.rules };
 
     #[inline(always)]
-    fn slept(out: &Outcome<E::Out>) -> Option<WaitList> {
-        E::joins(&out.out)
+    fn slept(brought: &Outcome<E::Brought>) -> Option<WaitList> {
+        E::joins(&brought.out)
     }
 
     #[inline(always)]
-    fn woke(out: &Outcome<E::Out>) -> Option<Tid> {
-        out.woke
+    fn woke(brought: &Outcome<E::Brought>) -> Option<Tid> {
+        brought.woke
     }
 
     ghost wakes_sleepers = { nested_wakes E.rules };
+}
+
+impl<E: WholeSleeps> Edit for SleepEdit<E> {
+    fn hand_on(self, payload: &mut Payload) -> SleepEdit<E::Handed> {
+        SleepEdit {
+            edit: self.edit.hand_on(&mut payload.message),
+        }
+    }
+
+    fn bring_back(brought: Outcome<E::Brought>, payload: &mut Payload) -> Outcome<E::Out> {
+        Outcome {
+            out: E::bring_back(brought.out, &payload.message),
+            slept: brought.slept,
+            woke: brought.woke,
+        }
+    }
 }

@@ -4,7 +4,8 @@
 //!
 //! ```text
 //! let mut part = Sleeper::<E, S>::part(CpuId(0), &homes, 1);
-//! match part.poll(&mut machine, BufId(0), edit, &mut payload) {
+//! let call = BufferCall { buffer: BufId(0), edit: edit.hand_on(&mut payload.message) };
+//! match part.poll(&mut machine, call, &mut payload) {
 //!     None => {}           // the same call is to be polled again
 //!     Some(outcome) => {}  // done: outcome.slept tells whether the caller sleeps
 //! }

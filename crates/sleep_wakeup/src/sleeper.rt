@@ -1,11 +1,11 @@
 //! The layer of sections that put threads to sleep and wake them.
 
-use crate::deferred::{DeferredOutcome, complete, done, section};
+use crate::deferred::{DeferredOutcome, complete, done, kept_edit, section};
 use crate::edits::{SleepEdit, wait_list_in_block};
 use event_log::{BufId, CpuId, Tid};
 use layer_traits::{
-    BufferCall, Ghost, Layer, Outcome, OwnedScheds, OwnedSleeps, Pass, Payload, SchedCall,
-    SchedLayer, SleepLaw, Sleeps, ThreadLayer, WaitList,
+    BufferCall, Layer, Outcome, OwnedScheds, OwnedSleeps, Pass, Payload, SchedCall, SchedLayer,
+    SleepLaw, Sleeps, ThreadLayer, WaitList,
 };
 
 /// One CPU's part of sleep and wakeup over a part of a scheduler (Gu et al., PLDI 2018): the
@@ -14,11 +14,11 @@ use layer_traits::{
 #[derive(Drop)]
 pub struct Sleeper<E: Sleeps, S> {
     lower: S,
-    deferred: Option<DeferredOutcome<E, E::Out>>,
+    deferred: Option<DeferredOutcome<E, E::Brought>>,
 }
 
 impl<E: Sleeps, S: SchedLayer<SleepEdit<E>>> ThreadLayer<SleepLaw<E>> for Sleeper<E, S> {
-    ghost use Rattle.std.proofs.Common.{map, ap, ◌∙◌};
+    ghost use Rattle.std.proofs.Common.{map, option_map, ap, ◌∙◌};
     ghost use Rattle.event_log.specs.Actions.{renamed};
     ghost use Rattle.event_log.proofs.Renaming.{legal_renamed};
     ghost use Rattle.layer_traits.specs.QueueBlocks.{inner};
@@ -27,7 +27,7 @@ impl<E: Sleeps, S: SchedLayer<SleepEdit<E>>> ThreadLayer<SleepLaw<E>> for Sleepe
     ghost use Rattle.layer_traits.specs.Sleeping.{NobodySleeps};
     ghost use Rattle.sleep_wakeup.specs.Laws.NestedLaws.{nested_busy, nested_idle, nested_lawful, nested_lists, nested_moves_legal, nested_stands};
     ghost use Rattle.sleep_wakeup.specs.Nested.{edit_in, state_of, states};
-    ghost use Rattle.sleep_wakeup.specs.Parts.{DeferredBrings, DeferredFits, own_of, under_of};
+    ghost use Rattle.sleep_wakeup.specs.Parts.{DeferredFits, deferred_told, own_of, under_of};
 
     type Machine = S::Machine;
 
@@ -47,14 +47,14 @@ impl<E: Sleeps, S: SchedLayer<SleepEdit<E>>> ThreadLayer<SleepLaw<E>> for Sleepe
 
     ghost cpu_of = { λ p. S.cpu_of p.lower };
 
-    ghost own = { λ p. own_of p.deferred (S.own p.lower) };
+    ghost own = { λ p. own_of (option_map (deferred_told E.told) p.deferred) (S.own p.lower) };
 
-    ghost under_way = { λ p. under_of p.deferred (S.under_way p.lower) };
+    ghost under_way = { λ p. under_of (option_map (deferred_told E.told) p.deferred) (S.under_way p.lower) };
 
     ghost is_inside = { λ p. S.is_inside p.lower };
 
     ghost Fits = { λ p m. S.Fits p.lower m × NobodySleeps (states (inner (S.opening m)))
-        × DeferredFits p.deferred (S.under_way p.lower) (S.own p.lower).hand × DeferredBrings E.brought p.deferred };
+        × DeferredFits (option_map (deferred_told E.told) p.deferred) (S.under_way p.lower) (S.own p.lower).hand };
 
     ghost IsStepwise = { S.IsStepwise };
 
@@ -113,24 +113,24 @@ impl<E: Sleeps, S: SchedLayer<SleepEdit<E>>> ThreadLayer<SleepLaw<E>> for Sleepe
     fn poll(
         &mut self,
         m: &mut S::Machine,
-        call: BufferCall<E>,
+        call: BufferCall<E::Handed>,
         payload: &mut Payload,
-    ) -> Option<Outcome<E::Out>> {
+    ) -> Option<Outcome<E::Brought>> {
         let BufferCall { buffer, edit } = call;
         // Two arms in full, as one that polls either call would copy the edit with the other's bytes.
         match self.lower.hand() {
             None => {
-                let ghost_of = Ghost::of(&edit);
+                let kept = kept_edit::<E>(&edit, payload);
                 match self.lower.poll(m, section(buffer, edit), payload) {
                     None => None,
                     Some(answer) => {
                         let hand = self.lower.hand();
-                        complete(&mut self.deferred, hand, buffer, ghost_of, answer, payload)
+                        complete(&mut self.deferred, hand, buffer, kept, answer, payload)
                     }
                 }
             }
             Some(t) => {
-                let ghost_of = Ghost::of(&edit);
+                let kept = kept_edit::<E>(&edit, payload);
                 match self
                     .lower
                     .poll(m, SchedCall::Pass(Pass::MakeReady(t)), payload)
@@ -138,7 +138,7 @@ impl<E: Sleeps, S: SchedLayer<SleepEdit<E>>> ThreadLayer<SleepLaw<E>> for Sleepe
                     None => None,
                     Some(answer) => {
                         let hand = self.lower.hand();
-                        complete(&mut self.deferred, hand, buffer, ghost_of, answer, payload)
+                        complete(&mut self.deferred, hand, buffer, kept, answer, payload)
                     }
                 }
             }
@@ -176,7 +176,7 @@ impl<E: Sleeps, S: SchedLayer<SleepEdit<E>>> ThreadLayer<SleepLaw<E>> for Sleepe
 
     ghost busy = { λ p m fits step. nested_busy (S.cpu_of p.lower) (S.acts m) (S.is_inside p.lower) (S.busy p.lower m fits.0 step) };
 
-    ghost idle = { λ p m fits none. S.idle p.lower m fits.0 (nested_idle p.deferred (S.under_way p.lower) none) };
+    ghost idle = { λ p m fits none. S.idle p.lower m fits.0 (nested_idle (option_map (deferred_told E.told) p.deferred) (S.under_way p.lower) none) };
 }
 
 impl<E: Sleeps, S: OwnedScheds<SleepEdit<E>>> OwnedSleeps<E> for Sleeper<E, S> {

@@ -79,6 +79,12 @@ pub hit_found : {E B : Type 0} (lock : LockId) (edit : E) (ticket : ℕ) (found 
 hit_found lock edit ticket None stage is = is
 hit_found lock edit ticket (Some block) stage is = is
 
+-- a section that was done with the edit which is meant now is the one that began, where that is meant now
+pub done_as_begun : {E : Type 0} (cpu : CpuId) (lock at : LockId) (kept meant marked : E) → section cpu lock kept ≡ section cpu at meant → marked ≡ meant
+    → section cpu lock marked ≡ section cpu at meant
+done_as_begun cpu lock at kept meant marked began is =
+    ap (λ l. section cpu l marked) (ap (λ s. s.lock) began) ∙ ap (section cpu at) is
+
 -- a history that stays as it is has grown by nothing
 pub grown_by_none : {E : Type 0} (ActsFor : CpuId → Type 0) (by : E → CpuId) (past : List E) → Grows ActsFor by past past
 grown_by_none ActsFor by past = record { others = []; foreign = λ c acts. tt; is = refl }

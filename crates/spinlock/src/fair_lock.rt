@@ -5,7 +5,7 @@
 ghost use Rattle.std.specs.Prelude.{◌≡◌, ℕ, ◌+◌, ◌%◌, ◌^◌, ◌<◌, ◌≤◌, Bool, List, Option, IsSome, MatchOption, option_map, ◌↔◌};
 
 use event_log::{CpuId, LockId};
-use layer_traits::{Edit, GrantWords, Words};
+use layer_traits::{GrantWords, SplitEdit, Words};
 
 /// The way of [`Words`]: a spot is a ticket, which is served once `serving` shows it.
 pub struct UsesTickets;
@@ -26,7 +26,13 @@ pub trait FairLock<LockProtocol> {
     ghost use Rattle.layer_traits.specs.Protocol.{section, StaysAllowed};
 
     /// The edits of the sections.
-    type Edit: Edit;
+    type Edit: SplitEdit;
+
+    /// What a Give leaves in the machine: it tells the section's edit.
+    type Mark;
+
+    /// The edit that a mark tells.
+    ghost edit_in: { Self.Mark → Self.Edit };
 
     /// The opening block of each lock; None where there is no such lock.
     ghost opening: { Self → LockId → Option Self.Edit.Block };
@@ -45,6 +51,10 @@ pub trait FairLock<LockProtocol> {
 
     /// No section of this CPU is under way.
     ghost IsOutside: { Self → CpuId → Type 0 };
+
+    /// The mark of a section with this edit, of which this is handed on.
+    fn mark(handed: <Self::Edit as SplitEdit>::Handed, edit: Self::Edit) -> Self::Mark
+        ensures { edit_in result ≡ edit };
 
     /// Takes a spot in the line of `lock` for `cpu`, and returns its ticket.
     ///
@@ -71,7 +81,7 @@ pub trait FairLock<LockProtocol> {
         cpu: CpuId,
         lock: LockId,
         ticket: u64,
-    ) -> Option<<Self::Edit as Edit>::Block>
+    ) -> Option<<Self::Edit as SplitEdit>::Block>
         requires cpu { ActsFor self.old cpu }
         requires lock { IsSome (opening self.old lock) }
         requires room { 0 < room self.old }
@@ -90,23 +100,23 @@ pub trait FairLock<LockProtocol> {
     /// Gives `lock` on for `cpu`. `block` goes home.
     ///
     /// Requires: the holder acts for `cpu`, the lock is there, there is room for an event, `cpu`
-    /// holds it, and `block` is the one with which it entered, edited by `edit`. The protocol
+    /// holds it, and `block` is the one with which it entered, edited as `mark` says. The protocol
     /// allows that edit, and goes on to whatever other CPUs do first.
     fn leave(
         &mut self,
         cpu: CpuId,
         lock: LockId,
-        block: <Self::Edit as Edit>::Block,
-        edit: Self::Edit,
+        block: <Self::Edit as SplitEdit>::Block,
+        mark: Self::Mark,
     )
         requires cpu { ActsFor self.old cpu }
         requires lock { IsSome (opening self.old lock) }
         requires room { 0 < room self.old }
         requires holds { phase cpu (acts self.old) ≡ Holds lock }
-        requires edited { option_map (Self.Edit.rules.edited edit)
+        requires edited { option_map (Self.Edit.rules.edited (edit_in mark))
             (block_after Self.Edit.rules.edited (opening self.old) lock (sections_in (acts self.old))) ≡ Some block }
-        requires allowed { StaysAllowed (Self.Edit.rules.allowed (opening self.old)) (sections_in (acts self.old)) (section cpu lock edit) }
-        ensures adds { Adds (ActsFor self.old) cpu_of_action (Give cpu lock edit) (acts self.old) (acts self.new) }
+        requires allowed { StaysAllowed (Self.Edit.rules.allowed (opening self.old)) (sections_in (acts self.old)) (section cpu lock (edit_in mark)) }
+        ensures adds { Adds (ActsFor self.old) cpu_of_action (Give cpu lock (edit_in mark)) (acts self.old) (acts self.new) }
         ensures opening { opening self.new ≡ opening self.old }
         ensures site { site self.new ≡ site self.old }
         ensures room { room self.old ≤ room self.new + 1 }
@@ -132,6 +142,10 @@ impl<W: Words> FairLock<UsesTickets> for W {
 
     type Edit = W::Edit;
 
+    type Mark = W::Mark;
+
+    ghost edit_in = { λ mark. W.edit_in mark };
+
     ghost opening = { λ m. W.opening m };
 
     ghost acts = { λ m. acts_of edit_of (W.seen m) };
@@ -145,18 +159,34 @@ impl<W: Words> FairLock<UsesTickets> for W {
     ghost IsOutside = { λ m c. lock_phase c (W.seen m) ≡ Idle };
 
     #[inline(always)]
+    fn mark(handed: <W::Edit as SplitEdit>::Handed, edit: W::Edit) -> W::Mark {
+        <W as Words>::mark(handed, edit)
+    }
+
+    #[inline(always)]
     fn join(&mut self, cpu: CpuId, lock: LockId) -> u64 {
         self.draw(cpu, lock)
     }
 
     #[inline(always)]
-    fn enter(&mut self, cpu: CpuId, lock: LockId, ticket: u64) -> Option<<W::Edit as Edit>::Block> {
+    fn enter(
+        &mut self,
+        cpu: CpuId,
+        lock: LockId,
+        ticket: u64,
+    ) -> Option<<W::Edit as SplitEdit>::Block> {
         self.look(cpu, lock, ticket)
     }
 
     #[inline(always)]
-    fn leave(&mut self, cpu: CpuId, lock: LockId, block: <W::Edit as Edit>::Block, edit: W::Edit) {
-        self.free(cpu, lock, block, W::mark(edit));
+    fn leave(
+        &mut self,
+        cpu: CpuId,
+        lock: LockId,
+        block: <W::Edit as SplitEdit>::Block,
+        mark: W::Mark,
+    ) {
+        self.free(cpu, lock, block, mark);
     }
 
     ghost legal = { λ m c acts. legal_acts edit_of (W.seen m) (words_legal (W.Edit.rules.allowed (W.opening m)) (W.seen m) (W.legal m c acts)) };
@@ -175,6 +205,10 @@ impl<W: GrantWords> FairLock<UsesGrants> for W {
 
     type Edit = W::Edit;
 
+    type Mark = W::Mark;
+
+    ghost edit_in = { λ mark. W.edit_in mark };
+
     ghost opening = { λ m. W.opening m };
 
     ghost acts = { λ m. acts_of_grants edit_of (W.seen m) };
@@ -188,18 +222,34 @@ impl<W: GrantWords> FairLock<UsesGrants> for W {
     ghost IsOutside = { λ m c. grant_lock_phase c (W.seen m) ≡ Idle };
 
     #[inline(always)]
+    fn mark(handed: <W::Edit as SplitEdit>::Handed, edit: W::Edit) -> W::Mark {
+        <W as GrantWords>::mark(handed, edit)
+    }
+
+    #[inline(always)]
     fn join(&mut self, cpu: CpuId, lock: LockId) -> u64 {
         self.take(cpu, lock)
     }
 
     #[inline(always)]
-    fn enter(&mut self, cpu: CpuId, lock: LockId, ticket: u64) -> Option<<W::Edit as Edit>::Block> {
+    fn enter(
+        &mut self,
+        cpu: CpuId,
+        lock: LockId,
+        ticket: u64,
+    ) -> Option<<W::Edit as SplitEdit>::Block> {
         self.peek(cpu, lock, ticket)
     }
 
     #[inline(always)]
-    fn leave(&mut self, cpu: CpuId, lock: LockId, block: <W::Edit as Edit>::Block, edit: W::Edit) {
-        self.give(cpu, lock, block, W::mark(edit));
+    fn leave(
+        &mut self,
+        cpu: CpuId,
+        lock: LockId,
+        block: <W::Edit as SplitEdit>::Block,
+        mark: W::Mark,
+    ) {
+        self.give(cpu, lock, block, mark);
     }
 
     ghost legal = { λ m c acts. legal_grants edit_of (W.seen m) (grants_legal (W.Edit.rules.allowed (W.opening m)) (W.seen m) (W.legal m c acts)) };

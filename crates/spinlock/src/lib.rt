@@ -9,7 +9,7 @@
 //! let mut payload = Payload::new();
 //! for _ in 0..3 {
 //!     // None as it draws and as its look hits; then Some: the section is done.
-//!     let answer = part.poll(&mut machine, lock, AddOne, &mut payload);
+//!     let answer = part.poll(&mut machine, LockCall { lock, edit: AddOne }, &mut payload);
 //! }
 //! ```
 #![tactic(auto)]

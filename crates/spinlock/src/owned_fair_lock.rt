@@ -6,7 +6,7 @@ ghost use Rattle.std.specs.Prelude.{◌≡◌, ◌<◌, [], Option, Some, IsSome
 
 use crate::fair_lock::{FairLock, UsesGrants, UsesTickets};
 use event_log::{LockId, NoMemory};
-use layer_traits::{Edit, OwnedGrantWords, OwnedWords};
+use layer_traits::{OwnedGrantWords, OwnedWords, SplitEdit};
 use std::alloc::Global;
 
 /// A machine at whose locks CPUs stand in line, that is opened with its blocks and tells of those
@@ -30,7 +30,7 @@ pub trait OwnedFairLock<LockProtocol>: FairLock<LockProtocol> {
     /// Errors: `NoMemory` where an allocation was refused; then the blocks are gone.
     fn open(
         alloc: Global,
-        blocks: Vec<(LockId, <Self::Edit as Edit>::Block)>,
+        blocks: Vec<(LockId, <Self::Edit as SplitEdit>::Block)>,
         room: usize,
     ) -> Result<Self, NoMemory>
         requires distinct { AreDistinct blocks.items }
@@ -42,7 +42,7 @@ pub trait OwnedFairLock<LockProtocol>: FairLock<LockProtocol> {
     /// The block of `lock`; `None` where it is in the hands of a CPU.
     ///
     /// Requires: the holder acts for some CPU, and the lock is there.
-    fn block(&self, lock: LockId) -> Option<&<Self::Edit as Edit>::Block>
+    fn block(&self, lock: LockId) -> Option<&<Self::Edit as SplitEdit>::Block>
         requires acts { (c : CpuId) × Self.ActsFor self.now c }
         requires lock { IsSome (Self.opening self.now lock) }
         ensures { option_map (λ block. block.now) result ≡ block_at self.now lock };
@@ -63,7 +63,7 @@ impl<W: OwnedWords> OwnedFairLock<UsesTickets> for W {
 
     fn open(
         alloc: Global,
-        blocks: Vec<(LockId, <W::Edit as Edit>::Block)>,
+        blocks: Vec<(LockId, <W::Edit as SplitEdit>::Block)>,
         room: usize,
     ) -> Result<Self, NoMemory>
         requires distinct { AreDistinct blocks.items }
@@ -75,7 +75,7 @@ impl<W: OwnedWords> OwnedFairLock<UsesTickets> for W {
         <W as OwnedWords>::open(alloc, blocks, room)
     }
 
-    fn block(&self, lock: LockId) -> Option<&<W::Edit as Edit>::Block> {
+    fn block(&self, lock: LockId) -> Option<&<W::Edit as SplitEdit>::Block> {
         <W as OwnedWords>::block(self, lock)
     }
 
@@ -91,7 +91,7 @@ impl<W: OwnedGrantWords> OwnedFairLock<UsesGrants> for W {
 
     fn open(
         alloc: Global,
-        blocks: Vec<(LockId, <W::Edit as Edit>::Block)>,
+        blocks: Vec<(LockId, <W::Edit as SplitEdit>::Block)>,
         room: usize,
     ) -> Result<Self, NoMemory>
         requires distinct { AreDistinct blocks.items }
@@ -103,7 +103,7 @@ impl<W: OwnedGrantWords> OwnedFairLock<UsesGrants> for W {
         <W as OwnedGrantWords>::open(alloc, blocks, room)
     }
 
-    fn block(&self, lock: LockId) -> Option<&<W::Edit as Edit>::Block> {
+    fn block(&self, lock: LockId) -> Option<&<W::Edit as SplitEdit>::Block> {
         <W as OwnedGrantWords>::block(self, lock)
     }
 

@@ -3,13 +3,23 @@
 ghost use Rattle.std.specs.Prelude.{◌≡◌, ◌≢◌, ◌+◌, ◌<◌, ◌≤◌, ◌∷◌, true, IsSome, OnSome, is_some, if◌then◌else◌};
 ghost use Rattle.event_log.specs.declared.ids.CpuId.{CpuId};
 ghost use Rattle.event_log.specs.Actions.{Take, Try, Give, Rests, phase, next_action};
+ghost use Rattle.layer_traits.specs.Payloads.{told_by};
 ghost use Rattle.layer_traits.specs.Plans.{table_of, reply};
 ghost use Rattle.layer_traits.specs.Protocol.{section, StaysAllowed};
 ghost use Rattle.layer_traits.specs.Polls.{MayPoll, Answers};
-ghost use Rattle.layer_traits.specs.declared.payloads.Payload.{Payload};
 
 use event_log::{CPUS, LockId};
 use layer_traits::{Edit, LockCall, LockLayer, Payload};
+
+/// The answer in one piece, if there is one.
+fn answer_in<E: Edit>(brought: Option<E::Brought>, payload: &mut Payload) -> Option<E::Out>
+    ensures { result ≡ told_by E.told brought payload.old }
+{
+    match brought {
+        None => None,
+        Some(out) => Some(E::bring_back(out, payload)),
+    }
+}
 
 /// One poll on a machine whose holder acts for every CPU: exactly the action that is due.
 fn alone<E: Edit, L: LockLayer<E>>(
@@ -25,7 +35,6 @@ fn alone<E: Edit, L: LockLayer<E>>(
     requires lock { IsSome (L.opening m.old lock) }
     requires room { 0 < L.room m.old }
     requires call { MayPoll (E.rules.allowed (L.opening m.old)) (L.seen m.old) (L.under_way part.old) (section (L.cpu_of part.old) lock edit) }
-    requires carried { E.carried edit payload.old }
     ensures acts { L.acts m.new ≡ next_action (L.cpu_of part.old) lock edit (L.acts m.old) ∷ L.acts m.old }
     ensures answer { result ≡ reply (table_of E.rules) (L.opening m.old) (L.cpu_of part.old) lock edit (L.acts m.old) }
     ensures all { (c : CpuId) → c.0 < CPUS → L.ActsFor m.new c }
@@ -37,18 +46,19 @@ fn alone<E: Edit, L: LockLayer<E>>(
     ensures outside { OnSome result (L.IsOutside m.new (L.cpu_of part.old)) }
     ensures others { (p : L) → L.cpu_of p ≢ L.cpu_of part.old → L.Fits p m.old → L.Fits p m.new }
 {
-    part.poll(m, LockCall { lock, edit }, payload)
+    let handed = edit.hand_on(payload);
+    let brought = part.poll(m, LockCall { lock, edit: handed }, payload);
+    answer_in::<E>(brought, payload)
 }
 
 /// Does the whole section of `edit` at `lock`, where no CPU has a ticket and the holder of the
 /// machine acts for every CPU: three polls, of which the first draws, the second hits and the third
-/// frees with the answer. The edit is one that puts nothing: whatever lies in the payload, it holds that.
+/// frees with the answer. What the edit puts and what its answer brings go by way of `payload`.
 ///
 /// Requires: part and machine agree, a poll is one action, the holder acts for every CPU, and no
 /// CPU has a ticket. The lock is there, there is room for three events, and the part has no call
-/// under way. The edit is allowed and stays so, and it puts nothing: whatever lies in the payload,
-/// it holds that.
-pub fn whole<E: Edit + Copy, L: LockLayer<E>>(
+/// under way. The edit is allowed and stays so.
+pub fn whole<E: Edit, L: LockLayer<E>>(
     part: &mut L,
     m: &mut L::Machine,
     lock: LockId,
@@ -63,7 +73,6 @@ pub fn whole<E: Edit + Copy, L: LockLayer<E>>(
     requires room { 2 < L.room m.old }
     requires call { L.under_way part.old ≡ None }
     requires allowed { StaysAllowed (E.rules.allowed (L.opening m.old)) (L.seen m.old) (section (L.cpu_of part.old) lock edit) }
-    requires carried { (t : Payload) → E.carried edit t }
     ensures seen { L.seen m.new ≡ section (L.cpu_of part.old) lock edit ∷ L.seen m.old }
     ensures answer { Answers E.rules (L.opening m.old) (L.seen m.old) (section (L.cpu_of part.old) lock edit) result }
     ensures acts { L.acts m.new

@@ -6,7 +6,7 @@ use crate::fair_lock::{FairLock, UsesGrants, UsesTickets};
 use crate::owned_fair_lock::OwnedFairLock;
 use crate::stages::TicketPhase;
 use event_log::{CpuId, LockId, NoMemory};
-use layer_traits::{Edit, Layer, LockCall, LockLaw, OwnedLocks, Payload};
+use layer_traits::{Ghost, Layer, LockCall, LockLaw, OwnedLocks, Payload, SplitEdit};
 use std::alloc::Global;
 use std::marker::PhantomData;
 use std::mem;
@@ -17,7 +17,8 @@ use std::mem;
 #[derive(Drop)]
 pub struct SpinLock<M: FairLock<LockProtocol>, LockProtocol> {
     cpu: CpuId,
-    stage: TicketPhase<M::Edit, <M::Edit as Edit>::Block>,
+    // The edit is kept for clauses alone: the poll that holds the lock is given it again.
+    stage: TicketPhase<Ghost<M::Edit>, <M::Edit as SplitEdit>::Block>,
     // Always None: it names the machine's type, and what that borrows.
     machine: Option<M>,
     lock_protocol: PhantomData<LockProtocol>,
@@ -104,12 +105,13 @@ impl<M: FairLock<LockProtocol>, LockProtocol> Layer<LockLaw<M::Edit>>
     fn poll(
         &mut self,
         m: &mut M,
-        call: LockCall<M::Edit>,
+        call: LockCall<<M::Edit as SplitEdit>::Handed>,
         payload: &mut Payload,
-    ) -> Option<<M::Edit as Edit>::Out> {
+    ) -> Option<<M::Edit as SplitEdit>::Brought> {
         match self.stage {
             TicketPhase::Out => {
-                let LockCall { lock, edit } = call;
+                let lock = call.lock;
+                let edit = Ghost::of(&<M::Edit as SplitEdit>::whole(&call.edit, payload));
                 let ticket = m.join(self.cpu, lock);
                 self.stage = TicketPhase::Waiting { lock, edit, ticket };
                 None
@@ -122,14 +124,17 @@ impl<M: FairLock<LockProtocol>, LockProtocol> Layer<LockLaw<M::Edit>>
             TicketPhase::Holding { .. } => {
                 let TicketPhase::Holding {
                     lock,
-                    edit,
                     mut block,
+                    ..
                 } = mem::replace(&mut self.stage, TicketPhase::Out)
                 else {
                     unreachable!()
                 };
-                let out = edit.apply(&mut block, payload);
-                m.leave(self.cpu, lock, block, edit);
+                // The edit that is meant, before its answer is laid in the payload.
+                let edit = <M::Edit as SplitEdit>::whole(&call.edit, payload);
+                let out = <M::Edit as SplitEdit>::apply_handed(&call.edit, &mut block, payload);
+                let mark = M::mark(call.edit, edit);
+                m.leave(self.cpu, lock, block, mark);
                 Some(out)
             }
         }
@@ -174,7 +179,7 @@ impl<M: OwnedFairLock<LockProtocol>, LockProtocol> OwnedLocks<M::Edit>
 
     fn open(
         alloc: Global,
-        blocks: Vec<(LockId, <M::Edit as Edit>::Block)>,
+        blocks: Vec<(LockId, <M::Edit as SplitEdit>::Block)>,
         room: usize,
     ) -> Result<M, NoMemory>
         requires distinct { AreDistinct blocks.items }
@@ -189,11 +194,11 @@ impl<M: OwnedFairLock<LockProtocol>, LockProtocol> OwnedLocks<M::Edit>
         M::open(alloc, blocks, room)
     }
 
-    fn block_in(m: &M, lock: LockId) -> Option<&<M::Edit as Edit>::Block> {
+    fn block_in(m: &M, lock: LockId) -> Option<&<M::Edit as SplitEdit>::Block> {
         m.block(lock)
     }
 
-    fn block_here(&self, lock: LockId) -> Option<&<M::Edit as Edit>::Block> {
+    fn block_here(&self, lock: LockId) -> Option<&<M::Edit as SplitEdit>::Block> {
         self.stage.held(lock)
     }
 

@@ -7,7 +7,8 @@ ghost use Rattle.std.specs.Prelude.{◌≡◌, option_map};
 use event_log::LockId;
 use std::mem;
 
-/// How far a CPU's section has come, with what the CPU keeps of it.
+/// How far a CPU's section has come, with what the CPU keeps of it: its edit `E` may be kept for
+/// clauses alone.
 #[derive(Drop)]
 pub enum TicketPhase<E, B> {
     /// No section is under way.

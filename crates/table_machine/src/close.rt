@@ -16,10 +16,10 @@ use crate::table_words::TableWords;
 use crate::views::Home;
 use atomic_table::Closed;
 use event_log::LockId;
-use layer_traits::Edit;
+use layer_traits::SplitEdit;
 use std::alloc::Global;
 
-impl<E: Edit, K: TableWords> Shared<E, K> {
+impl<E: SplitEdit, K: TableWords> Shared<E, K> {
     /// Closes the table and gives each block as the sections left it, in the order of `open`. It
     /// takes the keys of all CPUs, none with a ticket outstanding. There is one legal words log that
     /// begins with the log of each key and holds of each CPU just the events which its key has
@@ -75,7 +75,7 @@ impl<E: Edit, K: TableWords> Shared<E, K> {
 }
 
 // The blocks that lie in the slots, with their locks.
-fn returned<E: Edit>(
+fn returned<E: SplitEdit>(
     mut closed: Closed<Home<E, E::Block>, Global>,
     locks: Vec<LockId>,
     mut blocks: Vec<(LockId, E::Block)>,

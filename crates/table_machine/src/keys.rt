@@ -17,7 +17,7 @@ use crate::shared::Shared;
 use crate::table_words::TableWords;
 use crate::views::Home;
 use event_log::{CpuId, LockId};
-use layer_traits::{Edit, Mark};
+use layer_traits::{Mark, SplitEdit};
 use std::marker::Model;
 
 /// The right to act for one CPU at one table, and all that the CPU has seen there. It may go from
@@ -26,14 +26,14 @@ use std::marker::Model;
 /// To a contract it is a seat view: its CPU, its table, the blocks that the table opened with, and the
 /// words log that was seen, newest first.
 #[derive(Drop)]
-pub struct Key<E: Edit> {
+pub struct Key<E: SplitEdit> {
     pub(crate) token: Token<E>,
     pub(crate) cpu: CpuId,
     // The ticket that the CPU drew last: it gives the lock on by the word that this tells.
     pub(crate) ticket: u64,
 }
 
-impl<E: Edit> Model for Key<E> {
+impl<E: SplitEdit> Model for Key<E> {
     ghost use Rattle.table_machine.specs.SeatViews.{SeatView, IsKey};
 
     ghost Value = { SeatView E E.Block };
@@ -43,7 +43,7 @@ impl<E: Edit> Model for Key<E> {
     ghost invariant = { λ k. IsKey E.rules k.cpu k.ticket k.token.me };
 }
 
-impl<E: Edit> Key<E> {
+impl<E: SplitEdit> Key<E> {
     /// The CPU whose key it is.
     pub fn cpu(&self) -> CpuId
         ensures { result ≡ self.now.cpu }

@@ -16,12 +16,12 @@ use crate::shared::Shared;
 use crate::table_words::TableWords;
 use crate::views::Home;
 use event_log::{CPUS, CpuId, LOCKS, LockId, NoMemory};
-use layer_traits::Edit;
+use layer_traits::SplitEdit;
 use std::alloc::{AllocError, Global};
 use std::snapshot::Snapshot;
 
 // What is laid out before the table is made.
-struct Layout<E: Edit> {
+struct Layout<E: SplitEdit> {
     words: Vec<u64>,
     ranks: Vec<usize>,
     locks: Vec<LockId>,
@@ -29,7 +29,7 @@ struct Layout<E: Edit> {
     returned: Vec<(LockId, E::Block)>,
 }
 
-impl<E: Edit, K: TableWords> Shared<E, K> {
+impl<E: SplitEdit, K: TableWords> Shared<E, K> {
     /// A table with these locks and blocks, in which no lock stands twice and which may be none, and
     /// one key for each CPU, from CPU 0 up. `cpus` is at most `CPUS`. Nothing has happened yet: the
     /// log of each key is empty.
@@ -97,7 +97,7 @@ impl<E: Edit, K: TableWords> Shared<E, K> {
 }
 
 // The table, with the seat that acts for all its CPUs.
-fn opened_table<E: Edit, K: TableWords>(
+fn opened_table<E: SplitEdit, K: TableWords>(
     alloc: Global,
     blocks: Vec<(LockId, E::Block)>,
     cpus: u8,
@@ -127,7 +127,7 @@ fn opened_table<E: Edit, K: TableWords>(
 }
 
 // The table with the row of ranks beside it, and the room for the blocks that `close` gives.
-fn furnished<E: Edit, K: TableWords>(
+fn furnished<E: SplitEdit, K: TableWords>(
     made: (Whole<E, K>, Token<E>),
     ranks: Vec<usize>,
     locks: Vec<LockId>,
@@ -152,7 +152,7 @@ fn furnished<E: Edit, K: TableWords>(
     (shared, dealer)
 }
 
-fn laid_out<E: Edit, K: TableWords>(
+fn laid_out<E: SplitEdit, K: TableWords>(
     alloc: Global,
     blocks: Vec<(LockId, E::Block)>,
 ) -> Result<Layout<E>, AllocError>
@@ -219,7 +219,7 @@ fn ranks_of<B>(alloc: Global, blocks: &[(LockId, B)]) -> Result<Vec<usize>, Allo
 }
 
 // The locks, and their slots with the opening blocks.
-fn parted<E: Edit>(
+fn parted<E: SplitEdit>(
     alloc: Global,
     blocks: Vec<(LockId, E::Block)>,
 ) -> Result<(Vec<LockId>, Vec<Home<E, E::Block>>), AllocError>

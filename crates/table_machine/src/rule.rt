@@ -3,7 +3,7 @@ use crate::table_words::TableWords;
 use crate::views::{Home, View};
 use atomic_table::{Seat, Shared, Table, TableRule};
 use event_log::LockId;
-use layer_traits::Edit;
+use layer_traits::SplitEdit;
 use std::alloc::Global;
 use std::marker::PhantomData;
 use std::snapshot::Snapshot;
@@ -23,7 +23,7 @@ pub(crate) struct LogRule<E, K> {
     words: PhantomData<K>,
 }
 
-impl<E: Edit, K: TableWords> TableRule<Home<E, E::Block>, View<E, E::Block>, Opening<E::Block>>
+impl<E: SplitEdit, K: TableWords> TableRule<Home<E, E::Block>, View<E, E::Block>, Opening<E::Block>>
     for LogRule<E, K> {
     ghost use Rattle.std.specs.Prelude.{[]};
     ghost use Rattle.table_machine.specs.Rule.{TableInv};
@@ -34,19 +34,19 @@ impl<E: Edit, K: TableWords> TableRule<Home<E, E::Block>, View<E, E::Block>, Ope
     ghost first = { λ k. viewed k.blocks.value.items (cpus_from 0 k.cpus) [] };
 }
 
-pub(crate) type Token<E> = Seat<Home<E, <E as Edit>::Block>, View<E, <E as Edit>::Block>>;
+pub(crate) type Token<E> = Seat<Home<E, <E as SplitEdit>::Block>, View<E, <E as SplitEdit>::Block>>;
 
 pub(crate) type Core<E, K> = Shared<
-    Home<E, <E as Edit>::Block>,
-    View<E, <E as Edit>::Block>,
-    Opening<<E as Edit>::Block>,
+    Home<E, <E as SplitEdit>::Block>,
+    View<E, <E as SplitEdit>::Block>,
+    Opening<<E as SplitEdit>::Block>,
     LogRule<E, K>,
 >;
 
 pub(crate) type Whole<E, K> = Table<
-    Home<E, <E as Edit>::Block>,
-    View<E, <E as Edit>::Block>,
-    Opening<<E as Edit>::Block>,
+    Home<E, <E as SplitEdit>::Block>,
+    View<E, <E as SplitEdit>::Block>,
+    Opening<<E as SplitEdit>::Block>,
     LogRule<E, K>,
     Global,
 >;

@@ -13,14 +13,14 @@ use crate::keys::Key;
 use crate::shared::Shared;
 use crate::table_words::{TableWords, TicketWords, WaiterWords};
 use event_log::{CpuId, LockId};
-use layer_traits::{Edit, Mark, UsesGrantWords, Words};
+use layer_traits::{Mark, SplitEdit, UsesGrantWords, Words};
 use std::marker::Model;
 
 /// A CPU at a table: it may draw, look and free there. Each call lengthens the log that the seat
 /// has seen by what other CPUs did, and then by the call's own event; its answer is the one that a
 /// single thread would get at that point of the log.
 #[derive(Drop)]
-pub struct Seat<'a, E: Edit, K: TableWords = TicketWords> {
+pub struct Seat<'a, E: SplitEdit, K: TableWords = TicketWords> {
     key: Key<E>,
     shared: &'a Shared<E, K>,
 }
@@ -28,7 +28,7 @@ pub struct Seat<'a, E: Edit, K: TableWords = TicketWords> {
 /// A CPU at a table of locks with grant words: it may take, peek and give there.
 pub type GrantSeat<'a, E> = Seat<'a, E, WaiterWords>;
 
-impl<'a, E: Edit, K: TableWords> Model for Seat<'a, E, K> {
+impl<'a, E: SplitEdit, K: TableWords> Model for Seat<'a, E, K> {
     ghost use Rattle.table_machine.specs.SeatViews.{SeatView, IsOf};
 
     ghost Value = { SeatView E E.Block };
@@ -38,7 +38,7 @@ impl<'a, E: Edit, K: TableWords> Model for Seat<'a, E, K> {
     ghost invariant = { λ s. IsOf s.shared.now s.key };
 }
 
-impl<E: Edit, K: TableWords> Shared<E, K> {
+impl<E: SplitEdit, K: TableWords> Shared<E, K> {
     /// Takes the seat of the key's CPU. The key is one of this table. Takes no memory.
     ///
     /// Requires: the key is one of this table.
@@ -52,7 +52,7 @@ impl<E: Edit, K: TableWords> Shared<E, K> {
     }
 }
 
-impl<'a, E: Edit, K: TableWords> Seat<'a, E, K> {
+impl<'a, E: SplitEdit, K: TableWords> Seat<'a, E, K> {
     /// The table at which the seat stands. The key that the seat gives back may be seated there
     /// again, whatever was done through the seat meanwhile.
     pub fn table(&self) -> &'a Shared<E, K>
@@ -70,7 +70,7 @@ impl<'a, E: Edit, K: TableWords> Seat<'a, E, K> {
     }
 }
 
-impl<'a, E: Edit, K: TableWords> Words for Seat<'a, E, K> {
+impl<'a, E: SplitEdit, K: TableWords> Words for Seat<'a, E, K> {
     ghost use Rattle.std.specs.Prelude.{◌≡◌, ℕ};
     ghost use Rattle.event_log.specs.History.{IsLawful};
     ghost use Rattle.layer_traits.specs.WordsProtocol.{MayCome, edit_of};
@@ -93,7 +93,7 @@ impl<'a, E: Edit, K: TableWords> Words for Seat<'a, E, K> {
 
     ghost site = { λ s. site_of s.table };
 
-    fn mark(edit: E) -> Mark<E> {
+    fn mark(_handed: E::Handed, edit: E) -> Mark<E> {
         Mark { edit }
     }
 
@@ -112,14 +112,14 @@ impl<'a, E: Edit, K: TableWords> Words for Seat<'a, E, K> {
     ghost legal = { λ s c acts. acts.1 };
 }
 
-impl<'a, E: Edit> UsesGrantWords for Seat<'a, E, WaiterWords> {}
+impl<'a, E: SplitEdit> UsesGrantWords for Seat<'a, E, WaiterWords> {}
 
 /// Brings the second seat's view up to the first's: afterwards the second's log begins with all
 /// that the first has seen, and each still has all that it had seen. It may come at any moment, in
 /// the middle of a section too, and is no event of the log. Takes no memory.
 ///
 /// Requires: both seats are at one table.
-pub fn meet<E: Edit, K: TableWords>(first: &mut Seat<'_, E, K>, second: &mut Seat<'_, E, K>)
+pub fn meet<E: SplitEdit, K: TableWords>(first: &mut Seat<'_, E, K>, second: &mut Seat<'_, E, K>)
     requires { second.old.table ≡ first.old.table }
     ensures first { first.new ≡ first.old }
     ensures second { second.new ≡ record second.old { seen = second.new.seen } }

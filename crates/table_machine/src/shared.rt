@@ -8,7 +8,7 @@ ghost use Rattle.table_machine.specs.Layout.{rank_of, word_at, word_count};
 use crate::rule::Whole;
 use crate::table_words::{TableWords, TicketWords, WaiterWords};
 use event_log::{CPUS, LockId};
-use layer_traits::Edit;
+use layer_traits::SplitEdit;
 use std::marker::Model;
 
 /// The words and the blocks of locks, shared by threads. Each lock has its words, `next` and those
@@ -18,7 +18,7 @@ use std::marker::Model;
 /// To a contract it is a table view: which table it is, the blocks that it opened with, and how many
 /// CPUs it has.
 #[derive(Drop)]
-pub struct Shared<E: Edit, K: TableWords = TicketWords> {
+pub struct Shared<E: SplitEdit, K: TableWords = TicketWords> {
     pub(crate) table: Whole<E, K>,
     pub(crate) ranks: Vec<usize>,
     pub(crate) locks: Vec<LockId>,
@@ -28,7 +28,7 @@ pub struct Shared<E: Edit, K: TableWords = TicketWords> {
 /// The words and the blocks of locks with a grant word for each waiter, shared by threads.
 pub type GrantShared<E> = Shared<E, WaiterWords>;
 
-impl<E: Edit, K: TableWords> Model for Shared<E, K> {
+impl<E: SplitEdit, K: TableWords> Model for Shared<E, K> {
     ghost use Rattle.std.specs.Prelude.{◌≡◌, ◌≤◌, [], length, vec_capacity};
     ghost use Rattle.layer_traits.specs.OneLock.{AreDistinct};
     ghost use Rattle.table_machine.specs.SeatViews.{TableView};
@@ -44,7 +44,7 @@ impl<E: Edit, K: TableWords> Model for Shared<E, K> {
         × AreDistinct s.table.shared.key.blocks.value.items };
 }
 
-impl<E: Edit, K: TableWords> Shared<E, K> {
+impl<E: SplitEdit, K: TableWords> Shared<E, K> {
     #[tactic(auto, using(crate::proofs::Finding::rank_below))]
     // The rank of a lock among those of the opening.
     pub(crate) fn rank(&self, lock: LockId) -> usize

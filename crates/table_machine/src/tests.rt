@@ -13,7 +13,7 @@ ghost use Rattle.table_machine.specs.declared.tests.TheConstants.{LOCK, OTHER};
 use crate::stored_words::StoredWords;
 use crate::{GrantShared, Key, Shared, TableWords, TicketWords, WaiterWords, meet};
 use event_log::{BufId, CpuId, LockId, NoMemory};
-use layer_traits::{Edit, GrantWords, Payload, Words};
+use layer_traits::{GrantWords, Payload, SplitEdit, Words};
 use std::alloc::Global;
 use std::process::Abort;
 use std::test::Fail;
@@ -22,10 +22,14 @@ use std::test::Fail;
 #[derive(Drop)]
 struct AddOne;
 
-impl Edit for AddOne {
+impl SplitEdit for AddOne {
     type Block = u64;
 
     type Out = u64;
+
+    type Handed = AddOne;
+
+    type Brought = u64;
 
     ghost rules = { record {
       edited = λ e n. (n + 1) % 2 ^ 64;
@@ -33,7 +37,15 @@ impl Edit for AddOne {
       allowed = λ opening past s. Unit {0};
     } };
 
-    fn apply(&self, block: &mut u64, _payload: &mut Payload) -> u64 {
+    ghost meant = { λ handed payload. handed };
+
+    ghost told = { λ brought payload. brought };
+
+    fn whole(_handed: &AddOne, _payload: &Payload) -> AddOne {
+        AddOne
+    }
+
+    fn apply_handed(_handed: &AddOne, block: &mut u64, _payload: &mut Payload) -> u64 {
         let old = *block;
         *block = old.wrapping_add(1);
         old
@@ -140,8 +152,8 @@ fn frees<W: Words<Edit = AddOne>>(words: &mut W, cpu: CpuId, lock: LockId, ticke
     ensures outside { lock_phase cpu (W.seen words.new) ≡ Idle }
 {
     let mut block = found;
-    AddOne.apply(&mut block, &mut Payload::new());
-    words.free(cpu, lock, block, W::mark(AddOne));
+    AddOne::apply_handed(&AddOne, &mut block, &mut Payload::new());
+    words.free(cpu, lock, block, W::mark(AddOne, AddOne));
 }
 
 /// A whole section at a lock for which nobody waits: the number that it found.
@@ -353,8 +365,8 @@ fn gives<W: GrantWords<Edit = AddOne>>(
     ensures outside { grant_lock_phase cpu (W.seen words.new) ≡ Idle }
 {
     let mut block = found;
-    AddOne.apply(&mut block, &mut Payload::new());
-    words.give(cpu, lock, block, W::mark(AddOne));
+    AddOne::apply_handed(&AddOne, &mut block, &mut Payload::new());
+    words.give(cpu, lock, block, W::mark(AddOne, AddOne));
 }
 
 #[test]

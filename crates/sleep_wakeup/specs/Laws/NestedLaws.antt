@@ -34,9 +34,8 @@ use Rattle.layer_traits.proofs.PlaceLemmas.{current_at, stands_others}
 use Rattle.layer_traits.proofs.PlanRenaming.{block_viewed}
 use Rattle.sleep_wakeup.specs.declared.edits.SleepBlock.{SleepBlock}
 use Rattle.sleep_wakeup.specs.declared.edits.SleepEdit.{SleepEdit}
-use Rattle.sleep_wakeup.specs.declared.deferred.DeferredOutcome.{DeferredOutcome}
 use Rattle.sleep_wakeup.specs.Nested.{NestedAllowed, edit_in, nested_answer, nested_edited, nested_moves, nested_rules, state_of, states}
-use Rattle.sleep_wakeup.specs.Parts.{as_edit, under_of}
+use Rattle.sleep_wakeup.specs.Parts.{Deferred, as_edit, under_of}
 
 -- Sections.
 
@@ -203,7 +202,7 @@ nothing_seen [] none = refl
 nothing_seen (e ∷ past) none = absurd cc
 
 -- while no call is under way here none is beneath
-pub nested_idle : {E O : Type 0} (deferred : Option (DeferredOutcome E O)) (under : Option (SchedCall (SleepEdit E))) → under_of deferred under ≡ None
+pub nested_idle : {E O : Type 0} (deferred : Option (Deferred E O)) (under : Option (SchedCall (SleepEdit E))) → under_of deferred under ≡ None
     → under ≡ None
 nested_idle None None none = refl
 nested_idle None (Some s) none = absurd cc

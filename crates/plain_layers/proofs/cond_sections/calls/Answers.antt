@@ -3,8 +3,10 @@ use Rattle.event_log.specs.declared.ids.LockId.TheVariants.{Buffer}
 use Rattle.layer_traits.specs.Conditions.{cv_rules}
 use Rattle.layer_traits.specs.LockLaw.{lock_kernel}
 use Rattle.layer_traits.specs.Locking.{IsOwners, lock_after, lock_caller}
+use Rattle.layer_traits.specs.Payloads.{cv_meant}
 use Rattle.layer_traits.specs.QueueBlocks.{inner}
 use Rattle.layer_traits.specs.Queues.{buffer_sections}
+use Rattle.plain_layers.specs.LockSections.{call_alone}
 use Rattle.plain_layers.proofs.CondSectionLemmas.{may_begin, owner_told}
 use Rattle.plain_layers.proofs.cond_sections.calls.Goals as goal
 
@@ -15,7 +17,7 @@ section_polls-requires-clause-poll_section g c =
     let C = g.C.ThreadLayer in
     let m = c.args.m.now in
     let part = c.args.part.now in
-    let call = c.args.call.now in
+    let call = call_alone (cv_meant g.G.Guarded.meant) c.args.call.now in
     let runs : (C.own part).lock.sleep.threads.current ≡ Some (lock_caller (cv_rules monitor_rules) call) = search rules in
     let empty : (C.own part).lock.sleep.threads.hand ≡ None = search rules in
     let shown = g.met.C.OwnedConds.shown m (C.cpu_of part) c.args.buffer (g.met.C.ThreadLayer.own_cpu part m c.requires.fits) c.requires.buffer in

@@ -3,8 +3,10 @@ use Rattle.event_log.specs.declared.ids.LockId.TheVariants.{Buffer}
 use Rattle.layer_traits.specs.Conditions.{cv_rules}
 use Rattle.layer_traits.specs.LockLaw.{IsAcquire, lock_kernel}
 use Rattle.layer_traits.specs.Locking.{lock_caller}
+use Rattle.layer_traits.specs.Payloads.{cv_meant}
 use Rattle.plain_layers.specs.declared.cond_sections.PollSection.TheVariants.{Answered, GoesOn, Sleeps}
 use Rattle.plain_layers.specs.CondSections.{CondHasEnded, MayPollCondSection, WaitsAt}
+use Rattle.plain_layers.specs.LockSections.{call_alone}
 use Rattle.plain_layers.proofs.cond_sections.section_polls.Given as goal
 
 -- so many polls as section polls of the loop are done, and the last left the call so
@@ -18,9 +20,12 @@ invariant-loop g l = record {
   others : (p : _) → g.C.ThreadLayer.cpu_of p ≢ g.C.ThreadLayer.cpu_of l.fn.part → g.C.ThreadLayer.Fits p l.fn.m → g.C.ThreadLayer.Fits p l.m;
   goes : l.last ≡ GoesOn → MayPollCondSection g.G.Guarded.monitor_rules (lock_kernel (cv_rules g.G.Guarded.monitor_rules) (g.C.ThreadLayer.opening l.m))
       (g.C.ThreadLayer.cpu_of l.part)
-      (g.C.ThreadLayer.seen l.m) (g.C.ThreadLayer.own l.part) (g.C.ThreadLayer.under_way l.part) l.buffer l.call;
-  waits : l.last ≡ Sleeps → (IsAcquire l.call → ⊥) → WaitsAt g.G.Guarded.monitor_rules (g.C.ThreadLayer.own l.part) (g.C.ThreadLayer.under_way l.part)
-      (lock_caller (cv_rules g.G.Guarded.monitor_rules) l.call) l.buffer;
-  ended : (outcome : _) → l.last ≡ Answered outcome → CondHasEnded g.G.Guarded.monitor_rules (g.C.ThreadLayer.own l.part) (g.C.ThreadLayer.under_way l.part)
-      (lock_caller (cv_rules g.G.Guarded.monitor_rules) l.call);
+      (g.C.ThreadLayer.seen l.m) (g.C.ThreadLayer.own l.part) (g.C.ThreadLayer.under_way l.part) l.buffer
+      (call_alone (cv_meant g.G.Guarded.meant) l.call);
+  waits : l.last ≡ Sleeps → (IsAcquire (call_alone (cv_meant g.G.Guarded.meant) l.call) → ⊥)
+      → WaitsAt g.G.Guarded.monitor_rules (g.C.ThreadLayer.own l.part) (g.C.ThreadLayer.under_way l.part)
+      (lock_caller (cv_rules g.G.Guarded.monitor_rules) (call_alone (cv_meant g.G.Guarded.meant) l.call)) l.buffer;
+  ended : (outcome : _) → l.last ≡ Answered outcome
+      → CondHasEnded g.G.Guarded.monitor_rules (g.C.ThreadLayer.own l.part) (g.C.ThreadLayer.under_way l.part)
+      (lock_caller (cv_rules g.G.Guarded.monitor_rules) (call_alone (cv_meant g.G.Guarded.meant) l.call));
 }

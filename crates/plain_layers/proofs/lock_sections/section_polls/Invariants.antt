@@ -3,7 +3,7 @@ use Rattle.event_log.specs.declared.ids.LockId.TheVariants.{Buffer}
 use Rattle.layer_traits.specs.LockLaw.{lock_kernel}
 use Rattle.layer_traits.specs.Locking.{lock_caller}
 use Rattle.plain_layers.specs.declared.lock_sections.PollSection.TheVariants.{Answered, GoesOn, Sleeps}
-use Rattle.plain_layers.specs.LockSections.{LockHasEnded, MayPollLockSection, SleepsFor}
+use Rattle.plain_layers.specs.LockSections.{LockHasEnded, MayPollLockSection, SleepsFor, call_alone}
 use Rattle.plain_layers.proofs.lock_sections.section_polls.Given as goal
 
 -- so many polls as section polls of the loop are done, and the last left the call so
@@ -16,9 +16,9 @@ invariant-loop g l = record {
   room : g.Q.ThreadLayer.room l.fn.m ≤ g.Q.ThreadLayer.room l.m + l.counter;
   others : (p : _) → g.Q.ThreadLayer.cpu_of p ≢ g.Q.ThreadLayer.cpu_of l.fn.part → g.Q.ThreadLayer.Fits p l.fn.m → g.Q.ThreadLayer.Fits p l.m;
   goes : l.last ≡ GoesOn → MayPollLockSection g.F.Locked.rules (lock_kernel g.F.Locked.rules (g.Q.ThreadLayer.opening l.m)) (g.Q.ThreadLayer.cpu_of l.part)
-      (g.Q.ThreadLayer.seen l.m) (g.Q.ThreadLayer.own l.part) (g.Q.ThreadLayer.under_way l.part) l.buffer l.call;
+      (g.Q.ThreadLayer.seen l.m) (g.Q.ThreadLayer.own l.part) (g.Q.ThreadLayer.under_way l.part) l.buffer (call_alone g.F.Locked.meant l.call);
   sleeps : l.last ≡ Sleeps → SleepsFor g.F.Locked.rules (g.Q.ThreadLayer.own l.part) (g.Q.ThreadLayer.under_way l.part)
-      (lock_caller g.F.Locked.rules l.call) l.buffer;
+      (lock_caller g.F.Locked.rules (call_alone g.F.Locked.meant l.call)) l.buffer;
   ended : (outcome : _) → l.last ≡ Answered outcome → LockHasEnded g.F.Locked.rules (g.Q.ThreadLayer.own l.part) (g.Q.ThreadLayer.under_way l.part)
-      (lock_caller g.F.Locked.rules l.call);
+      (lock_caller g.F.Locked.rules (call_alone g.F.Locked.meant l.call));
 }

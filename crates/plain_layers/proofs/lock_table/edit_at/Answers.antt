@@ -14,8 +14,9 @@ pub returns-clause-block : goal.returns-clause-block
 returns-clause-block g c =
     let blocks = c.args.blocks.now.items in
     let slot = c.slot_of-slot.result in
-    slot_edited c.args.lock (g.E.Edit.rules.edited c.args.edit.now) slot blocks c.index_mut.result.now c.apply.new.block
-    (subst (λ l. IsSlot c.args.lock slot l) c.deref.ensures.value c.slot_of-slot.ensures) c.index_mut.ensures.value c.apply.ensures.block
+    slot_edited c.args.lock (g.E.SplitEdit.rules.edited (g.E.SplitEdit.meant c.args.handed.now c.args.payload.now)) slot blocks c.index_mut.result.now
+    c.apply_handed.new.block
+    (subst (λ l. IsSlot c.args.lock slot l) c.deref.ensures.value c.slot_of-slot.ensures) c.index_mut.ensures.value c.apply_handed.ensures.block
 
 pub returns-clause-answer : goal.returns-clause-answer
 returns-clause-answer g c =
@@ -23,4 +24,4 @@ returns-clause-answer g c =
     let slot = c.slot_of-slot.result in
     let tells = slot_reads c.args.lock slot blocks c.index_mut.result.now
     (subst (λ l. IsSlot c.args.lock slot l) c.deref.ensures.value c.slot_of-slot.ensures) c.index_mut.ensures.value in
-    ap (option_map (g.E.Edit.rules.answer c.args.edit.now)) tells.1 ∙ ap Some (sym c.apply.ensures.answer)
+    ap (option_map (g.E.SplitEdit.rules.answer (g.E.SplitEdit.meant c.args.handed.now c.args.payload.now))) tells.1 ∙ ap Some (sym c.apply_handed.ensures.answer)

@@ -7,7 +7,7 @@ use Rattle.spinlock.proofs.sections.whole.Goals as goal
 pub unwrap-requires : goal.unwrap-requires
 unwrap-requires g c =
     let L = g.L.Layer in
-    let rules = g.E.Edit.rules in
+    let rules = g.E.SplitEdit.rules in
     let m = c.args.m.now in
     let part = c.args.part.now in
     let one = c.alone-drawn in

@@ -8,7 +8,7 @@ use Rattle.table_machine.proofs.Laying.{laid_fits}
 use Rattle.table_machine.proofs.open.opened_table.Goals as goal
 
 pub new-requires : goal.new-requires
-new-requires g c = opening_inv g.K.TableWords.kind g.E.Edit.rules c.args.cpus c.of.result.value.items g.met.K.TableWords.lawful c.as_slice.result.now
+new-requires g c = opening_inv g.K.TableWords.kind g.E.SplitEdit.rules c.args.cpus c.of.result.value.items g.met.K.TableWords.lawful c.as_slice.result.now
     c.in_ok-words.field-0.homes.items c.requires.cpus
     (subst (λ l. AreFirst g.K.TableWords.kind.opens (length c.of.result.value.items) (length c.of.result.value.items) l) (sym c.as_slice.ensures.value)
     (subst (λ v. AreFirst g.K.TableWords.kind.opens (length v.items) (length v.items) c.in_ok-words.field-0.words.items) (sym c.of.ensures)

@@ -3,12 +3,14 @@ use Rattle.layer_traits.specs.Conditions.{cv_rules}
 use Rattle.layer_traits.specs.CvLaw.{Waiting}
 use Rattle.layer_traits.specs.Locking.{lock_caller, lock_moves, lock_rules}
 use Rattle.layer_traits.specs.LockLaw.{lock_kernel, slept_for}
+use Rattle.layer_traits.specs.Payloads.{cv_meant, lock_meant}
 use Rattle.layer_traits.specs.Plans.{table_of}
 use Rattle.layer_traits.specs.QueueBlocks.{homes_in}
 use Rattle.layer_traits.specs.QueueRules.{queue_rules}
 use Rattle.layer_traits.specs.Queues.{moves_in}
 use Rattle.event_log.specs.declared.ids.LockId.TheVariants.{Buffer}
-use Rattle.condvar.proofs.CondLemmas.{current_awake, current_small, over_polled, waits_follow, waits_polled, wake_ended, wake_kept, wake_told}
+use Rattle.condvar.proofs.CondLemmas.{complete_told, current_awake, current_small, lock_tells, over_polled, waits_follow, waits_polled, waits_told}
+use Rattle.condvar.proofs.CondLemmas.{wake_ended, wake_kept, wake_told}
 use Rattle.condvar.proofs.cond.CondThreadLayerCvLaw.poll.Goals as goal
 
 pub wake-requires : goal.wake-requires
@@ -44,7 +46,9 @@ returns-then-wake-clause-seen g c =
     let cpu = Q.cpu_of p in
     let rules = cv_rules g.G.Guarded.monitor_rules in
     let k = lock_kernel rules (Q.opening m) in
-    let t = lock_caller rules c.args.call.edit in
+    let G = g.G.Guarded in
+    let call = lock_meant (cv_meant G.meant) c.args.call.edit c.args.payload.now.message in
+    let t = lock_caller rules call in
     let waits = c.args.self.now.waits.buffers in
     let own : Waiting _ = record { lock = Q.own p; waits = waits } in
     let caller = c.caller_of-t.ensures in
@@ -53,7 +57,7 @@ returns-then-wake-clause-seen g c =
     (law.stands p m c.requires.fits).stands (law.stands p m c.requires.fits).lists c.requires.call.runs (Buffer c.args.call.buffer) in
     let some = wake_told waits c.wake.result true t c.caller_of-t.result c.wake.ensures.was c.if-wake.true caller in
     let now = wake_ended waits c.wake.new.self.buffers c.wake.result t c.caller_of-t.result c.wake.ensures.now c.if-wake.true caller in
-    over_polled g.G.Guarded.monitor_rules k (λ d. Q.ActsFor m d) cpu c.args.call.buffer c.args.call.edit (Q.seen m) own (Q.under_way p) c.side_of.result
+    over_polled g.G.Guarded.monitor_rules k (λ d. Q.ActsFor m d) cpu c.args.call.buffer call (Q.seen m) own (Q.under_way p) c.side_of.result
     c.wake.new.self.buffers some c.requires.call awake c.side_of.ensures now
 
 pub returns-clause-seen : goal.returns-clause-seen
@@ -64,16 +68,21 @@ returns-clause-seen g c =
     let cpu = Q.cpu_of p in
     let rules = cv_rules g.G.Guarded.monitor_rules in
     let k = lock_kernel rules (Q.opening m) in
-    let t = lock_caller rules c.args.call.edit in
+    let G = g.G.Guarded in
+    let call = lock_meant (cv_meant G.meant) c.args.call.edit c.args.payload.now.message in
+    let t = lock_caller rules call in
     let waits = c.args.self.now.waits.buffers in
     let own : Waiting _ = record { lock = Q.own p; waits = waits } in
     let caller = c.caller_of-t.ensures in
+    let message = c.poll-answer.new.payload.message in
     let none = wake_told waits c.wake.result false t c.caller_of-t.result c.wake.ensures.was c.if-wake.false caller in
     let kept = wake_kept waits c.wake.new.self.buffers c.wake.result c.caller_of-t.result c.wake.ensures.now c.if-wake.false in
-    waits_polled g.G.Guarded.monitor_rules k (λ d. Q.ActsFor m d) cpu c.args.call.buffer c.args.call.edit (Q.seen m) (Q.seen c.poll-answer.new.m) own
-    (Q.under_way c.poll-answer.new.self) (Q.own c.poll-answer.new.self) c.complete.new.self.buffers c.poll-answer.result c.complete.result
-    (slept_for waits t) none
-    c.poll-answer.ensures.seen (rw (← kept, ← caller) c.complete.ensures.waits) c.complete.ensures.complete
+    waits_polled g.G.Guarded.monitor_rules k (λ d. Q.ActsFor m d) cpu c.args.call.buffer call (Q.seen m) (Q.seen c.poll-answer.new.m) own
+    (Q.under_way c.poll-answer.new.self) (Q.own c.poll-answer.new.self) c.complete.new.self.buffers
+    (lock_tells G.told message c.poll-answer.result) (lock_tells G.told message c.complete.result) (slept_for waits t) none
+    c.poll-answer.ensures.seen
+    (waits_told G.told message c.poll-answer.result t c.args.call.buffer waits c.complete.new.self.buffers (rw (← kept, ← caller) c.complete.ensures.waits))
+    (complete_told G.told message c.poll-answer.result c.complete.result c.complete.ensures.complete)
 
 pub returns-clause-follows : goal.returns-clause-follows
 returns-clause-follows g c stepwise =
@@ -83,14 +92,19 @@ returns-clause-follows g c stepwise =
     let cpu = Q.cpu_of p in
     let rules = cv_rules g.G.Guarded.monitor_rules in
     let k = lock_kernel rules (Q.opening m) in
-    let t = lock_caller rules c.args.call.edit in
+    let G = g.G.Guarded in
+    let call = lock_meant (cv_meant G.meant) c.args.call.edit c.args.payload.now.message in
+    let t = lock_caller rules call in
     let waits = c.args.self.now.waits.buffers in
     let own : Waiting _ = record { lock = Q.own p; waits = waits } in
     let caller = c.caller_of-t.ensures in
+    let message = c.poll-answer.new.payload.message in
     let none = wake_told waits c.wake.result false t c.caller_of-t.result c.wake.ensures.was c.if-wake.false caller in
     let kept = wake_kept waits c.wake.new.self.buffers c.wake.result c.caller_of-t.result c.wake.ensures.now c.if-wake.false in
     waits_follow (λ d. Q.ActsFor m d) (table_of (queue_rules (lock_rules rules) (lock_moves rules))) (Q.opening m) (lock_moves rules)
     (homes_in (Q.opening m)) cpu
-    c.args.call.buffer c.args.call.edit own (Q.acts m) (Q.acts c.poll-answer.new.m) (Q.own c.poll-answer.new.self) c.complete.new.self.buffers c.poll-answer.result
-    c.complete.result (slept_for waits t) none (c.poll-answer.ensures.follows stepwise) (rw
-    (← kept, ← caller) c.complete.ensures.waits) c.complete.ensures.complete
+    c.args.call.buffer call own (Q.acts m) (Q.acts c.poll-answer.new.m) (Q.own c.poll-answer.new.self) c.complete.new.self.buffers
+    (lock_tells G.told message c.poll-answer.result) (lock_tells G.told message c.complete.result) (slept_for waits t) none
+    (c.poll-answer.ensures.follows stepwise)
+    (waits_told G.told message c.poll-answer.result t c.args.call.buffer waits c.complete.new.self.buffers (rw (← kept, ← caller) c.complete.ensures.waits))
+    (complete_told G.told message c.poll-answer.result c.complete.result c.complete.ensures.complete)

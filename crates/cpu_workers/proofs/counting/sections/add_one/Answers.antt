@@ -1,4 +1,6 @@
 use Rattle.std.proofs.Common.{◌≡◌, ◌+◌, is_some, true, false, ap, subst, ◌∙◌}
+use Rattle.fifo_buffer.proofs.Recorded.{told_some}
+use Rattle.layer_traits.specs.Payloads.{told_by}
 use Rattle.layer_traits.specs.Protocol.{section}
 use Rattle.cpu_workers.specs.Counts.{made}
 use Rattle.cpu_workers.proofs.Counts.{poll_waits, poll_answers, goes_on}
@@ -8,10 +10,12 @@ pub returns-then-is_some-clause-made : goal.returns-then-is_some-clause-made
 returns-then-is_some-clause-made g c =
     let L = g.L.Layer in
     let polled = c.poll.ensures.seen in
-    let answers : is_some c.poll.result ≡ true = cc in
+    let told = told_by (λ out payload. out) c.poll.result c.poll.new.payload in
+    let some : is_some c.poll.result ≡ true = cc in
+    let answers : is_some told ≡ true = told_some (λ out payload. out) c.poll.result c.poll.new.payload ∙ some in
     let theirs = polled.foreign (L.cpu_of c.loop.part) (g.met.L.Layer.own_cpu c.loop.part c.loop.machine c.loop.invariant.fits) in
     let more = poll_answers (section (L.cpu_of c.loop.part) c.args.lock (record {})) polled.others (L.seen c.loop.machine) (L.seen c.poll.new.m)
-    (is_some c.poll.result) polled.is theirs answers in
+    (is_some told) polled.is theirs answers in
     subst (λ cpu. made cpu c.args.lock (L.seen c.poll.new.m) ≡ made cpu c.args.lock (L.seen c.loop.machine) + 1) c.loop.invariant.cpu more
     ∙ ap (λ n. n + 1) c.loop.invariant.made
 
@@ -19,10 +23,12 @@ pub loop-preserved : goal.loop-preserved
 loop-preserved g c =
     let L = g.L.Layer in
     let polled = c.poll.ensures.seen in
+    let told = told_by (λ out payload. out) c.poll.result c.poll.new.payload in
     let waits : is_some c.poll.result ≡ false = cc in
+    let still : is_some told ≡ false = told_some (λ out payload. out) c.poll.result c.poll.new.payload ∙ waits in
     let theirs = polled.foreign (L.cpu_of c.loop.part) (g.met.L.Layer.own_cpu c.loop.part c.loop.machine c.loop.invariant.fits) in
     let same = poll_waits (section (L.cpu_of c.loop.part) c.args.lock (record {})) polled.others (L.seen c.loop.machine) (L.seen c.poll.new.m)
-    (is_some c.poll.result) polled.is theirs waits in
+    (is_some told) polled.is theirs still in
     record {
       fits = c.poll.ensures.framed.fits;
       cpu = c.poll.ensures.framed.cpu ∙ c.loop.invariant.cpu;

@@ -1,4 +1,4 @@
-use Rattle.std.proofs.Common.{◌≡◌, ◌∙◌, ap, arith, inl, inr}
+use Rattle.std.proofs.Common.{◌≡◌, ◌∙◌, ap, arith, inl, inr, sym}
 use Rattle.std.proofs.lemmas.List.{get_or-set_same}
 use Rattle.event_log.specs.declared.ids.LockId.TheVariants.{Buffer}
 use Rattle.layer_traits.specs.declared.moves.WaitList.TheVariants as wait_list
@@ -6,13 +6,14 @@ use Rattle.layer_traits.specs.BufferLaw.{buffer_of, going, left_recorded, plan_b
 use Rattle.layer_traits.specs.BufferProtocol.{buffer_monitor_rules, buffer_rules}
 use Rattle.layer_traits.specs.Conditions.{cv_rules}
 use Rattle.layer_traits.specs.Locking.{lock_caller, lock_moves, lock_rules}
+use Rattle.layer_traits.specs.Payloads.{told_by}
 use Rattle.layer_traits.specs.Plans.{table_of}
 use Rattle.layer_traits.specs.QueueBlocks.{homes_in}
 use Rattle.layer_traits.specs.QueueRules.{queue_rules}
 use Rattle.layer_traits.proofs.CallLemmas.{follows_raised}
-use Rattle.fifo_buffer.specs.SectionPolls.{recorded_if}
+use Rattle.fifo_buffer.specs.SectionPolls.{outcome_of, recorded_if}
 use Rattle.fifo_buffer.proofs.Callers.{Caller}
-use Rattle.fifo_buffer.proofs.Recorded.{recorded_left, runs_awake, runs_home}
+use Rattle.fifo_buffer.proofs.Recorded.{recorded_left, runs_awake, runs_home, told_some}
 use Rattle.fifo_buffer.proofs.Events.{caller_is}
 use Rattle.fifo_buffer.proofs.Polls.{may_poll_section}
 use Rattle.fifo_buffer.proofs.Pacing.{polled_section}
@@ -54,9 +55,10 @@ returns-clause-section_polled g c =
     let lawful = rw c.poll-answer.ensures.framed.stays.opening at (law.lawful c.poll-answer.new.m cpu (c.poll-answer.ensures.framed.stays.acts cpu acts)) in
     let small = c.requires.known in
     let size = c.requires.sizes.call_states_are in
-    let later : call_state_of c.record_answer.new.self.call_states t ≡ recorded_if call_state call_state.stage c.poll-answer.result
+    let told = told_by outcome_of c.poll-answer.result c.poll-answer.new.payload.message in
+    let later : call_state_of c.record_answer.new.self.call_states t ≡ recorded_if call_state call_state.stage told
     = ap (λ call_states. call_state_of call_states t) c.record_answer.ensures.call_states ∙ get_or-set_same c.args.self.now.call_states.call_states t.0
-    (recorded_if call_state call_state.stage c.poll-answer.result) no_call (omega (arith, small, size)) in
+    (recorded_if call_state call_state.stage told) no_call (omega (arith, small, size)) in
     let edit_is = c.section-edit.ensures ∙ ap (section_at t call) c.requires.stage in
     let seen = rw (edit_is, c.buffer_in-buffer.ensures) at c.poll-answer.ensures.seen in
     let still = rw edit_is at c.poll-answer.ensures.still in
@@ -78,9 +80,9 @@ returns-clause-section_polled g c =
     let poll_section = polled_section caller (C.seen c.poll-answer.new.m) call_state (C.under_way p) (C.under_way c.poll-answer.new.self) c.requires.may.called
     c.requires.may.goes
     lawful awake (lock_caller (cv_rules buffer_monitor_rules) (section_at t call call_state.stage)) (caller_is t call call_state.stage)
-    (record { own = C.own c.poll-answer.new.self; answer = c.poll-answer.result }) seen (λ some. ap C.seen (still (inl some)))
+    (record { own = C.own c.poll-answer.new.self; answer = told }) seen (λ some. ap C.seen (still (inl some)))
     (λ some. ap C.seen (still (inr some))) in
-    rw (c.record_answer.ensures.done, later) poll_section
+    rw (c.record_answer.ensures.done, ← told_some outcome_of c.poll-answer.result c.poll-answer.new.payload.message, later) poll_section
 
 pub returns-clause-follows : goal.returns-clause-follows
 returns-clause-follows g c stepwise =
@@ -94,10 +96,11 @@ returns-clause-follows g c stepwise =
     let call_states = c.args.self.now.call_states.call_states in
     let edit_is = c.section-edit.ensures ∙ ap (section_at t call) c.requires.stage in
     let follows = rw (edit_is, c.buffer_in-buffer.ensures) at (c.poll-answer.ensures.follows stepwise) in
+    let told = told_by outcome_of c.poll-answer.result c.poll-answer.new.payload.message in
     rw (← recorded_left t call call_state call_states c.record_answer.new.self.call_states call_state.stage
-    (C.own c.poll-answer.new.self) c.poll-answer.result c.record_answer.result
-    c.record_answer.ensures.done c.record_answer.ensures.call_states)
+    (C.own c.poll-answer.new.self) told c.record_answer.result
+    (c.record_answer.ensures.done ∙ sym (told_some outcome_of c.poll-answer.result c.poll-answer.new.payload.message)) c.record_answer.ensures.call_states)
     (follows_raised (λ d. C.ActsFor m d) (table_of (queue_rules (lock_rules buffer_rules) (lock_moves buffer_rules))) (C.opening m) cpu
     (left_recorded t call call_state call_states call_state.stage) (plan_beneath (homes_in (C.opening m)) cpu t call call_state.stage (C.own p)) (C.acts m)
     (C.acts c.poll-answer.new.m)
-    (record { own = C.own c.poll-answer.new.self; answer = c.poll-answer.result }) follows)
+    (record { own = C.own c.poll-answer.new.self; answer = told }) follows)

@@ -11,13 +11,13 @@ pub free-requires-clause-inside : goal.free-requires-clause-inside
 free-requires-clause-inside g c =
     let W = g.W.Words in
     let m = c.args.self.now in
-    let legal = words_legal (g.W.Edit.Edit.rules.allowed (W.opening m)) (W.seen m) (g.met.W.Words.legal m c.args.cpu c.requires.cpu) in
+    let legal = words_legal (g.W.Edit.SplitEdit.rules.allowed (W.opening m)) (W.seen m) (g.met.W.Words.legal m c.args.cpu c.requires.cpu) in
     (c.requires.inside.0, sym (stands_as_grants (W.seen m) legal c.args.cpu) ∙ c.requires.inside.1)
 
 pub free-requires-clause-edited : goal.free-requires-clause-edited
 free-requires-clause-edited g c =
     let W = g.W.Words in
-    let rules = g.W.Edit.Edit.rules in
+    let rules = g.W.Edit.SplitEdit.rules in
     let m = c.args.self.now in
     let legal = words_legal (rules.allowed (W.opening m)) (W.seen m) (g.met.W.Words.legal m c.args.cpu c.requires.cpu) in
     subst (λ l. option_map (rules.edited (W.edit_in c.args.mark)) (block_after rules.edited (W.opening m) c.args.lock l) ≡ Some c.args.block)
@@ -26,7 +26,7 @@ free-requires-clause-edited g c =
 pub free-requires-clause-allowed : goal.free-requires-clause-allowed
 free-requires-clause-allowed g c =
     let W = g.W.Words in
-    let rules = g.W.Edit.Edit.rules in
+    let rules = g.W.Edit.SplitEdit.rules in
     let m = c.args.self.now in
     let legal = words_legal (rules.allowed (W.opening m)) (W.seen m) (g.met.W.Words.legal m c.args.cpu c.requires.cpu) in
     subst (λ l. StaysAllowed (rules.allowed (W.opening m)) l (section c.args.cpu c.args.lock (W.edit_in c.args.mark)))

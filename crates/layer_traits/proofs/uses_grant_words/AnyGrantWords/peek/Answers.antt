@@ -12,7 +12,7 @@ pub look-requires-clause-waiting : goal.look-requires-clause-waiting
 look-requires-clause-waiting g c =
     let W = g.W.Words in
     let m = c.args.self.now in
-    let legal = words_legal (g.W.Edit.Edit.rules.allowed (W.opening m)) (W.seen m) (g.met.W.Words.legal m c.args.cpu c.requires.cpu) in
+    let legal = words_legal (g.W.Edit.SplitEdit.rules.allowed (W.opening m)) (W.seen m) (g.met.W.Words.legal m c.args.cpu c.requires.cpu) in
     sym (stands_as_grants (W.seen m) legal c.args.cpu) ∙ c.requires.waiting
 
 pub returns-clause-adds : goal.returns-clause-adds
@@ -29,5 +29,5 @@ returns-clause-hits g c =
     let W = g.W.Words in
     let n = c.look.new.self in
     let acts = c.look.ensures.acts c.args.cpu c.requires.cpu in
-    let legal = words_legal (g.W.Edit.Edit.rules.allowed (W.opening n)) (W.seen n) (g.met.W.Words.legal n c.args.cpu acts) in
-    hits_as_grants g.W.Edit.Edit.rules.edited (W.opening n) (W.seen n) legal c.args.cpu c.args.lock c.args.ticket c.look.result c.look.ensures.hits
+    let legal = words_legal (g.W.Edit.SplitEdit.rules.allowed (W.opening n)) (W.seen n) (g.met.W.Words.legal n c.args.cpu acts) in
+    hits_as_grants g.W.Edit.SplitEdit.rules.edited (W.opening n) (W.seen n) legal c.args.cpu c.args.lock c.args.ticket c.look.result c.look.ensures.hits

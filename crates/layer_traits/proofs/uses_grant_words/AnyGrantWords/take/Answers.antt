@@ -9,7 +9,7 @@ pub draw-requires-clause-outside : goal.draw-requires-clause-outside
 draw-requires-clause-outside g c =
     let W = g.W.Words in
     let m = c.args.self.now in
-    let legal = words_legal (g.W.Edit.Edit.rules.allowed (W.opening m)) (W.seen m) (g.met.W.Words.legal m c.args.cpu c.requires.cpu) in
+    let legal = words_legal (g.W.Edit.SplitEdit.rules.allowed (W.opening m)) (W.seen m) (g.met.W.Words.legal m c.args.cpu c.requires.cpu) in
     sym (stands_as_grants (W.seen m) legal c.args.cpu) ∙ c.requires.outside
 
 pub returns-clause-adds : goal.returns-clause-adds

@@ -7,7 +7,7 @@ use Rattle.plain_layers.proofs.kernel.PlainKernel.open.Goals as goal
 
 pub returns-clause-sound : goal.returns-clause-sound
 returns-clause-sound g c =
-    let rules = g.E.Edit.rules in
+    let rules = g.E.SplitEdit.rules in
     let mv = g.E.Moves.moves in
     let start : Opening g.row.E-Block.Denot = record { lists = c.of-opened.result; homes = c.of-homes.result } in
     let lists : Lists g.row.E-Block.Denot = record { pending = c.in_ok-pending.pending; buffers = c.args.buffers } in

@@ -8,7 +8,7 @@ pub slot_of-slot-requires : goal.slot_of-slot-requires
 slot_of-slot-requires g c =
     let m = c.args.self.now in
     subst (λ l. IsSome (opened l c.args.lock)) (sym c.deref.ensures.value)
-    (block_is_there g.E.Edit.rules (opening_in m) (sections_noted m) m.blocks.items c.requires.sound c.args.lock c.requires.lock)
+    (block_is_there g.E.SplitEdit.rules (opening_in m) (sections_noted m) m.blocks.items c.requires.sound c.args.lock c.requires.lock)
 
 pub index-requires : goal.index-requires
 index-requires g c =

@@ -9,7 +9,7 @@ use Rattle.plain_layers.proofs.scheds.PlainSchedLayerSchedLaw.part.Goals as goal
 pub returns-clause-fits : goal.returns-clause-fits
 returns-clause-fits g c = λ m acts outside boots.
     let H = homes_in (opening_of m.opening) in
-    let K = kernel g.E.Edit.rules g.E.Moves.moves (opening_of m.opening) in (
+    let K = kernel g.E.SplitEdit.rules g.E.Moves.moves (opening_of m.opening) in (
       acts.0,
       acts.1,
       record {

@@ -10,7 +10,7 @@ use Rattle.plain_machine.proofs.plain.Plain+E+Granting.words.Goals as goal
 pub returns-clause-next : goal.returns-clause-next
 returns-clause-next g c =
     let w = c.args.self.now in
-    let rules = g.E.Edit.rules in
+    let rules = g.E.SplitEdit.rules in
     let opening = opened w.opening.value.items in
     let sound = c.requires.acts.1.1 in
     let fits = shown_words (at_lock GrantsFit rules opening (history w.log) w.cells.items sound c.args.lock c.requires.lock)
@@ -20,7 +20,7 @@ returns-clause-next g c =
 pub returns-clause-words : goal.returns-clause-words
 returns-clause-words g c =
     let w = c.args.self.now in
-    let rules = g.E.Edit.rules in
+    let rules = g.E.SplitEdit.rules in
     let opening = opened w.opening.value.items in
     let sound = c.requires.acts.1.1 in
     let fits = shown_words (at_lock GrantsFit rules opening (history w.log) w.cells.items sound c.args.lock c.requires.lock)

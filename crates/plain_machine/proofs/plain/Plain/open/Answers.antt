@@ -14,7 +14,7 @@ returns-clause-opening g c = ap (λ blocks. opened blocks.items) c.of-opening.en
 pub returns-clause-acts : goal.returns-clause-acts
 returns-clause-acts g c = λ cpu known.
     let Fit = g.K.LineWords.Fit in
-    let rules = g.E.Edit.rules in
+    let rules = g.E.SplitEdit.rules in
     let cells = c.fill.new.cells.items in (
       known,
       subst (λ blocks. IsSound Fit rules (opened blocks.items) (history c.in_ok-log.log) cells) (sym c.of-opening.ensures)

@@ -10,7 +10,7 @@ returns-clause-adds g c = record { others = []; foreign = λ cpu acts. tt; is = 
 pub returns-clause-acts : goal.returns-clause-acts
 returns-clause-acts g c = λ cpu acts.
     let w = c.args.self.now in
-    let m = at_lock g.K.LineWords.Fit g.E.Edit.rules (opened w.opening.value.items) (history w.log) w.cells.items c.requires.cpu.1 c.args.lock
+    let m = at_lock g.K.LineWords.Fit g.E.SplitEdit.rules (opened w.opening.value.items) (history w.log) w.cells.items c.requires.cpu.1 c.args.lock
     c.requires.lock in (
       acts.0,
       gave m c.args.cpu c.requires.inside.0 c.args.mark c.args.block c.requires.inside.1 c.requires.edited c.requires.allowed

@@ -8,7 +8,7 @@ use Rattle.plain_machine.proofs.plain.PlainWords.look.Goals as goal
 pub returns-clause-adds : goal.returns-clause-adds
 returns-clause-adds g c =
     let w = c.args.self.now in
-    let m = at_lock g.K.LineWords.Fit g.E.Edit.rules (opened w.opening.value.items) (history w.log) w.cells.items c.requires.cpu.1 c.args.lock
+    let m = at_lock g.K.LineWords.Fit g.E.SplitEdit.rules (opened w.opening.value.items) (history w.log) w.cells.items c.requires.cpu.1 c.args.lock
     c.requires.lock in
     let did = tried m c.args.cpu c.args.ticket c.requires.waiting c.look-2.result c.look-2.new.cells.items c.look-2.ensures (history c.look.new.self)
     c.look.ensures.history in
@@ -17,7 +17,7 @@ returns-clause-adds g c =
 pub returns-clause-hits : goal.returns-clause-hits
 returns-clause-hits g c =
     let w = c.args.self.now in
-    let m = at_lock g.K.LineWords.Fit g.E.Edit.rules (opened w.opening.value.items) (history w.log) w.cells.items c.requires.cpu.1 c.args.lock
+    let m = at_lock g.K.LineWords.Fit g.E.SplitEdit.rules (opened w.opening.value.items) (history w.log) w.cells.items c.requires.cpu.1 c.args.lock
     c.requires.lock in
     let did = tried m c.args.cpu c.args.ticket c.requires.waiting c.look-2.result c.look-2.new.cells.items c.look-2.ensures (history c.look.new.self)
     c.look.ensures.history in
@@ -26,7 +26,7 @@ returns-clause-hits g c =
 pub returns-clause-acts : goal.returns-clause-acts
 returns-clause-acts g c = λ cpu acts.
     let w = c.args.self.now in
-    let m = at_lock g.K.LineWords.Fit g.E.Edit.rules (opened w.opening.value.items) (history w.log) w.cells.items c.requires.cpu.1 c.args.lock
+    let m = at_lock g.K.LineWords.Fit g.E.SplitEdit.rules (opened w.opening.value.items) (history w.log) w.cells.items c.requires.cpu.1 c.args.lock
     c.requires.lock in
     let did = tried m c.args.cpu c.args.ticket c.requires.waiting c.look-2.result c.look-2.new.cells.items c.look-2.ensures (history c.look.new.self)
     c.look.ensures.history in

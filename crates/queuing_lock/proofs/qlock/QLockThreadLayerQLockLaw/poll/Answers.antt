@@ -10,6 +10,7 @@ use Rattle.layer_traits.specs.declared.queue_edits.QueueBlock.{QueueBlock}
 use Rattle.layer_traits.specs.declared.sleeps.Outcome.{Outcome}
 use Rattle.layer_traits.specs.Locking.{lock_caller, lock_moves, lock_rules}
 use Rattle.layer_traits.specs.LockLaw.{LockPolled, left_after, lock_plan, locking, slept_for}
+use Rattle.layer_traits.specs.Payloads.{lock_meant, lock_told, outcome_told}
 use Rattle.layer_traits.specs.Plans.{Follows, Left, table_of}
 use Rattle.layer_traits.specs.QueueBlocks.{homes_in}
 use Rattle.layer_traits.specs.QueueRules.{queue_rules}
@@ -21,11 +22,11 @@ use Rattle.layer_traits.proofs.FrameLemmas.{untouched, viewed_stays}
 use Rattle.queuing_lock.specs.declared.edits.QBlock.{QBlock}
 use Rattle.queuing_lock.specs.Laws.NestedLaws.{beneath, here}
 use Rattle.queuing_lock.specs.Nested.{edit_in, nested_lock_of}
-use Rattle.queuing_lock.specs.Parts.{DeferredFits, SleptFits, slept_left_by}
+use Rattle.queuing_lock.specs.Parts.{DeferredFits, SleptFits, reported_by, slept_left_by}
 use Rattle.queuing_lock.proofs.PartLemmas.{Before, caller_small, handed, deferred_after, locks}
 use Rattle.queuing_lock.proofs.PartLemmas.{locks_follow, none, others_after, owed, slept_after, slept_reported}
 use Rattle.queuing_lock.proofs.PartLemmas.{under_is}
-use Rattle.queuing_lock.proofs.PollLemmas.{reported_is}
+use Rattle.queuing_lock.proofs.PollLemmas.{reported_is, reported_told, slept_told}
 use Rattle.queuing_lock.proofs.SleptLemmas.{slept_less}
 use Rattle.queuing_lock.proofs.qlock.QLockThreadLayerQLockLaw.poll.Goals as goal
 
@@ -60,7 +61,8 @@ returns-then-has-clause-seen g c =
     let m = c.args.m.now in
     let cpu = S.cpu_of self.lower in
     let b = c.args.call.buffer in
-    let e = c.args.call.edit in
+    let message = c.args.payload.now.message in
+    let e = lock_meant g.F.Locked.meant c.args.call.edit message in
     let slept = self.slept.buffers in
     let own = S.own self.lower in
     let under = S.under_way self.lower in
@@ -83,9 +85,9 @@ returns-then-has-clause-seen g c =
       may = c.requires.call.may;
     } in
     let some : is_some (slept_for slept (lock_caller rules e)) ≡ true
-    = ap (λ t. is_some (slept_for slept t)) (sym c.caller-t.ensures) ∙ (sym c.has.ensures ∙ c.if-has.true) in
+    = ap (λ t. is_some (slept_for slept t)) (sym (c.caller-t.ensures message)) ∙ (sym c.has.ensures ∙ c.if-has.true) in
     let over : c.over.new.self.buffers ≡ slice_set slept (lock_caller rules e).0 None = c.over.ensures
-    ∙ ap (λ t. slice_set slept t.0 None) c.caller-t.ensures in
+    ∙ ap (λ t. slice_set slept t.0 None) (c.caller-t.ensures message) in
     subst (λ l. LockPolled rules (here rules (S.opening m)) (λ d. S.ActsFor m d) cpu b e (slept_for slept (lock_caller rules e))
     (renamed_events edit_in (S.seen m)) (renamed_events edit_in (S.seen m))
     (record { sleep = own; slept = slept }) (option_map (renamed_sched edit_in) under)
@@ -103,7 +105,8 @@ poll-requires-clause-call g c =
     let m = c.args.m.now in
     let cpu = S.cpu_of self.lower in
     let b = c.args.call.buffer in
-    let e = c.args.call.edit in
+    let message = c.args.payload.now.message in
+    let e = lock_meant g.F.Locked.meant c.args.call.edit message in
     let slept = self.slept.buffers in
     let own = S.own self.lower in
     let under = S.under_way self.lower in
@@ -126,7 +129,7 @@ poll-requires-clause-call g c =
       may = c.requires.call.may;
     } in
     let awake : is_some (slept_for slept (lock_caller rules e)) ≡ false
-    = ap (λ t. is_some (slept_for slept t)) (sym c.caller-t.ensures) ∙ (sym c.has.ensures ∙ c.if-has.false) in
+    = ap (λ t. is_some (slept_for slept t)) (sym (c.caller-t.ensures message)) ∙ (sym c.has.ensures ∙ c.if-has.false) in
     owed rules (S.opening m) before awake
 
 pub complete-requires : goal.complete-requires
@@ -138,7 +141,8 @@ complete-requires g c =
     let m = c.args.m.now in
     let cpu = S.cpu_of self.lower in
     let b = c.args.call.buffer in
-    let e = c.args.call.edit in
+    let message = c.args.payload.now.message in
+    let e = lock_meant g.F.Locked.meant c.args.call.edit message in
     let slept = self.slept.buffers in
     let own = S.own self.lower in
     let under = S.under_way self.lower in
@@ -160,7 +164,7 @@ complete-requires g c =
       caller = c.requires.call.runs;
       may = c.requires.call.may;
     } in
-    subst (λ t. t.0 < THREADS) (sym c.caller-t.ensures) (caller_small rules (S.opening m) before)
+    subst (λ t. t.0 < THREADS) (sym (c.caller-t.ensures message)) (caller_small rules (S.opening m) before)
 
 -- the call goes on
 
@@ -173,7 +177,8 @@ returns-in-None-clause-framed g c =
     let m = c.args.m.now in
     let cpu = S.cpu_of self.lower in
     let b = c.args.call.buffer in
-    let e = c.args.call.edit in
+    let message = c.args.payload.now.message in
+    let e = lock_meant g.F.Locked.meant c.args.call.edit message in
     let slept = self.slept.buffers in
     let own = S.own self.lower in
     let under = S.under_way self.lower in
@@ -196,11 +201,13 @@ returns-in-None-clause-framed g c =
       may = c.requires.call.may;
     } in
     let awake : is_some (slept_for slept (lock_caller rules e)) ≡ false
-    = ap (λ t. is_some (slept_for slept t)) (sym c.caller-t.ensures) ∙ (sym c.has.ensures ∙ c.if-has.false) in
+    = ap (λ t. is_some (slept_for slept t)) (sym (c.caller-t.ensures message)) ∙ (sym c.has.ensures ∙ c.if-has.false) in
     let said = c.poll.ensures in
     let n = c.poll.new.m in
     let part = c.poll.new.self in
-    let got : Left (Sleeping (QOut g.row.F-Out.Denot)) (Outcome (QOut g.row.F-Out.Denot)) = record { own = S.own part; answer = c.poll.result } in
+    let after = c.poll.new.payload.message in
+    let told = λ (o : Outcome (QOut g.row.F-Brought.Denot)). outcome_told (lock_told g.F.Locked.told) o after in
+    let got : Left (Sleeping (QOut g.row.F-Out.Denot)) (Outcome (QOut g.row.F-Out.Denot)) = record { own = S.own part; answer = option_map told c.poll.result } in
     let lawful : IsLawful (QueueAllowed (beneath rules (S.opening m))) (S.seen n)
     = subst (λ (o : LockId → Option (QueueBlock (SleepState (QBlock g.row.F-Block.Denot)))). IsLawful (QueueAllowed (beneath rules o)) (S.seen n)) said.framed.stays.opening
     (met.lawful n cpu (said.framed.stays.acts cpu acts)) in
@@ -209,7 +216,7 @@ returns-in-None-clause-framed g c =
         said.framed.fits,
         transport (λ i. SleptFits rules (viewed nested_lock_of (sym said.framed.stays.opening i)) (sym said.framed.cpu i) (renamed_events edit_in (S.seen n)) slept)
             (slept_after rules (S.opening m) before awake (λ d. S.ActsFor m d) (S.seen n) got said.seen acts lawful),
-        subst (λ u. DeferredFits u (S.own part).deferred (S.own part).threads.hand) (sym (under_is (S.under_way part) c.poll.result b e said.call))
+        subst (λ u. DeferredFits u (S.own part).deferred (S.own part).threads.hand) (sym (under_is told (S.under_way part) c.poll.result b e said.call))
             (deferred_after rules (S.opening m) before awake (λ d. S.ActsFor m d) (S.seen n) got said.seen),
       );
       cpu = said.framed.cpu;
@@ -234,7 +241,8 @@ returns-in-None-clause-seen g c =
     let m = c.args.m.now in
     let cpu = S.cpu_of self.lower in
     let b = c.args.call.buffer in
-    let e = c.args.call.edit in
+    let message = c.args.payload.now.message in
+    let e = lock_meant g.F.Locked.meant c.args.call.edit message in
     let slept = self.slept.buffers in
     let own = S.own self.lower in
     let under = S.under_way self.lower in
@@ -257,19 +265,21 @@ returns-in-None-clause-seen g c =
       may = c.requires.call.may;
     } in
     let awake : is_some (slept_for slept (lock_caller rules e)) ≡ false
-    = ap (λ t. is_some (slept_for slept t)) (sym c.caller-t.ensures) ∙ (sym c.has.ensures ∙ c.if-has.false) in
+    = ap (λ t. is_some (slept_for slept t)) (sym (c.caller-t.ensures message)) ∙ (sym c.has.ensures ∙ c.if-has.false) in
     let said = c.poll.ensures in
     let n = c.poll.new.m in
     let part = c.poll.new.self in
-    let got : Left (Sleeping (QOut g.row.F-Out.Denot)) (Outcome (QOut g.row.F-Out.Denot)) = record { own = S.own part; answer = c.poll.result } in
+    let after = c.poll.new.payload.message in
+    let told = λ (o : Outcome (QOut g.row.F-Brought.Denot)). outcome_told (lock_told g.F.Locked.told) o after in
+    let got : Left (Sleeping (QOut g.row.F-Out.Denot)) (Outcome (QOut g.row.F-Out.Denot)) = record { own = S.own part; answer = option_map told c.poll.result } in
     let lawful : IsLawful (QueueAllowed (beneath rules (S.opening m))) (S.seen n)
     = subst (λ (o : LockId → Option (QueueBlock (SleepState (QBlock g.row.F-Block.Denot)))). IsLawful (QueueAllowed (beneath rules o)) (S.seen n)) said.framed.stays.opening
     (met.lawful n cpu (said.framed.stays.acts cpu acts)) in
-    let leaves : locking (S.own part) slept None ≡ left_after (lock_caller rules e) b slept (S.own part) c.poll.result
-    = ap (left_after (lock_caller rules e) b slept (S.own part)) (sym c.in-None.is) in
+    let leaves : locking (S.own part) slept None ≡ left_after (lock_caller rules e) b slept (S.own part) got.answer
+    = λ i. left_after (lock_caller rules e) b slept (S.own part) (option_map told (sym c.in-None.is i)) in
     locks rules (S.opening m) before awake (λ d. S.ActsFor m d) (S.seen n) got said.seen
     (option_map (renamed_sched edit_in) (S.under_way part))
-    (locking (S.own part) slept None) (under_is (S.under_way part) c.poll.result b e said.call) leaves
+    (locking (S.own part) slept None) (under_is told (S.under_way part) c.poll.result b e said.call) leaves
 
 pub returns-in-None-clause-follows : goal.returns-in-None-clause-follows
 returns-in-None-clause-follows g c = λ step.
@@ -280,7 +290,8 @@ returns-in-None-clause-follows g c = λ step.
     let m = c.args.m.now in
     let cpu = S.cpu_of self.lower in
     let b = c.args.call.buffer in
-    let e = c.args.call.edit in
+    let message = c.args.payload.now.message in
+    let e = lock_meant g.F.Locked.meant c.args.call.edit message in
     let slept = self.slept.buffers in
     let own = S.own self.lower in
     let under = S.under_way self.lower in
@@ -303,16 +314,18 @@ returns-in-None-clause-follows g c = λ step.
       may = c.requires.call.may;
     } in
     let awake : is_some (slept_for slept (lock_caller rules e)) ≡ false
-    = ap (λ t. is_some (slept_for slept t)) (sym c.caller-t.ensures) ∙ (sym c.has.ensures ∙ c.if-has.false) in
+    = ap (λ t. is_some (slept_for slept t)) (sym (c.caller-t.ensures message)) ∙ (sym c.has.ensures ∙ c.if-has.false) in
     let said = c.poll.ensures in
     let n = c.poll.new.m in
     let part = c.poll.new.self in
-    let got : Left (Sleeping (QOut g.row.F-Out.Denot)) (Outcome (QOut g.row.F-Out.Denot)) = record { own = S.own part; answer = c.poll.result } in
+    let after = c.poll.new.payload.message in
+    let told = λ (o : Outcome (QOut g.row.F-Brought.Denot)). outcome_told (lock_told g.F.Locked.told) o after in
+    let got : Left (Sleeping (QOut g.row.F-Out.Denot)) (Outcome (QOut g.row.F-Out.Denot)) = record { own = S.own part; answer = option_map told c.poll.result } in
     let lawful : IsLawful (QueueAllowed (beneath rules (S.opening m))) (S.seen n)
     = subst (λ (o : LockId → Option (QueueBlock (SleepState (QBlock g.row.F-Block.Denot)))). IsLawful (QueueAllowed (beneath rules o)) (S.seen n)) said.framed.stays.opening
     (met.lawful n cpu (said.framed.stays.acts cpu acts)) in
-    let leaves : locking (S.own part) slept None ≡ left_after (lock_caller rules e) b slept (S.own part) c.poll.result
-    = ap (left_after (lock_caller rules e) b slept (S.own part)) (sym c.in-None.is) in
+    let leaves : locking (S.own part) slept None ≡ left_after (lock_caller rules e) b slept (S.own part) got.answer
+    = λ i. left_after (lock_caller rules e) b slept (S.own part) (option_map told (sym c.in-None.is i)) in
     subst (λ l. Follows (λ d. S.ActsFor m d) (table_of (queue_rules (lock_rules rules) (lock_moves rules))) (viewed nested_lock_of (S.opening m)) cpu
     (lock_plan (lock_moves rules) (homes_in (viewed nested_lock_of (S.opening m))) cpu b e (record { sleep = own; slept = slept }))
     (map (renamed (renamed_edit edit_in)) (S.acts m)) (map (renamed (renamed_edit edit_in)) (S.acts n)) l) (sym leaves)
@@ -330,7 +343,8 @@ returns-in-Some-clause-framed g c =
     let m = c.args.m.now in
     let cpu = S.cpu_of self.lower in
     let b = c.args.call.buffer in
-    let e = c.args.call.edit in
+    let message = c.args.payload.now.message in
+    let e = lock_meant g.F.Locked.meant c.args.call.edit message in
     let slept = self.slept.buffers in
     let own = S.own self.lower in
     let under = S.under_way self.lower in
@@ -353,25 +367,28 @@ returns-in-Some-clause-framed g c =
       may = c.requires.call.may;
     } in
     let awake : is_some (slept_for slept (lock_caller rules e)) ≡ false
-    = ap (λ t. is_some (slept_for slept t)) (sym c.caller-t.ensures) ∙ (sym c.has.ensures ∙ c.if-has.false) in
+    = ap (λ t. is_some (slept_for slept t)) (sym (c.caller-t.ensures message)) ∙ (sym c.has.ensures ∙ c.if-has.false) in
     let said = c.poll.ensures in
     let n = c.poll.new.m in
     let part = c.poll.new.self in
-    let got : Left (Sleeping (QOut g.row.F-Out.Denot)) (Outcome (QOut g.row.F-Out.Denot)) = record { own = S.own part; answer = c.poll.result } in
+    let after = c.poll.new.payload.message in
+    let told = λ (o : Outcome (QOut g.row.F-Brought.Denot)). outcome_told (lock_told g.F.Locked.told) o after in
+    let got : Left (Sleeping (QOut g.row.F-Out.Denot)) (Outcome (QOut g.row.F-Out.Denot)) = record { own = S.own part; answer = option_map told c.poll.result } in
     let lawful : IsLawful (QueueAllowed (beneath rules (S.opening m))) (S.seen n)
     = subst (λ (o : LockId → Option (QueueBlock (SleepState (QBlock g.row.F-Block.Denot)))). IsLawful (QueueAllowed (beneath rules o)) (S.seen n)) said.framed.stays.opening
     (met.lawful n cpu (said.framed.stays.acts cpu acts)) in
     let outcome = c.in-Some.outcome in
-    let keeps : c.complete.new.self.buffers ≡ slept_left_by (lock_caller rules e) b slept outcome
-    = c.complete.ensures.slept ∙ ap (λ t. slept_left_by t b slept outcome) c.caller-t.ensures in
+    let keeps : c.complete.new.self.buffers ≡ slept_left_by (lock_caller rules e) b slept (told outcome)
+    = c.complete.ensures.slept ∙ (ap (λ t. slept_left_by t b slept outcome) (c.caller-t.ensures message)
+    ∙ slept_told g.F.Locked.told after (lock_caller rules e) b slept outcome.out) in
     record {
       fits = (
         said.framed.fits,
         transport (λ i. SleptFits rules (viewed nested_lock_of (sym said.framed.stays.opening i)) (sym said.framed.cpu i) (renamed_events edit_in (S.seen n)) c.complete.new.self.buffers)
             (subst (λ l. SleptFits rules (viewed nested_lock_of (S.opening m)) cpu (renamed_events edit_in (S.seen n)) l) (sym keeps)
             (slept_reported rules (S.opening m) before awake (λ d. S.ActsFor m d)
-            (S.seen n) got said.seen acts lawful outcome c.in-Some.is)),
-        subst (λ u. DeferredFits u (S.own part).deferred (S.own part).threads.hand) (sym (under_is (S.under_way part) c.poll.result b e said.call))
+            (S.seen n) got said.seen acts lawful (told outcome) (ap (option_map told) c.in-Some.is))),
+        subst (λ u. DeferredFits u (S.own part).deferred (S.own part).threads.hand) (sym (under_is told (S.under_way part) c.poll.result b e said.call))
             (deferred_after rules (S.opening m) before awake (λ d. S.ActsFor m d) (S.seen n) got said.seen),
       );
       cpu = said.framed.cpu;
@@ -396,7 +413,8 @@ returns-in-Some-clause-seen g c =
     let m = c.args.m.now in
     let cpu = S.cpu_of self.lower in
     let b = c.args.call.buffer in
-    let e = c.args.call.edit in
+    let message = c.args.payload.now.message in
+    let e = lock_meant g.F.Locked.meant c.args.call.edit message in
     let slept = self.slept.buffers in
     let own = S.own self.lower in
     let under = S.under_way self.lower in
@@ -419,24 +437,29 @@ returns-in-Some-clause-seen g c =
       may = c.requires.call.may;
     } in
     let awake : is_some (slept_for slept (lock_caller rules e)) ≡ false
-    = ap (λ t. is_some (slept_for slept t)) (sym c.caller-t.ensures) ∙ (sym c.has.ensures ∙ c.if-has.false) in
+    = ap (λ t. is_some (slept_for slept t)) (sym (c.caller-t.ensures message)) ∙ (sym c.has.ensures ∙ c.if-has.false) in
     let said = c.poll.ensures in
     let n = c.poll.new.m in
     let part = c.poll.new.self in
-    let got : Left (Sleeping (QOut g.row.F-Out.Denot)) (Outcome (QOut g.row.F-Out.Denot)) = record { own = S.own part; answer = c.poll.result } in
+    let after = c.poll.new.payload.message in
+    let told = λ (o : Outcome (QOut g.row.F-Brought.Denot)). outcome_told (lock_told g.F.Locked.told) o after in
+    let got : Left (Sleeping (QOut g.row.F-Out.Denot)) (Outcome (QOut g.row.F-Out.Denot)) = record { own = S.own part; answer = option_map told c.poll.result } in
     let lawful : IsLawful (QueueAllowed (beneath rules (S.opening m))) (S.seen n)
     = subst (λ (o : LockId → Option (QueueBlock (SleepState (QBlock g.row.F-Block.Denot)))). IsLawful (QueueAllowed (beneath rules o)) (S.seen n)) said.framed.stays.opening
     (met.lawful n cpu (said.framed.stays.acts cpu acts)) in
     let outcome = c.in-Some.outcome in
-    let keeps : c.complete.new.self.buffers ≡ slept_left_by (lock_caller rules e) b slept outcome
-    = c.complete.ensures.slept ∙ ap (λ t. slept_left_by t b slept outcome) c.caller-t.ensures in
-    let leaves : locking (S.own part) c.complete.new.self.buffers c.complete.result ≡ left_after (lock_caller rules e) b slept (S.own part) c.poll.result
-    = (λ i. locking (S.own part) (keeps i) (c.complete.ensures.complete i))
-    ∙ (sym (reported_is (lock_caller rules e) b slept (S.own part) outcome.out outcome)
-    ∙ ap (left_after (lock_caller rules e) b slept (S.own part)) (sym c.in-Some.is)) in
+    let keeps : c.complete.new.self.buffers ≡ slept_left_by (lock_caller rules e) b slept (told outcome)
+    = c.complete.ensures.slept ∙ (ap (λ t. slept_left_by t b slept outcome) (c.caller-t.ensures message)
+    ∙ slept_told g.F.Locked.told after (lock_caller rules e) b slept outcome.out) in
+    let gives : option_map told c.complete.result ≡ reported_by (told outcome)
+    = ap (option_map told) c.complete.ensures.complete ∙ reported_told g.F.Locked.told after outcome.out outcome in
+    let leaves : locking (S.own part) c.complete.new.self.buffers (option_map told c.complete.result) ≡ left_after (lock_caller rules e) b slept (S.own part) got.answer
+    = (λ i. locking (S.own part) (keeps i) (gives i))
+    ∙ (sym (reported_is (lock_caller rules e) b slept (S.own part) (told outcome).out (told outcome))
+    ∙ λ i. left_after (lock_caller rules e) b slept (S.own part) (option_map told (sym c.in-Some.is i))) in
     locks rules (S.opening m) before awake (λ d. S.ActsFor m d) (S.seen n) got said.seen
     (option_map (renamed_sched edit_in) (S.under_way part))
-    (locking (S.own part) c.complete.new.self.buffers c.complete.result) (under_is (S.under_way part) c.poll.result b e said.call) leaves
+    (locking (S.own part) c.complete.new.self.buffers (option_map told c.complete.result)) (under_is told (S.under_way part) c.poll.result b e said.call) leaves
 
 pub returns-in-Some-clause-follows : goal.returns-in-Some-clause-follows
 returns-in-Some-clause-follows g c = λ step.
@@ -447,7 +470,8 @@ returns-in-Some-clause-follows g c = λ step.
     let m = c.args.m.now in
     let cpu = S.cpu_of self.lower in
     let b = c.args.call.buffer in
-    let e = c.args.call.edit in
+    let message = c.args.payload.now.message in
+    let e = lock_meant g.F.Locked.meant c.args.call.edit message in
     let slept = self.slept.buffers in
     let own = S.own self.lower in
     let under = S.under_way self.lower in
@@ -470,21 +494,26 @@ returns-in-Some-clause-follows g c = λ step.
       may = c.requires.call.may;
     } in
     let awake : is_some (slept_for slept (lock_caller rules e)) ≡ false
-    = ap (λ t. is_some (slept_for slept t)) (sym c.caller-t.ensures) ∙ (sym c.has.ensures ∙ c.if-has.false) in
+    = ap (λ t. is_some (slept_for slept t)) (sym (c.caller-t.ensures message)) ∙ (sym c.has.ensures ∙ c.if-has.false) in
     let said = c.poll.ensures in
     let n = c.poll.new.m in
     let part = c.poll.new.self in
-    let got : Left (Sleeping (QOut g.row.F-Out.Denot)) (Outcome (QOut g.row.F-Out.Denot)) = record { own = S.own part; answer = c.poll.result } in
+    let after = c.poll.new.payload.message in
+    let told = λ (o : Outcome (QOut g.row.F-Brought.Denot)). outcome_told (lock_told g.F.Locked.told) o after in
+    let got : Left (Sleeping (QOut g.row.F-Out.Denot)) (Outcome (QOut g.row.F-Out.Denot)) = record { own = S.own part; answer = option_map told c.poll.result } in
     let lawful : IsLawful (QueueAllowed (beneath rules (S.opening m))) (S.seen n)
     = subst (λ (o : LockId → Option (QueueBlock (SleepState (QBlock g.row.F-Block.Denot)))). IsLawful (QueueAllowed (beneath rules o)) (S.seen n)) said.framed.stays.opening
     (met.lawful n cpu (said.framed.stays.acts cpu acts)) in
     let outcome = c.in-Some.outcome in
-    let keeps : c.complete.new.self.buffers ≡ slept_left_by (lock_caller rules e) b slept outcome
-    = c.complete.ensures.slept ∙ ap (λ t. slept_left_by t b slept outcome) c.caller-t.ensures in
-    let leaves : locking (S.own part) c.complete.new.self.buffers c.complete.result ≡ left_after (lock_caller rules e) b slept (S.own part) c.poll.result
-    = (λ i. locking (S.own part) (keeps i) (c.complete.ensures.complete i))
-    ∙ (sym (reported_is (lock_caller rules e) b slept (S.own part) outcome.out outcome)
-    ∙ ap (left_after (lock_caller rules e) b slept (S.own part)) (sym c.in-Some.is)) in
+    let keeps : c.complete.new.self.buffers ≡ slept_left_by (lock_caller rules e) b slept (told outcome)
+    = c.complete.ensures.slept ∙ (ap (λ t. slept_left_by t b slept outcome) (c.caller-t.ensures message)
+    ∙ slept_told g.F.Locked.told after (lock_caller rules e) b slept outcome.out) in
+    let gives : option_map told c.complete.result ≡ reported_by (told outcome)
+    = ap (option_map told) c.complete.ensures.complete ∙ reported_told g.F.Locked.told after outcome.out outcome in
+    let leaves : locking (S.own part) c.complete.new.self.buffers (option_map told c.complete.result) ≡ left_after (lock_caller rules e) b slept (S.own part) got.answer
+    = (λ i. locking (S.own part) (keeps i) (gives i))
+    ∙ (sym (reported_is (lock_caller rules e) b slept (S.own part) (told outcome).out (told outcome))
+    ∙ λ i. left_after (lock_caller rules e) b slept (S.own part) (option_map told (sym c.in-Some.is i))) in
     subst (λ l. Follows (λ d. S.ActsFor m d) (table_of (queue_rules (lock_rules rules) (lock_moves rules))) (viewed nested_lock_of (S.opening m)) cpu
     (lock_plan (lock_moves rules) (homes_in (viewed nested_lock_of (S.opening m))) cpu b e (record { sleep = own; slept = slept }))
     (map (renamed (renamed_edit edit_in)) (S.acts m)) (map (renamed (renamed_edit edit_in)) (S.acts n)) l) (sym leaves)

@@ -8,7 +8,7 @@ use Rattle.scheduler.proofs.sched.SchedLayerSchedLaw.look.Goals as goal
 pub returns-clause-framed : goal.returns-clause-framed
 returns-clause-framed g c =
     let Q = g.Q.Layer in
-    let rules = g.E.Edit.rules in
+    let rules = g.E.SplitEdit.rules in
     let mv = g.E.Moves.moves in
     let wakes = g.met.E.Moves.wakes_sleepers in
     let self = c.args.self.now in

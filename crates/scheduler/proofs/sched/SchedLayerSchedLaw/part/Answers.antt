@@ -11,7 +11,7 @@ returns-clause-fits g c = λ m acts outside boots.
     let Q = g.Q.Layer in
     let mv = g.E.Moves.moves in
     let H = homes_in (Q.opening m) in
-    let K = kernel g.E.Edit.rules mv (Q.opening m) in (
+    let K = kernel g.E.SplitEdit.rules mv (Q.opening m) in (
       c.part.ensures.fits m acts outside tt,
       record {
         cpu = c.part.ensures.cpu;

@@ -17,5 +17,4 @@ returns-clause-fits g c = λ m acts outside boots.
       ),
       nobody_beneath (S.opening m) boots.3,
       fresh_deferred g.row.E-Out.Denot (S.under_way part) (S.own part).hand c.part.ensures.call,
-      tt,
     )

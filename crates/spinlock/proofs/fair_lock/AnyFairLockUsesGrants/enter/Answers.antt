@@ -8,7 +8,7 @@ pub peek-requires-clause-waiting : goal.peek-requires-clause-waiting
 peek-requires-clause-waiting g c =
     let W = g.W.GrantWords in
     let m = c.args.self.now in
-    waits_by_grant (W.seen m) (grants_legal (g.W.Edit.Edit.rules.allowed (W.opening m)) (W.seen m) (g.met.W.GrantWords.legal m c.args.cpu c.requires.cpu))
+    waits_by_grant (W.seen m) (grants_legal (g.W.Edit.SplitEdit.rules.allowed (W.opening m)) (W.seen m) (g.met.W.GrantWords.legal m c.args.cpu c.requires.cpu))
     c.args.cpu c.args.lock c.args.ticket c.requires.waits c.requires.ticket
 
 pub returns-clause-adds : goal.returns-clause-adds
@@ -24,4 +24,4 @@ pub returns-clause-hits : goal.returns-clause-hits
 returns-clause-hits g c =
     let W = g.W.GrantWords in
     let n = c.peek.new.self in
-    peek_enters g.W.Edit.Edit.rules.edited (W.opening n) (W.seen n) c.args.cpu c.args.lock c.args.ticket c.peek.result c.peek.ensures.hits
+    peek_enters g.W.Edit.SplitEdit.rules.edited (W.opening n) (W.seen n) c.args.cpu c.args.lock c.args.ticket c.peek.result c.peek.ensures.hits

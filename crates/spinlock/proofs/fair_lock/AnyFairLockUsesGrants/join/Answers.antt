@@ -18,5 +18,5 @@ returns-clause-ticket g c =
     let m = c.args.self.now in
     let n = c.take.new.self in
     takes_spot (W.ActsFor m) (W.seen m) (W.seen n) c.args.cpu c.args.lock c.take.result c.take.ensures.adds
-    (grants_legal (g.W.Edit.Edit.rules.allowed (W.opening n)) (W.seen n)
+    (grants_legal (g.W.Edit.SplitEdit.rules.allowed (W.opening n)) (W.seen n)
     (g.met.W.GrantWords.legal n c.args.cpu (c.take.ensures.acts c.args.cpu c.requires.cpu)))

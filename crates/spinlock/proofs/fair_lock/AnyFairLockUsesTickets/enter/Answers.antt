@@ -8,7 +8,7 @@ pub look-requires-clause-waiting : goal.look-requires-clause-waiting
 look-requires-clause-waiting g c =
     let W = g.W.Words in
     let m = c.args.self.now in
-    waits_by_ticket (W.seen m) (words_legal (g.W.Edit.Edit.rules.allowed (W.opening m)) (W.seen m) (g.met.W.Words.legal m c.args.cpu c.requires.cpu))
+    waits_by_ticket (W.seen m) (words_legal (g.W.Edit.SplitEdit.rules.allowed (W.opening m)) (W.seen m) (g.met.W.Words.legal m c.args.cpu c.requires.cpu))
     c.args.cpu c.args.lock c.args.ticket c.requires.waits c.requires.ticket
 
 pub returns-clause-adds : goal.returns-clause-adds
@@ -24,4 +24,4 @@ pub returns-clause-hits : goal.returns-clause-hits
 returns-clause-hits g c =
     let W = g.W.Words in
     let n = c.look.new.self in
-    look_enters g.W.Edit.Edit.rules.edited (W.opening n) (W.seen n) c.args.cpu c.args.lock c.args.ticket c.look.result c.look.ensures.hits
+    look_enters g.W.Edit.SplitEdit.rules.edited (W.opening n) (W.seen n) c.args.cpu c.args.lock c.args.ticket c.look.result c.look.ensures.hits

@@ -19,4 +19,4 @@ returns-clause-ticket g c =
     let m = c.args.self.now in
     let n = c.draw.new.self in
     draws_spot (W.ActsFor m) (W.seen m) (W.seen n) c.args.cpu c.args.lock c.draw.result c.draw.ensures.adds
-    (words_legal (g.W.Edit.Edit.rules.allowed (W.opening n)) (W.seen n) (g.met.W.Words.legal n c.args.cpu (c.draw.ensures.acts c.args.cpu c.requires.cpu)))
+    (words_legal (g.W.Edit.SplitEdit.rules.allowed (W.opening n)) (W.seen n) (g.met.W.Words.legal n c.args.cpu (c.draw.ensures.acts c.args.cpu c.requires.cpu)))

@@ -1,13 +1,11 @@
 use Rattle.std.proofs.Common.{◌≡◌, Some, option_map, sym, subst, ◌∙◌}
-use Rattle.event_log.specs.Actions.{Give, cpu_of_action, acts_of}
-use Rattle.event_log.specs.History.{Adds}
 use Rattle.event_log.specs.Sections.{block_after}
 use Rattle.event_log.specs.WordsLog.{lock_phase}
 use Rattle.event_log.specs.declared.events.Event.TheVariants.{Free}
 use Rattle.event_log.proofs.Tickets.{phase_acts}
 use Rattle.layer_traits.proofs.PlanLemmas.{sections_acts}
 use Rattle.layer_traits.specs.Protocol.{StaysAllowed, section}
-use Rattle.layer_traits.specs.WordsProtocol.{edit_of, mark_of, sections}
+use Rattle.layer_traits.specs.WordsProtocol.{edit_of, mark_of}
 use Rattle.spinlock.specs.Laws.LineLaws.{inside_of}
 use Rattle.spinlock.proofs.LineLemmas.{event_adds}
 use Rattle.spinlock.proofs.fair_lock.AnyFairLockUsesTickets.leave.Goals as goal
@@ -20,26 +18,22 @@ free-requires-clause-inside g c =
 pub free-requires-clause-edited : goal.free-requires-clause-edited
 free-requires-clause-edited g c =
     let W = g.W.Words in
-    let rules = g.W.Edit.Edit.rules in
+    let rules = g.W.Edit.SplitEdit.rules in
     let m = c.args.self.now in
-    subst (λ e. option_map (rules.edited e) (block_after rules.edited (W.opening m) c.args.lock (sections (W.seen m))) ≡ Some c.args.block)
-    (sym c.mark.ensures)
-    (subst (λ l. option_map (rules.edited c.args.edit) (block_after rules.edited (W.opening m) c.args.lock l) ≡ Some c.args.block)
-    (sym (sections_acts (W.seen m))) c.requires.edited)
+    subst (λ l. option_map (rules.edited (W.edit_in c.args.mark)) (block_after rules.edited (W.opening m) c.args.lock l) ≡ Some c.args.block)
+    (sym (sections_acts (W.seen m))) c.requires.edited
 
 pub free-requires-clause-allowed : goal.free-requires-clause-allowed
 free-requires-clause-allowed g c =
     let W = g.W.Words in
-    let rules = g.W.Edit.Edit.rules in
+    let rules = g.W.Edit.SplitEdit.rules in
     let m = c.args.self.now in
-    subst (λ e. StaysAllowed (rules.allowed (W.opening m)) (sections (W.seen m)) (section c.args.cpu c.args.lock e)) (sym c.mark.ensures)
-    (subst (λ l. StaysAllowed (rules.allowed (W.opening m)) l (section c.args.cpu c.args.lock c.args.edit))
-    (sym (sections_acts (W.seen m))) c.requires.allowed)
+    subst (λ l. StaysAllowed (rules.allowed (W.opening m)) l (section c.args.cpu c.args.lock (W.edit_in c.args.mark)))
+    (sym (sections_acts (W.seen m))) c.requires.allowed
 
 pub returns-clause-adds : goal.returns-clause-adds
 returns-clause-adds g c =
     let W = g.W.Words in
     let m = c.args.self.now in
     let n = c.free.new.self in
-    subst (λ e. Adds (W.ActsFor m) cpu_of_action (Give c.args.cpu c.args.lock e) (acts_of edit_of (W.seen m)) (acts_of edit_of (W.seen n))) c.mark.ensures
-    (event_adds (W.ActsFor m) (W.seen m) (W.seen n) (Free c.args.cpu c.args.lock (mark_of (W.edit_in c.mark.result))) c.free.ensures.adds)
+    event_adds (W.ActsFor m) (W.seen m) (W.seen n) (Free c.args.cpu c.args.lock (mark_of (W.edit_in c.args.mark))) c.free.ensures.adds

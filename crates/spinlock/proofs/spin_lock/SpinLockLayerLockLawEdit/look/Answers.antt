@@ -9,7 +9,7 @@ use Rattle.spinlock.proofs.spin_lock.SpinLockLayerLockLawEdit.look.Goals as goal
 pub returns-in-Waiting-clause-framed : goal.returns-in-Waiting-clause-framed
 returns-in-Waiting-clause-framed g c =
     let M = g.M.FairLock in
-    let rules = g.M.Edit.Edit.rules in
+    let rules = g.M.Edit.SplitEdit.rules in
     let m = c.args.m.now in
     let n = c.enter-again.new.self in
     let cpu = c.args.self.now.cpu in
@@ -44,7 +44,7 @@ returns-in-Waiting-clause-seen g c =
     let cpu = c.args.self.now.cpu in
     let said = c.enter-again.ensures in
     let step = stepped (M.opening m) (M.opening n) said.opening (M.ActsFor m) cpu (M.acts m) (M.acts n) in
-    tried_grows g.M.Edit.Edit.rules (step (g.met.M.FairLock.legal n cpu (said.acts cpu c.requires.fits.0))) c.in-Waiting.lock said.adds.0 said.adds.1
+    tried_grows g.M.Edit.SplitEdit.rules (step (g.met.M.FairLock.legal n cpu (said.acts cpu c.requires.fits.0))) c.in-Waiting.lock said.adds.0 said.adds.1
 
 pub returns-in-Waiting-clause-tries : goal.returns-in-Waiting-clause-tries
 returns-in-Waiting-clause-tries g c = λ step looked.
@@ -54,7 +54,7 @@ returns-in-Waiting-clause-tries g c = λ step looked.
     let cpu = c.args.self.now.cpu in
     let said = c.enter-again.ensures in
     let step = stepped (M.opening m) (M.opening n) said.opening (M.ActsFor m) cpu (M.acts m) (M.acts n) in
-    tried_again g.M.Edit.Edit.rules (step (g.met.M.FairLock.legal n cpu (said.acts cpu c.requires.fits.0))) c.in-Waiting.lock said.adds.0 said.adds.1
+    tried_again g.M.Edit.SplitEdit.rules (step (g.met.M.FairLock.legal n cpu (said.acts cpu c.requires.fits.0))) c.in-Waiting.lock said.adds.0 said.adds.1
 
 -- and no other section does anything
 pub returns-in-Out-clause-seen : goal.returns-in-Out-clause-seen

@@ -6,7 +6,7 @@ use Rattle.table_machine.proofs.Holding.{free_asks, free_reads}
 use Rattle.table_machine.proofs.keys.Key.free.Goals as goal
 
 pub store-requires : goal.store-requires
-store-requires g c = free_asks g.E.Edit.rules g.K.TableWords.kind
+store-requires g c = free_asks g.E.SplitEdit.rules g.K.TableWords.kind
     (at_word _ _ g.met.K.TableWords.lawful _ _ _ _ _ _ c.shared.invariant.0.words_are _ _ _ c.self.invariant)
     c.args.self.now c.args.shared.now c.args.lock c.requires.inside.0 c.args.block c.args.edit _ _ _ (λ _. c.in-Some.number) c.self.view_is c.shared.view_is
     c.requires.of c.requires.lock c.requires.inside.1 c.requires.edited c.requires.allowed
@@ -15,11 +15,11 @@ store-requires g c = free_asks g.E.Edit.rules g.K.TableWords.kind
 
 pub returns-in-Some-clause-adds : goal.returns-in-Some-clause-adds
 returns-in-Some-clause-adds g c =
-    (free_reads g.E.Edit.rules _ _ _ _ _ _ _ c.args.lock c.requires.inside.0 c.args.block c.args.edit c.args.self.now c.self.view_is c.self.invariant
+    (free_reads g.E.SplitEdit.rules _ _ _ _ _ _ _ c.args.lock c.requires.inside.0 c.args.block c.args.edit c.args.self.now c.self.view_is c.self.invariant
     c.requires.inside.1 c.exchange-empty.ensures.3 c.store.ensures.2).adds
 
 pub fetch_add-requires : goal.fetch_add-requires
-fetch_add-requires g c = free_asks g.E.Edit.rules g.K.TableWords.kind
+fetch_add-requires g c = free_asks g.E.SplitEdit.rules g.K.TableWords.kind
     (at_word _ _ g.met.K.TableWords.lawful _ _ _ _ _ _ c.shared.invariant.0.words_are _ _ _ c.self.invariant)
     c.args.self.now c.args.shared.now c.args.lock c.requires.inside.0 c.args.block c.args.edit _ _ _ (λ m. (m + 1) % 2 ^ 64) c.self.view_is
     c.shared.view_is c.requires.of c.requires.lock c.requires.inside.1 c.requires.edited c.requires.allowed
@@ -28,5 +28,5 @@ fetch_add-requires g c = free_asks g.E.Edit.rules g.K.TableWords.kind
 
 pub returns-clause-adds : goal.returns-clause-adds
 returns-clause-adds g c =
-    (free_reads g.E.Edit.rules _ _ _ _ _ _ _ c.args.lock c.requires.inside.0 c.args.block c.args.edit c.args.self.now c.self.view_is c.self.invariant
+    (free_reads g.E.SplitEdit.rules _ _ _ _ _ _ _ c.args.lock c.requires.inside.0 c.args.block c.args.edit c.args.self.now c.self.view_is c.self.invariant
     c.requires.inside.1 c.exchange-empty.ensures.3 c.fetch_add.ensures.2).adds

@@ -9,7 +9,7 @@ use Rattle.table_machine.proofs.shared.Shared.gathered.Goals as goal
 pub load_new_seat-seat-requires : goal.load_new_seat-seat-requires
 load_new_seat-seat-requires g c = (
   has_words _ _ _ _ _ c.self.invariant.0,
-  enters g.K.TableWords.kind g.E.Edit.rules c.self.inside.table.shared.key.cpus c.self.inside.table.shared.key.blocks.value.items
+  enters g.K.TableWords.kind g.E.SplitEdit.rules c.self.inside.table.shared.key.cpus c.self.inside.table.shared.key.blocks.value.items
       _ (viewed c.self.inside.table.shared.key.blocks.value.items (cpus_from 0 c.self.inside.table.shared.key.cpus) []) refl,
 )
 
