@@ -31,6 +31,8 @@ use Rattle.layer_traits.specs.declared.calls.Call.TheVariants.{Send, Recv, Close
 use Rattle.layer_traits.specs.declared.calls.Effect.{Effect}
 use Rattle.layer_traits.specs.declared.calls.Reply.{Reply}
 use Rattle.layer_traits.specs.declared.calls.Reply.TheVariants as reply
+use Rattle.layer_traits.specs.declared.calls.ReplyKind.{ReplyKind}
+use Rattle.layer_traits.specs.declared.calls.ReplyKind.TheVariants as bare
 use Rattle.layer_traits.specs.declared.queue_edits.QueueEdit.{QueueEdit}
 use Rattle.layer_traits.specs.declared.queues.QueueAnswer.{QueueAnswer}
 use Rattle.layer_traits.specs.declared.passes.Pass.{Pass}
@@ -104,6 +106,19 @@ reply_by (Close b) kind value = reply.Shut
 abbrev pub reply_of : Call → Effect → Reply
 reply_of call f = reply_by call f.kind f.value
 
+-- the message of an effect, if there is one
+abbrev pub message_of : Option Effect → Message
+message_of None = no_message
+message_of (Some f) = f.value
+
+-- the reply of this kind to a call that had this effect
+abbrev pub reply_with : ReplyKind → Option Effect → Reply
+reply_with bare.Sent effect = reply.Sent
+reply_with bare.Got effect = reply.Got (message_of effect)
+reply_with bare.Shut effect = reply.Shut
+reply_with bare.Closed effect = reply.Closed
+reply_with bare.NoBuffer effect = reply.NoBuffer
+
 -- the entry of an effect on a buffer, by a thread of a CPU
 abbrev pub entry_of : CpuId → Tid → BufId → Effect → Entry
 entry_of cpu t b f = entry cpu t f.kind b f.value f.op f.pos
@@ -153,6 +168,10 @@ begun_of call_state = begun_at call_state.stage call_state.call
 -- the call state of a thread, in a list by thread
 abbrev pub call_state_of : List CallState → Tid → CallState
 call_state_of call_states t = slice_index_or call_states t.0 no_call
+
+-- the answer of a poll that told this kind and left these call states
+abbrev pub answer_in : List CallState → Tid → Option ReplyKind → Option Reply
+answer_in left t answer = option_map (λ kind. reply_with kind (call_state_of left t).effect) answer
 
 -- an answer agrees with the call state: the call goes on, or it is over and the answer is its effect's
 abbrev pub Answered : Call → CallState → Option Reply → Type 0

@@ -1,6 +1,6 @@
--- What an edit means, and what an answer tells, with the payload beside it: the message that is put or brought, and the threads that were taken.
+-- What an edit means, and what an answer tells, with the payload beside it: the parcel that is put or brought, and the threads that
+-- were taken.
 use Rattle.std.specs.Prelude.{Option, option_map}
-use Rattle.event_log.specs.declared.messages.Msg.{Msg}
 use Rattle.layer_traits.specs.declared.buffer_edits.BareBufferEdit.{BareBufferEdit}
 use Rattle.layer_traits.specs.declared.buffer_edits.BareBufferEdit.TheVariants as bare
 use Rattle.layer_traits.specs.declared.buffer_edits.BareBufferOut.{BareBufferOut}
@@ -30,6 +30,7 @@ use Rattle.layer_traits.specs.declared.scheds.SchedAnswer.TheVariants as sched
 use Rattle.layer_traits.specs.declared.scheds.SchedCall.{SchedCall}
 use Rattle.layer_traits.specs.declared.scheds.SchedCall.TheVariants as call
 use Rattle.layer_traits.specs.declared.sleeps.Outcome.{Outcome}
+use Rattle.layer_traits.specs.declared.payloads.Parcel.{Parcel}
 use Rattle.layer_traits.specs.declared.payloads.Payload.{Payload}
 
 -- what the answer of a poll tells, if there is one
@@ -68,41 +69,41 @@ sched_told told (sched.Answer out) payload = sched.Answer (told out payload)
 abbrev pub outcome_told : {B O P : Type 0} → (B → P → O) → Outcome B → P → Outcome O
 outcome_told told outcome payload = record { out = told outcome.out payload; slept = outcome.slept; woke = outcome.woke }
 
--- of a call on a queuing lock: only an edit inside puts a message
-abbrev pub lock_meant : {H F R : Type 0} → (H → Msg → F) → QEdit H R → Msg → QEdit F R
-lock_meant meant (Acquire t) message = Acquire t
-lock_meant meant (Inside edit) message = Inside (meant edit message)
-lock_meant meant (Release last) message = Release last
+-- of a call on a queuing lock: only an edit inside puts a parcel
+abbrev pub lock_meant : {H F R : Type 0} → (H → Parcel → F) → QEdit H R → Parcel → QEdit F R
+lock_meant meant (Acquire t) parcel = Acquire t
+lock_meant meant (Inside edit) parcel = Inside (meant edit parcel)
+lock_meant meant (Release last) parcel = Release last
 
 -- of what such a call answers
-abbrev pub lock_told : {B O : Type 0} → (B → Msg → O) → QOut B → Msg → QOut O
-lock_told told lock.Acquired message = lock.Acquired
-lock_told told lock.Queued message = lock.Queued
-lock_told told (lock.Did out) message = lock.Did (told out message)
-lock_told told (lock.Released out) message = lock.Released (told out message)
+abbrev pub lock_told : {B O : Type 0} → (B → Parcel → O) → QOut B → Parcel → QOut O
+lock_told told lock.Acquired parcel = lock.Acquired
+lock_told told lock.Queued parcel = lock.Queued
+lock_told told (lock.Did out) parcel = lock.Did (told out parcel)
+lock_told told (lock.Released out) parcel = lock.Released (told out parcel)
 
 -- of what the owner of a lock with conditions does inside
-abbrev pub cv_meant : {H G : Type 0} → (H → Msg → G) → CvEdit H → Msg → CvEdit G
-cv_meant meant (Edit edit) message = Edit (meant edit message)
-cv_meant meant (SignalFront t side) message = SignalFront t side
+abbrev pub cv_meant : {H G : Type 0} → (H → Parcel → G) → CvEdit H → Parcel → CvEdit G
+cv_meant meant (Edit edit) parcel = Edit (meant edit parcel)
+cv_meant meant (SignalFront t side) parcel = SignalFront t side
 
 -- of what that answers
-abbrev pub cv_told : {B O : Type 0} → (B → Msg → O) → CvOut B → Msg → CvOut O
-cv_told told (cv.Did out) message = cv.Did (told out message)
-cv_told told (cv.Signalled side front) message = cv.Signalled side front
-cv_told told cv.Left message = cv.Left
-cv_told told (cv.Waited side) message = cv.Waited side
+abbrev pub cv_told : {B O : Type 0} → (B → Parcel → O) → CvOut B → Parcel → CvOut O
+cv_told told (cv.Did out) parcel = cv.Did (told out parcel)
+cv_told told (cv.Signalled side front) parcel = cv.Signalled side front
+cv_told told cv.Left parcel = cv.Left
+cv_told told (cv.Waited side) parcel = cv.Waited side
 
 -- the edit of a buffer that is meant: the message is the one that it puts
-abbrev pub buffer_meant : BareBufferEdit → Msg → BufferEdit
-buffer_meant (bare.Enter t side) message = Enter t side
-buffer_meant (bare.TryPut t) message = TryPut t message
-buffer_meant (bare.TryTake t) message = TryTake t
-buffer_meant (bare.Shut t) message = Shut t
+abbrev pub buffer_meant : BareBufferEdit → Parcel → BufferEdit
+buffer_meant (bare.Enter t side) parcel = Enter t side
+buffer_meant (bare.TryPut t) parcel = TryPut t parcel.message
+buffer_meant (bare.TryTake t) parcel = TryTake t
+buffer_meant (bare.Shut t) parcel = Shut t
 
--- the answer of a buffer that is told: the message is the one of the effect
-abbrev pub buffer_told : BareBufferOut → Msg → BufferOut
-buffer_told (brought.Entered position) message = told.Entered position
-buffer_told brought.NotYet message = told.NotYet
-buffer_told (brought.Done kind op) message = told.Done kind op message
-buffer_told (brought.WasShut op pos) message = told.WasShut op pos
+-- the answer of a buffer that is told: the message is the one of the effect, and the numbers are those beside it
+abbrev pub buffer_told : BareBufferOut → Parcel → BufferOut
+buffer_told brought.Entered parcel = told.Entered parcel.first
+buffer_told brought.NotYet parcel = told.NotYet
+buffer_told (brought.Done kind) parcel = told.Done kind parcel.first parcel.message
+buffer_told brought.WasShut parcel = told.WasShut parcel.first parcel.second

@@ -6,13 +6,13 @@ ghost use Rattle.std.specs.Prelude.{◌≡◌, ◌≤◌, ◌++◌, ◌∷◌, [
 ghost use Rattle.event_log.specs.declared.ids.TheConstants.{CAPACITY};
 ghost use Rattle.layer_traits.specs.declared.buffer_edits.BufferEdit.TheVariants.{Enter, TryPut, TryTake, Shut};
 ghost use Rattle.layer_traits.specs.declared.locked.Side.TheVariants.{Receivers, Senders};
-ghost use Rattle.event_log.specs.declared.messages.Msg.{Msg};
 ghost use Rattle.layer_traits.specs.Payloads.{buffer_told};
 ghost use Rattle.layer_traits.specs.BufferBlocks.{buffer_answer, buffer_edited, empty_block, front_ready, is_first, may_go, may_join};
 
 use crate::buffer_edits::{BareBufferEdit, BareBufferOut, BufferEdit, BufferOut};
 use crate::conditions::{Guarded, WholeGuarded};
 use crate::locked::Side;
+use crate::payloads::Parcel;
 use arrayvec::ArrayVec;
 use event_log::{CAPACITY, Kind, Msg, Ring, THREADS, Tid};
 use std::marker::Model;
@@ -105,10 +105,10 @@ impl BufferBlock {
         self.closed || 0 < self.items.len()
     }
 
-    /// Lets `t` enter the line of this side, and gives its position in it.
-    fn enter(&mut self, t: Tid, side: Side) -> BareBufferOut
+    /// Lets `t` enter the line of this side, and lays down its position in it.
+    fn enter(&mut self, t: Tid, side: Side, parcel: &mut Parcel) -> BareBufferOut
         ensures block { self.new ≡ buffer_edited (Enter t side) self.old }
-        ensures answer { (message : Msg) → buffer_told result message ≡ buffer_answer (Enter t side) self.old }
+        ensures answer { buffer_told result parcel.new ≡ buffer_answer (Enter t side) self.old }
     {
         match side {
             Side::Receivers => {
@@ -116,23 +116,25 @@ impl BufferBlock {
                 if join(&mut self.receive_line, t) {
                     self.receives = position.wrapping_add(1);
                 }
-                BareBufferOut::Entered(position)
+                parcel.first = position;
+                BareBufferOut::Entered
             }
             Side::Senders => {
                 let position = self.sends;
                 if join(&mut self.send_line, t) {
                     self.sends = position.wrapping_add(1);
                 }
-                BareBufferOut::Entered(position)
+                parcel.first = position;
+                BareBufferOut::Entered
             }
         }
     }
 
-    /// Puts `message` for `t`, where it stands first in the send line and there is room; a closed
+    /// Puts the message beside it for `t`, where it stands first in the send line and there is room; a closed
     /// buffer takes no message, and tells `t` that it is closed.
-    fn put(&mut self, t: Tid, message: &Msg) -> BareBufferOut
-        ensures block { self.new ≡ buffer_edited (TryPut t message.now) self.old }
-        ensures answer { buffer_told result message.now ≡ buffer_answer (TryPut t message.now) self.old }
+    fn put(&mut self, t: Tid, parcel: &mut Parcel) -> BareBufferOut
+        ensures block { self.new ≡ buffer_edited (TryPut t parcel.old.message) self.old }
+        ensures answer { buffer_told result parcel.new ≡ buffer_answer (TryPut t parcel.old.message) self.old }
     {
         if !leads(&self.send_line, t) {
             return BareBufferOut::NotYet;
@@ -143,18 +145,19 @@ impl BufferBlock {
         let op = self.effects;
         let _ = self.send_line.pop();
         self.effects = op.wrapping_add(1);
+        parcel.first = op;
         if self.closed {
-            return BareBufferOut::Done(Kind::SendClosed, op);
+            return BareBufferOut::Done(Kind::SendClosed);
         }
-        self.items.put(*message);
-        BareBufferOut::Done(Kind::Send, op)
+        self.items.put(parcel.message);
+        BareBufferOut::Done(Kind::Send)
     }
 
-    /// Takes the first item for `t` into `message`, where it stands first in the receive line and
+    /// Takes the first item for `t`, and lays it down, where it stands first in the receive line and
     /// there is one; a buffer that is closed and has none tells `t` that it is closed.
-    fn take(&mut self, t: Tid, message: &mut Msg) -> BareBufferOut
+    fn take(&mut self, t: Tid, parcel: &mut Parcel) -> BareBufferOut
         ensures block { self.new ≡ buffer_edited (TryTake t) self.old }
-        ensures answer { buffer_told result message.new ≡ buffer_answer (TryTake t) self.old }
+        ensures answer { buffer_told result parcel.new ≡ buffer_answer (TryTake t) self.old }
     {
         if !leads(&self.receive_line, t) {
             return BareBufferOut::NotYet;
@@ -165,30 +168,33 @@ impl BufferBlock {
         let op = self.effects;
         let _ = self.receive_line.pop();
         self.effects = op.wrapping_add(1);
+        parcel.first = op;
         match self.items.take() {
             None => {
-                *message = Msg::none();
-                BareBufferOut::Done(Kind::RecvClosed, op)
+                parcel.message = Msg::none();
+                BareBufferOut::Done(Kind::RecvClosed)
             }
-            Some(first) => {
-                *message = first;
-                BareBufferOut::Done(Kind::Recv, op)
+            Some(item) => {
+                parcel.message = item;
+                BareBufferOut::Done(Kind::Recv)
             }
         }
     }
 
-    /// Closes the buffer, which may be closed already, and tells how many effects and how many
+    /// Closes the buffer, which may be closed already, and lays down how many effects and how many
     /// closes it had before.
-    fn shut(&mut self, t: Tid) -> BareBufferOut
+    fn shut(&mut self, t: Tid, parcel: &mut Parcel) -> BareBufferOut
         ensures block { self.new ≡ buffer_edited (Shut t) self.old }
-        ensures answer { (message : Msg) → buffer_told result message ≡ buffer_answer (Shut t) self.old }
+        ensures answer { buffer_told result parcel.new ≡ buffer_answer (Shut t) self.old }
     {
         let op = self.effects;
         let position = self.closes;
         self.closed = true;
         self.effects = op.wrapping_add(1);
         self.closes = position.wrapping_add(1);
-        BareBufferOut::WasShut(op, position)
+        parcel.first = op;
+        parcel.second = position;
+        BareBufferOut::WasShut
     }
 
     /// The front of this side's line, where it may go on.
@@ -267,10 +273,10 @@ impl Guarded for BufferEdit {
     }
 
     #[inline(always)]
-    fn whole(handed: &BareBufferEdit, message: &Msg) -> BufferEdit {
+    fn whole(handed: &BareBufferEdit, parcel: &Parcel) -> BufferEdit {
         match handed {
             BareBufferEdit::Enter(t, side) => BufferEdit::Enter(*t, *side),
-            BareBufferEdit::TryPut(t) => BufferEdit::TryPut(*t, *message),
+            BareBufferEdit::TryPut(t) => BufferEdit::TryPut(*t, parcel.message),
             BareBufferEdit::TryTake(t) => BufferEdit::TryTake(*t),
             BareBufferEdit::Shut(t) => BufferEdit::Shut(*t),
         }
@@ -280,13 +286,13 @@ impl Guarded for BufferEdit {
     fn apply_handed(
         handed: &BareBufferEdit,
         block: &mut BufferBlock,
-        message: &mut Msg,
+        parcel: &mut Parcel,
     ) -> BareBufferOut {
         match handed {
-            BareBufferEdit::Enter(t, side) => block.enter(*t, *side),
-            BareBufferEdit::TryPut(t) => block.put(*t, message),
-            BareBufferEdit::TryTake(t) => block.take(*t, message),
-            BareBufferEdit::Shut(t) => block.shut(*t),
+            BareBufferEdit::Enter(t, side) => block.enter(*t, *side, parcel),
+            BareBufferEdit::TryPut(t) => block.put(*t, parcel),
+            BareBufferEdit::TryTake(t) => block.take(*t, parcel),
+            BareBufferEdit::Shut(t) => block.shut(*t, parcel),
         }
     }
 
@@ -296,11 +302,11 @@ impl Guarded for BufferEdit {
 }
 
 impl WholeGuarded for BufferEdit {
-    fn hand_on(self, message: &mut Msg) -> BareBufferEdit {
+    fn hand_on(self, parcel: &mut Parcel) -> BareBufferEdit {
         match self {
             BufferEdit::Enter(t, side) => BareBufferEdit::Enter(t, side),
             BufferEdit::TryPut(t, put) => {
-                *message = put;
+                parcel.message = put;
                 BareBufferEdit::TryPut(t)
             }
             BufferEdit::TryTake(t) => BareBufferEdit::TryTake(t),
@@ -308,12 +314,12 @@ impl WholeGuarded for BufferEdit {
         }
     }
 
-    fn bring_back(brought: BareBufferOut, message: &Msg) -> BufferOut {
+    fn bring_back(brought: BareBufferOut, parcel: &Parcel) -> BufferOut {
         match brought {
-            BareBufferOut::Entered(position) => BufferOut::Entered(position),
+            BareBufferOut::Entered => BufferOut::Entered(parcel.first),
             BareBufferOut::NotYet => BufferOut::NotYet,
-            BareBufferOut::Done(kind, op) => BufferOut::Done(kind, op, *message),
-            BareBufferOut::WasShut(op, position) => BufferOut::WasShut(op, position),
+            BareBufferOut::Done(kind) => BufferOut::Done(kind, parcel.first, parcel.message),
+            BareBufferOut::WasShut => BufferOut::WasShut(parcel.first, parcel.second),
         }
     }
 }

@@ -48,15 +48,16 @@ pub enum BareBufferEdit {
     Shut(Tid),
 }
 
-/// What layers hand back of a buffer's answer: the message that it brings lies in the payload.
+/// What layers hand back of a buffer's answer: the message and the numbers that it brings lie in the
+/// payload, so that what is handed back is small.
 #[derive(Clone, Copy, Debug, PartialEq, Eq)]
 pub enum BareBufferOut {
-    /// [`BufferOut::Entered`].
-    Entered(u64),
+    /// [`BufferOut::Entered`], with the position as the first number beside it.
+    Entered,
     /// [`BufferOut::NotYet`].
     NotYet,
-    /// [`BufferOut::Done`], with the message beside it.
-    Done(Kind, u64),
-    /// [`BufferOut::WasShut`].
-    WasShut(u64, u64),
+    /// [`BufferOut::Done`], with the message and, as the first number, how many effects there were.
+    Done(Kind),
+    /// [`BufferOut::WasShut`], with both numbers beside it.
+    WasShut,
 }

@@ -8,7 +8,7 @@ ghost use Rattle.event_log.specs.declared.ids.CpuId.{CpuId};
 ghost use Rattle.event_log.specs.declared.ids.Tid.{Tid};
 ghost use Rattle.layer_traits.specs.declared.calls.Call.{Call};
 ghost use Rattle.layer_traits.specs.declared.calls.Reply.{Reply};
-ghost use Rattle.layer_traits.specs.BufferLaw.{BufferPlan, Buffering, Called, Calling, UnderWay, IsRefused, MayGoOn, MayPollCall, MovesGrow, OthersSeen, Passing, RunsOn, buffer_of, buffering_at_start, fifo_pass_plan, no_call, still_calling, still_passing, call_state_of};
+ghost use Rattle.layer_traits.specs.BufferLaw.{BufferPlan, Buffering, Called, answer_in, reply_with, Calling, UnderWay, IsRefused, MayGoOn, MayPollCall, MovesGrow, OthersSeen, Passing, RunsOn, buffer_of, buffering_at_start, fifo_pass_plan, no_call, still_calling, still_passing, call_state_of, message_of};
 ghost use Rattle.event_log.specs.declared.entries.Entry.{Entry};
 ghost use Rattle.event_log.specs.declared.ids.BufId.{BufId};
 ghost use Rattle.event_log.specs.declared.ids.LockId.{LockId};
@@ -36,9 +36,9 @@ ghost use Rattle.layer_traits.specs.BufferProtocol.{BufferLock, buffer_rules};
 ghost use Rattle.layer_traits.specs.BufferEffects.{MayTakeEffect, effects_in};
 ghost use Rattle.layer_traits.specs.IpcLaw.{WaitListsAgree, NothingDone, OpensSo};
 
-use crate::calls::{Call, Effect, Reply};
+use crate::calls::{Call, Effect, Reply, ReplyKind};
 use crate::passes::Pass;
-use event_log::{CpuId, Tid};
+use event_log::{CpuId, Msg, Tid};
 
 /// The law of a layer whose calls send messages and receive them.
 pub trait CallLaw {
@@ -57,7 +57,7 @@ pub trait CallLaw {
 /// atomic action; if it returns `None` the same call is polled again, once its thread runs.
 ///
 /// No call takes memory.
-pub trait CallLayer<L: CallLaw> {
+pub trait CallLayer<L: CallLaw>: Sized {
     /// What lies beneath.
     type Machine;
 
@@ -194,13 +194,51 @@ pub trait CallLayer<L: CallLaw> {
         ensures caps { caps m.new ≡ caps m.old }
         ensures tries { IsStepwise → result ≡ true → Tries (ActsFor m.old) (cpu_of self.old) (acts m.old) (acts m.new) };
 
-    /// Does at most one action of the call of `t`. Gives the reply once the call has ended, and
-    /// `None` while the same call is to be polled again. `NoBuffer` comes exactly where the number
+    /// Does at most one action of the call of `t`. Returns the kind of its reply once the call has
+    /// ended, and `None` while the same call is to be polled again. A message that was received lies in
+    /// the effect of `t`, where a CPU reads it with no copy. `NoBuffer` comes exactly where the number
     /// is no buffer's, and then nothing was done.
     ///
     /// Requires: what the call is on is there, part and machine agree, there is room for an event,
     /// `t` runs here, the call is the one that `t` has begun or `t` is between calls, and the CPU has
     /// nothing else under way. If it has nothing under way, no woken thread is in its hand.
+    fn poll_kind(
+        &mut self,
+        m: &mut Self::Machine,
+        t: Tid,
+        call: &Call,
+    ) -> Option<ReplyKind>
+        requires fits { Fits self.old m.old }
+        requires there { L.IsThere (caps m.old) call.now }
+        requires room { 0 < room m.old }
+        requires runs { (threads self.old).current ≡ Some t }
+        requires hand { under_way self.old ≡ None → (threads self.old).hand ≡ None }
+        requires same { MayPollCall (call_state_of (call_states self.old) t) call.now }
+        requires goes_on { MayGoOn (under_way self.old) (Calling t) }
+        ensures nothing { length (caps m.old) ≤ (buffer_of call.now).0 → NothingDone m.old m.new self.old self.new
+            (answer_in (call_states self.new) t result) }
+        ensures called { (buffer_of call.now).0 < length (caps m.old)
+            → Called (ActsFor m.old) (cpu_of self.old) t call.now (call_states self.old) (call_states self.new) (seen m.old) (seen m.new)
+            (answer_in (call_states self.new) t result) }
+        ensures runs { (buffer_of call.now).0 < length (caps m.old) → RunsOn t (threads self.old) (threads self.new)
+            (answer_in (call_states self.new) t result) }
+        ensures under_way { (buffer_of call.now).0 < length (caps m.old)
+            → under_way self.new ≡ still_calling t (threads self.new).current (answer_in (call_states self.new) t result) }
+        ensures moves { MovesGrow (ActsFor m.old) (cpu_of self.old) (moves m.old) (moves m.new) }
+        ensures prompt { IsWhole → result ≡ None
+            → IsRefused call.now (caps m.old) (seen m.new) × ((threads self.new).current ≡ None) }
+        ensures framed { Framed Fits cpu_of opening site room ActsFor MayHold self.old self.new m.old m.new }
+        ensures homes { homes_of m.new ≡ homes_of m.old }
+        ensures caps { caps m.new ≡ caps m.old }
+        ensures follows { IsStepwise
+            → Follows (ActsFor m.old) (table_of (queue_rules (lock_rules buffer_rules) (lock_moves buffer_rules)))
+            (opening m.old) (cpu_of self.old) (L.plan (length (caps m.old)) (homes_in (opening m.old)) (cpu_of self.old) t call.now (own self.old))
+            (acts m.old) (acts m.new) (record { own = own self.new; answer = answer_in (call_states self.new) t result }) };
+
+    /// The same, with the whole reply.
+    ///
+    /// Requires: as `poll_kind`.
+    #[inline(always)]
     fn poll(&mut self, m: &mut Self::Machine, t: Tid, call: &Call) -> Option<Reply>
         requires fits { Fits self.old m.old }
         requires there { L.IsThere (caps m.old) call.now }
@@ -224,7 +262,13 @@ pub trait CallLayer<L: CallLaw> {
         ensures follows { IsStepwise
             → Follows (ActsFor m.old) (table_of (queue_rules (lock_rules buffer_rules) (lock_moves buffer_rules)))
             (opening m.old) (cpu_of self.old) (L.plan (length (caps m.old)) (homes_in (opening m.old)) (cpu_of self.old) t call.now (own self.old))
-            (acts m.old) (acts m.new) (record { own = own self.new; answer = result }) };
+            (acts m.old) (acts m.new) (record { own = own self.new; answer = result }) }
+    {
+        match self.poll_kind(m, t, call) {
+            None => None,
+            Some(kind) => Some(whole_reply(kind, self.effect_here(t))),
+        }
+    }
 
     /// Passes a call on to the scheduler. The call states stay.
     ///
@@ -299,4 +343,29 @@ pub trait CallLayer<L: CallLaw> {
     /// homes.
     ghost opens: { IsStepwise → (m : Self.Machine) (homes : List CpuId) (c : CpuId) → IsFresh m homes c
         → OpensSo (caps m) homes c (opening m) };
+}
+
+/// The reply of this kind, with the message of this effect where it has one.
+#[inline(always)]
+fn whole_reply(kind: ReplyKind, effect: &Option<Effect>) -> Reply
+    ensures { result ≡ reply_with kind effect.now }
+{
+    match kind {
+        ReplyKind::Sent => Reply::Sent,
+        ReplyKind::Got => Reply::Got(message_of(effect)),
+        ReplyKind::Shut => Reply::Shut,
+        ReplyKind::Closed => Reply::Closed,
+        ReplyKind::NoBuffer => Reply::NoBuffer,
+    }
+}
+
+/// The message of an effect; none where there is no effect.
+#[inline(always)]
+fn message_of(effect: &Option<Effect>) -> Msg
+    ensures { result ≡ message_of effect.now }
+{
+    match effect {
+        None => Msg::none(),
+        Some(effect) => effect.value,
+    }
 }

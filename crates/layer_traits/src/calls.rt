@@ -30,6 +30,22 @@ pub enum Reply {
     NoBuffer,
 }
 
+/// What a message call answers, without the message of a receive: that one lies in the effect of the
+/// call.
+#[derive(Clone, Copy, Debug, PartialEq, Eq)]
+pub enum ReplyKind {
+    /// [`Reply::Sent`].
+    Sent,
+    /// [`Reply::Got`], with the message of the call's effect.
+    Got,
+    /// [`Reply::Shut`].
+    Shut,
+    /// [`Reply::Closed`].
+    Closed,
+    /// [`Reply::NoBuffer`].
+    NoBuffer,
+}
+
 /// The effect of a message call: the one step in which its message was put or taken, its buffer
 /// was closed, or it learned that the buffer is closed.
 #[derive(Clone, Copy, Debug, PartialEq, Eq)]

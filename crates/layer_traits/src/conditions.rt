@@ -6,7 +6,8 @@
 ghost use Rattle.std.specs.Prelude.{◌≡◌, Option};
 
 use crate::locked::{Locked, Side, WakeWaiter, WholeLocked};
-use event_log::{Msg, Tid};
+use crate::payloads::Parcel;
+use event_log::Tid;
 
 /// What the owner of a lock with conditions does inside.
 #[derive(Clone, Copy, Debug, PartialEq, Eq)]
@@ -42,7 +43,7 @@ pub enum CvOut<O> {
 /// A pure edit of the block of a lock with conditions. The block has a line for each side, and
 /// tells whether the first of a line may go on.
 pub trait Guarded: Sized + Drop {
-    ghost use Rattle.event_log.specs.declared.messages.Msg.{Msg};
+    ghost use Rattle.layer_traits.specs.declared.payloads.Parcel.{Parcel};
     ghost use Rattle.layer_traits.specs.Conditions.{MonitorRules};
 
     /// What the lock guards.
@@ -63,27 +64,27 @@ pub trait Guarded: Sized + Drop {
 
     /// The thread that edits.
     fn caller(handed: &Self::Handed) -> Tid
-        ensures { (message : Msg) → result ≡ monitor_rules.caller (meant handed.now message) };
+        ensures { (parcel : Parcel) → result ≡ monitor_rules.caller (meant handed.now parcel) };
 
     /// The edit that is meant by what is handed on, with this message beside it.
-    ghost meant: { Self.Handed → Msg → Self };
+    ghost meant: { Self.Handed → Parcel → Self };
 
     /// The answer that is told by what is handed back, with this message beside it.
-    ghost told: { Self.Brought → Msg → Self.Out };
+    ghost told: { Self.Brought → Parcel → Self.Out };
 
     /// The edit that is meant.
-    fn whole(handed: &Self::Handed, message: &Msg) -> Self
-        ensures { result ≡ meant handed.now message.now };
+    fn whole(handed: &Self::Handed, parcel: &Parcel) -> Self
+        ensures { result ≡ meant handed.now parcel.now };
 
     /// Edits `block` as is meant. The answer is told by what it returns and the message that it
     /// leaves. Takes no memory.
     fn apply_handed(
         handed: &Self::Handed,
         block: &mut Self::Block,
-        message: &mut Msg,
+        parcel: &mut Parcel,
     ) -> Self::Brought
-        ensures block { block.new ≡ monitor_rules.edited (meant handed.now message.old) block.old }
-        ensures answer { told result message.new ≡ monitor_rules.answer (meant handed.now message.old) block.old };
+        ensures block { block.new ≡ monitor_rules.edited (meant handed.now parcel.old) block.old }
+        ensures answer { told result parcel.new ≡ monitor_rules.answer (meant handed.now parcel.old) block.old };
 
     /// The front of this side's line, where it may go on.
     fn ready(side: Side, block: &Self::Block) -> Option<Tid>
@@ -93,12 +94,12 @@ pub trait Guarded: Sized + Drop {
 /// An edit of the block of a lock with conditions in one piece: it is copied, and holds what it puts.
 pub trait WholeGuarded: Guarded + Copy {
     /// What is handed on of this edit. The message that it puts lies beside it then.
-    fn hand_on(self, message: &mut Msg) -> Self::Handed
-        ensures { Self.meant result message.new ≡ self };
+    fn hand_on(self, parcel: &mut Parcel) -> Self::Handed
+        ensures { Self.meant result parcel.new ≡ self };
 
     /// The answer in one piece, with this message beside what is handed back.
-    fn bring_back(brought: Self::Brought, message: &Msg) -> Self::Out
-        ensures { result ≡ Self.told brought message.now };
+    fn bring_back(brought: Self::Brought, parcel: &Parcel) -> Self::Out
+        ensures { result ≡ Self.told brought parcel.now };
 }
 
 impl<G: Guarded> Locked for CvEdit<G> {
@@ -129,9 +130,9 @@ impl<G: Guarded> Locked for CvEdit<G> {
     }
 
     #[inline(always)]
-    fn whole(handed: &CvEdit<G::Handed>, message: &Msg) -> CvEdit<G> {
+    fn whole(handed: &CvEdit<G::Handed>, parcel: &Parcel) -> CvEdit<G> {
         match handed {
-            CvEdit::Edit(edit) => CvEdit::Edit(G::whole(edit, message)),
+            CvEdit::Edit(edit) => CvEdit::Edit(G::whole(edit, parcel)),
             CvEdit::SignalFront(t, side) => CvEdit::SignalFront(*t, *side),
         }
     }
@@ -140,10 +141,10 @@ impl<G: Guarded> Locked for CvEdit<G> {
     fn apply_handed(
         handed: &CvEdit<G::Handed>,
         block: &mut G::Block,
-        message: &mut Msg,
+        parcel: &mut Parcel,
     ) -> CvOut<G::Brought> {
         match handed {
-            CvEdit::Edit(edit) => CvOut::Did(G::apply_handed(edit, block, message)),
+            CvEdit::Edit(edit) => CvOut::Did(G::apply_handed(edit, block, parcel)),
             CvEdit::SignalFront(_, side) => CvOut::Signalled(*side, G::ready(*side, block)),
         }
     }
@@ -181,16 +182,16 @@ impl<G: Guarded> Locked for CvEdit<G> {
 }
 
 impl<G: WholeGuarded> WholeLocked for CvEdit<G> {
-    fn hand_on(self, message: &mut Msg) -> CvEdit<G::Handed> {
+    fn hand_on(self, parcel: &mut Parcel) -> CvEdit<G::Handed> {
         match self {
-            CvEdit::Edit(edit) => CvEdit::Edit(edit.hand_on(message)),
+            CvEdit::Edit(edit) => CvEdit::Edit(edit.hand_on(parcel)),
             CvEdit::SignalFront(t, side) => CvEdit::SignalFront(t, side),
         }
     }
 
-    fn bring_back(brought: CvOut<G::Brought>, message: &Msg) -> CvOut<G::Out> {
+    fn bring_back(brought: CvOut<G::Brought>, parcel: &Parcel) -> CvOut<G::Out> {
         match brought {
-            CvOut::Did(out) => CvOut::Did(G::bring_back(out, message)),
+            CvOut::Did(out) => CvOut::Did(G::bring_back(out, parcel)),
             CvOut::Signalled(side, front) => CvOut::Signalled(side, front),
             CvOut::Left => CvOut::Left,
             CvOut::Waited(side) => CvOut::Waited(side),

@@ -74,14 +74,14 @@ impl<G: Guarded> Law for CvLaw<G> {
 
     ghost cpu_of_event = { cpu_of_queue_event };
 
-    ghost told = { λ outcome payload. outcome_told (lock_told (cv_told G.told)) outcome payload.message };
+    ghost told = { λ outcome payload. outcome_told (lock_told (cv_told G.told)) outcome payload.parcel };
 
     ghost allowed = { λ opening. QueueAllowed (lock_kernel (cv_rules G.monitor_rules) opening) };
 
     ghost IsThere = { λ opening call payload. IsSome (opening (Buffer call.buffer)) };
 
-    ghost IsLocal = { λ own call payload. IsSome (slept_for own.waits (lock_caller (cv_rules G.monitor_rules) (lock_meant (cv_meant G.meant) call.edit payload.message)))
-        ⊎ IsSome (slept_for own.lock.slept (lock_caller (cv_rules G.monitor_rules) (lock_meant (cv_meant G.meant) call.edit payload.message))) };
+    ghost IsLocal = { λ own call payload. IsSome (slept_for own.waits (lock_caller (cv_rules G.monitor_rules) (lock_meant (cv_meant G.meant) call.edit payload.parcel)))
+        ⊎ IsSome (slept_for own.lock.slept (lock_caller (cv_rules G.monitor_rules) (lock_meant (cv_meant G.meant) call.edit payload.parcel))) };
 
     ghost AreHomes = { λ homes. length homes ≤ THREADS };
 
@@ -90,22 +90,22 @@ impl<G: Guarded> Law for CvLaw<G> {
     ghost Boots = { λ opening seen homes cpu. (seen ≡ []) × (homes_in opening ≡ homes) × IsSome (opening (Pending cpu)) × AreAtRest (inner opening) };
 
     ghost MayPoll = { λ opening cpu seen own under_way call payload. MayCallCond G.monitor_rules (lock_kernel (cv_rules G.monitor_rules) opening)
-        cpu seen own under_way call.buffer (lock_meant (cv_meant G.meant) call.edit payload.message) };
+        cpu seen own under_way call.buffer (lock_meant (cv_meant G.meant) call.edit payload.parcel) };
 
     ghost LeavesBegun = { λ _ _ _ _ _. Unit {0} };
 
     ghost Polled = { λ opening ActsFor cpu call payload told old new own own' begun. CvPolled G.monitor_rules (lock_kernel (cv_rules G.monitor_rules) opening)
-        ActsFor cpu call.buffer (lock_meant (cv_meant G.meant) call.edit payload.message)
-        (slept_for own.waits (lock_caller (cv_rules G.monitor_rules) (lock_meant (cv_meant G.meant) call.edit payload.message)))
+        ActsFor cpu call.buffer (lock_meant (cv_meant G.meant) call.edit payload.parcel)
+        (slept_for own.waits (lock_caller (cv_rules G.monitor_rules) (lock_meant (cv_meant G.meant) call.edit payload.parcel)))
         old new own begun (record { own = own'; answer = told }) };
 
-    ghost IsPrompt = { λ call payload result own own'. result ≡ None → MustStay (lock_caller (cv_rules G.monitor_rules) (lock_meant (cv_meant G.meant) call.edit payload.message))
+    ghost IsPrompt = { λ call payload result own own'. result ≡ None → MustStay (lock_caller (cv_rules G.monitor_rules) (lock_meant (cv_meant G.meant) call.edit payload.parcel))
         call.buffer own own' };
 
     ghost table = { table_of (queue_rules (lock_rules (cv_rules G.monitor_rules)) (lock_moves (cv_rules G.monitor_rules))) };
 
     ghost plan = { λ opening cpu call payload own. cv_plan (lock_moves (cv_rules G.monitor_rules)) (homes_in opening) cpu call.buffer
-        (lock_meant (cv_meant G.meant) call.edit payload.message) own };
+        (lock_meant (cv_meant G.meant) call.edit payload.parcel) own };
 
     ghost events_in = { λ acts. map event_of (sections_in acts) };
 

@@ -4,7 +4,8 @@
 
 ghost use Rattle.std.specs.Prelude.{◌≡◌};
 
-use event_log::{Msg, Tid};
+use crate::payloads::Parcel;
+use event_log::Tid;
 
 /// On which side of a buffer a thread waits.
 #[derive(Clone, Copy, Debug, PartialEq, Eq)]
@@ -54,7 +55,7 @@ pub enum QOut<O> {
 /// An edit inside a queuing lock. It says whom it signals; a last edit says on which side its
 /// caller waits, if it does.
 pub trait Locked: Sized + Drop {
-    ghost use Rattle.event_log.specs.declared.messages.Msg.{Msg};
+    ghost use Rattle.layer_traits.specs.declared.payloads.Parcel.{Parcel};
     ghost use Rattle.layer_traits.specs.Locking.{LockRules};
 
     /// What the lock guards besides its owner and its waiting lists.
@@ -79,31 +80,31 @@ pub trait Locked: Sized + Drop {
 
     /// The thread that calls.
     fn caller(handed: &Self::Handed) -> Tid
-        ensures { (message : Msg) → result ≡ rules.caller (meant handed.now message) };
+        ensures { (parcel : Parcel) → result ≡ rules.caller (meant handed.now parcel) };
 
     /// The edit that is meant by what is handed on, with this message beside it.
-    ghost meant: { Self.Handed → Msg → Self };
+    ghost meant: { Self.Handed → Parcel → Self };
 
     /// The answer that is told by what is handed back, with this message beside it.
-    ghost told: { Self.Brought → Msg → Self.Out };
+    ghost told: { Self.Brought → Parcel → Self.Out };
 
     /// The edit that is meant.
-    fn whole(handed: &Self::Handed, message: &Msg) -> Self
-        ensures { result ≡ meant handed.now message.now };
+    fn whole(handed: &Self::Handed, parcel: &Parcel) -> Self
+        ensures { result ≡ meant handed.now parcel.now };
 
     /// Edits `block` as is meant. The answer is told by what it returns and the message that it
     /// leaves. Takes no memory.
     fn apply_handed(
         handed: &Self::Handed,
         block: &mut Self::Block,
-        message: &mut Msg,
+        parcel: &mut Parcel,
     ) -> Self::Brought
-        ensures block { block.new ≡ rules.edited (meant handed.now message.old) block.old }
-        ensures answer { told result message.new ≡ rules.answer (meant handed.now message.old) block.old };
+        ensures block { block.new ≡ rules.edited (meant handed.now parcel.old) block.old }
+        ensures answer { told result parcel.new ≡ rules.answer (meant handed.now parcel.old) block.old };
 
     /// Whom the edit that answered this signals.
     fn signals(brought: &Self::Brought) -> WakeWaiter
-        ensures { (message : Msg) → result ≡ rules.signals (told brought.now message) };
+        ensures { (parcel : Parcel) → result ≡ rules.signals (told brought.now parcel) };
 
     /// The thread that calls with this last edit.
     fn last_caller(last: Self::Release) -> Tid
@@ -113,20 +114,20 @@ pub trait Locked: Sized + Drop {
     /// by what it returns. Takes no memory.
     fn apply_last(last: Self::Release, block: &mut Self::Block) -> Self::Brought
         ensures block { block.new ≡ rules.last_edited last block.old }
-        ensures answer { (message : Msg) → told result message ≡ rules.last_answer last block.old };
+        ensures answer { (parcel : Parcel) → told result parcel ≡ rules.last_answer last block.old };
 
     /// On which side the caller of the last edit that answered this waits; `None` where it goes on.
     fn waits(brought: &Self::Brought) -> Option<Side>
-        ensures { (message : Msg) → result ≡ rules.waits (told brought.now message) };
+        ensures { (parcel : Parcel) → result ≡ rules.waits (told brought.now parcel) };
 }
 
 /// An edit inside a queuing lock in one piece: it is copied, and holds what it puts.
 pub trait WholeLocked: Locked + Copy {
     /// What is handed on of this edit. The message that it puts lies beside it then.
-    fn hand_on(self, message: &mut Msg) -> Self::Handed
-        ensures { Self.meant result message.new ≡ self };
+    fn hand_on(self, parcel: &mut Parcel) -> Self::Handed
+        ensures { Self.meant result parcel.new ≡ self };
 
     /// The answer in one piece, with this message beside what is handed back.
-    fn bring_back(brought: Self::Brought, message: &Msg) -> Self::Out
-        ensures { result ≡ Self.told brought message.now };
+    fn bring_back(brought: Self::Brought, parcel: &Parcel) -> Self::Out
+        ensures { result ≡ Self.told brought parcel.now };
 }

@@ -36,12 +36,37 @@ impl<T> Ghost<T> {
     }
 }
 
+/// What an edit of a buffer puts, and what its answer brings. It lies beside the edit and the answer,
+/// which are small and are handed on by value.
+#[derive(Clone, Copy, Debug, PartialEq, Eq)]
+pub struct Parcel {
+    /// The message that an edit puts, or that its answer brings.
+    pub message: Msg,
+    /// The first number of an answer.
+    pub first: u64,
+    /// The second number of an answer.
+    pub second: u64,
+}
+
+impl Parcel {
+    /// No message, and zeros.
+    pub fn new() -> Parcel
+        ensures { result ≡ record { message = no_message; first = 0; second = 0 } }
+    {
+        Parcel {
+            message: Msg::none(),
+            first: 0,
+            second: 0,
+        }
+    }
+}
+
 /// What lies beside an edit on its way to a block, and beside its answer on the way back. The
 /// layers hand on one reference to it.
 #[derive(Drop)]
 pub struct Payload {
-    /// The message that an edit puts, or that its answer brings.
-    pub message: Msg,
+    /// What an edit puts, or its answer brings.
+    pub parcel: Parcel,
     /// The threads that were taken of a pending queue.
     pub taken: ThreadList,
 }
@@ -49,11 +74,11 @@ pub struct Payload {
 impl Payload {
     /// An empty payload.
     pub fn new() -> Payload
-        ensures message { result.message ≡ no_message }
+        ensures parcel { result.parcel ≡ record { message = no_message; first = 0; second = 0 } }
         ensures taken { result.taken ≡ [] }
     {
         Payload {
-            message: Msg::none(),
+            parcel: Parcel::new(),
             taken: ThreadQueue::new().take(),
         }
     }
@@ -62,7 +87,7 @@ impl Payload {
     pub fn take_threads(&mut self) -> ThreadList
         ensures taken { result ≡ self.old.taken }
         ensures none { self.new.taken ≡ [] }
-        ensures message { self.new.message ≡ self.old.message }
+        ensures parcel { self.new.parcel ≡ self.old.parcel }
     {
         mem::replace(&mut self.taken, ThreadQueue::new().take())
     }

@@ -82,13 +82,13 @@ impl<F: Locked> Law for QLockLaw<F> {
 
     ghost cpu_of_event = { cpu_of_queue_event };
 
-    ghost told = { λ outcome payload. outcome_told (lock_told F.told) outcome payload.message };
+    ghost told = { λ outcome payload. outcome_told (lock_told F.told) outcome payload.parcel };
 
     ghost allowed = { λ opening. QueueAllowed (lock_kernel F.rules opening) };
 
     ghost IsThere = { λ opening call payload. IsSome (opening (Buffer call.buffer)) };
 
-    ghost IsLocal = { λ own call payload. IsSome (slept_for own.slept (lock_caller F.rules (lock_meant F.meant call.edit payload.message))) };
+    ghost IsLocal = { λ own call payload. IsSome (slept_for own.slept (lock_caller F.rules (lock_meant F.meant call.edit payload.parcel))) };
 
     ghost AreHomes = { λ homes. length homes ≤ THREADS };
 
@@ -97,20 +97,20 @@ impl<F: Locked> Law for QLockLaw<F> {
     ghost Boots = { λ opening seen homes cpu. (seen ≡ []) × (homes_in opening ≡ homes) × IsSome (opening (Pending cpu)) × AreAtRest (inner opening) };
 
     ghost MayPoll = { λ opening cpu seen own under_way call payload. MayCallLock F.rules (lock_kernel F.rules opening) cpu seen own under_way
-        call.buffer (lock_meant F.meant call.edit payload.message) };
+        call.buffer (lock_meant F.meant call.edit payload.parcel) };
 
     ghost LeavesBegun = { λ _ _ _ _ _. Unit {0} };
 
     ghost Polled = { λ opening ActsFor cpu call payload told old new own own' begun. LockPolled F.rules (lock_kernel F.rules opening) ActsFor cpu
-        call.buffer (lock_meant F.meant call.edit payload.message) (slept_for own.slept (lock_caller F.rules (lock_meant F.meant call.edit payload.message)))
+        call.buffer (lock_meant F.meant call.edit payload.parcel) (slept_for own.slept (lock_caller F.rules (lock_meant F.meant call.edit payload.parcel)))
         old new own begun (record { own = own'; answer = told }) };
 
-    ghost IsPrompt = { λ call payload result own own'. result ≡ None → MustWait (lock_caller F.rules (lock_meant F.meant call.edit payload.message)) call.buffer own own' };
+    ghost IsPrompt = { λ call payload result own own'. result ≡ None → MustWait (lock_caller F.rules (lock_meant F.meant call.edit payload.parcel)) call.buffer own own' };
 
     ghost table = { table_of (queue_rules (lock_rules F.rules) (lock_moves F.rules)) };
 
     ghost plan = { λ opening cpu call payload own. lock_plan (lock_moves F.rules) (homes_in opening) cpu call.buffer
-        (lock_meant F.meant call.edit payload.message) own };
+        (lock_meant F.meant call.edit payload.parcel) own };
 
     ghost events_in = { λ acts. map event_of (sections_in acts) };
 

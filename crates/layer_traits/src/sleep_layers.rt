@@ -94,7 +94,7 @@ impl<E: Sleeps> Law for SleepLaw<E> {
 
     ghost cpu_of_event = { cpu_of_queue_event };
 
-    ghost told = { λ outcome payload. outcome_told E.told outcome payload.message };
+    ghost told = { λ outcome payload. outcome_told E.told outcome payload.parcel };
 
     ghost allowed = { λ opening. QueueAllowed (sleep_kernel E.rules opening) };
 
@@ -106,21 +106,21 @@ impl<E: Sleeps> Law for SleepLaw<E> {
 
     ghost Boots = { λ opening seen homes cpu. (seen ≡ []) × (homes_in opening ≡ homes) × IsSome (opening (Pending cpu)) × NobodySleeps (inner opening) };
 
-    ghost MayPoll = { λ opening cpu seen own under_way call payload. MayCall under_way (sched.OnBuffer call.buffer (E.meant call.edit payload.message))
-        (MaySleep (sleep_kernel E.rules opening) cpu seen own.threads call.buffer (E.meant call.edit payload.message)) };
+    ghost MayPoll = { λ opening cpu seen own under_way call payload. MayCall under_way (sched.OnBuffer call.buffer (E.meant call.edit payload.parcel))
+        (MaySleep (sleep_kernel E.rules opening) cpu seen own.threads call.buffer (E.meant call.edit payload.parcel)) };
 
     ghost LeavesBegun = { λ cpu call payload result begun. begun ≡ until_answered result
-        (sched.OnBuffer call.buffer (E.meant call.edit payload.message)) };
+        (sched.OnBuffer call.buffer (E.meant call.edit payload.parcel)) };
 
     ghost Polled = { λ opening ActsFor cpu call payload told old new own own' begun. SleepPolled (sleep_kernel E.rules opening) ActsFor cpu
-        call.buffer (E.meant call.edit payload.message) old new own (record { own = own'; answer = told }) };
+        call.buffer (E.meant call.edit payload.parcel) old new own (record { own = own'; answer = told }) };
 
     ghost IsPrompt = { λ call payload result own own'. result ≡ None → MustSend own own' };
 
     ghost table = { table_of (queue_rules (sleep_rules E.rules) (sleep_moves E.rules)) };
 
     ghost plan = { λ opening cpu call payload own. sleep_plan (sleep_moves E.rules) (homes_in opening) cpu call.buffer
-        (E.meant call.edit payload.message) own };
+        (E.meant call.edit payload.parcel) own };
 
     ghost events_in = { λ acts. map event_of (sections_in acts) };
 

@@ -5,7 +5,8 @@
 ghost use Rattle.std.specs.Prelude.{◌≡◌};
 
 use crate::moves::WaitList;
-use event_log::{Msg, Tid};
+use crate::payloads::Parcel;
+use event_log::Tid;
 
 /// Who leaves the waiting lists of a lock in a section.
 #[derive(Clone, Copy, Debug, PartialEq, Eq)]
@@ -34,7 +35,7 @@ pub struct Outcome<O> {
 /// An edit of a sleeping layer. It says which waiting list of its lock its caller joins, if any,
 /// and who leaves one; the layer keeps the lists.
 pub trait Sleeps: Sized + Drop {
-    ghost use Rattle.event_log.specs.declared.messages.Msg.{Msg};
+    ghost use Rattle.layer_traits.specs.declared.payloads.Parcel.{Parcel};
     ghost use Rattle.layer_traits.specs.Sleeping.{SleepRules};
 
     /// What the lock guards besides its waiting lists.
@@ -56,17 +57,17 @@ pub trait Sleeps: Sized + Drop {
 
     /// The thread that calls.
     fn caller(handed: &Self::Handed) -> Tid
-        ensures { (message : Msg) → result ≡ rules.caller (meant handed.now message) };
+        ensures { (parcel : Parcel) → result ≡ rules.caller (meant handed.now parcel) };
 
     /// The edit that is meant by what is handed on, with this message beside it.
-    ghost meant: { Self.Handed → Msg → Self };
+    ghost meant: { Self.Handed → Parcel → Self };
 
     /// The answer that is told by what is handed back, with this message beside it.
-    ghost told: { Self.Brought → Msg → Self.Out };
+    ghost told: { Self.Brought → Parcel → Self.Out };
 
     /// The edit that is meant.
-    fn whole(handed: &Self::Handed, message: &Msg) -> Self
-        ensures { result ≡ meant handed.now message.now };
+    fn whole(handed: &Self::Handed, parcel: &Parcel) -> Self
+        ensures { result ≡ meant handed.now parcel.now };
 
     /// Edits `block` as is meant. The answer is told by what it returns and the message that it
     /// leaves. `first` is the first of those that sleep for the lock. Takes no memory.
@@ -74,27 +75,27 @@ pub trait Sleeps: Sized + Drop {
         handed: &Self::Handed,
         first: Option<Tid>,
         block: &mut Self::Block,
-        message: &mut Msg,
+        parcel: &mut Parcel,
     ) -> Self::Brought
-        ensures block { block.new ≡ rules.edited (meant handed.now message.old) first block.old }
-        ensures answer { told result message.new ≡ rules.answer (meant handed.now message.old) first block.old };
+        ensures block { block.new ≡ rules.edited (meant handed.now parcel.old) first block.old }
+        ensures answer { told result parcel.new ≡ rules.answer (meant handed.now parcel.old) first block.old };
 
     /// Which waiting list the caller joins; `None` where it does not fall asleep.
     fn joins(brought: &Self::Brought) -> Option<WaitList>
-        ensures { (message : Msg) → result ≡ rules.joins (told brought.now message) };
+        ensures { (parcel : Parcel) → result ≡ rules.joins (told brought.now parcel) };
 
     /// Who leaves the lock's waiting lists.
     fn leaves(brought: &Self::Brought) -> Wake
-        ensures { (message : Msg) → result ≡ rules.leaves (told brought.now message) };
+        ensures { (parcel : Parcel) → result ≡ rules.leaves (told brought.now parcel) };
 }
 
 /// An edit of a sleeping layer in one piece: it is copied, and holds what it puts.
 pub trait WholeSleeps: Sleeps + Copy {
     /// What is handed on of this edit. The message that it puts lies beside it then.
-    fn hand_on(self, message: &mut Msg) -> Self::Handed
-        ensures { Self.meant result message.new ≡ self };
+    fn hand_on(self, parcel: &mut Parcel) -> Self::Handed
+        ensures { Self.meant result parcel.new ≡ self };
 
     /// The answer in one piece, with this message beside what is handed back.
-    fn bring_back(brought: Self::Brought, message: &Msg) -> Self::Out
-        ensures { result ≡ Self.told brought message.now };
+    fn bring_back(brought: Self::Brought, parcel: &Parcel) -> Self::Out
+        ensures { result ≡ Self.told brought parcel.now };
 }
