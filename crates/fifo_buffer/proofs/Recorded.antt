@@ -16,7 +16,6 @@ use Rattle.layer_traits.specs.CvLaw.{Waiting}
 use Rattle.layer_traits.specs.ListsAgree.{is_at}
 use Rattle.layer_traits.specs.LockLaw.{LocksAgree, lock_kernel}
 use Rattle.layer_traits.specs.Locking.{wait_list_in, lock_after}
-use Rattle.layer_traits.specs.Payloads.{told_by}
 use Rattle.layer_traits.specs.Places.{AreMoves, Stands, Threads, home_of, one_if, wait_channel_of}
 use Rattle.layer_traits.specs.QueueBlocks.{homes_in, inner}
 use Rattle.layer_traits.specs.Queues.{buffer_sections, moves_in}
@@ -33,11 +32,6 @@ pub recorded_left : (t : Tid) (call : Call) (call_state : CallState) (call_state
     ≡ record { own = buffering cv now; answer = if done then replied call call_state stage else None }
 recorded_left t call call_state call_states now stage cv None done is same = rw (is, same) refl
 recorded_left t call call_state call_states now stage cv (Some outcome) done is same = rw (is, same) refl
-
--- an answer tells something exactly where there is one
-pub told_some : {B P T : Type 0} (told : B → P → T) (brought : Option B) (payload : P) → is_some (told_by told brought payload) ≡ is_some brought
-told_some told None payload = refl
-told_some told (Some answer) payload = refl
 
 module _ (opening : LockId → Option (QueueBlock BufferLock)) (c : CpuId) (past : List BufferEvent) (own : Threads) (t : Tid)
     (legal : AreMoves (homes_in opening) (moves_in (lock_kernel (cv_rules buffer_monitor_rules) opening) past))

@@ -20,3 +20,4 @@ pub mod EffectRunLemmas
 pub mod ItemLemmas
 pub mod CapacityLemmas
 pub mod FrameLemmas
+pub mod ToldLemmas

@@ -37,6 +37,7 @@ ghost use Rattle.layer_traits.specs.BufferEffects.{MayTakeEffect, effects_in};
 ghost use Rattle.layer_traits.specs.IpcLaw.{WaitListsAgree, NothingDone, OpensSo};
 
 use crate::calls::{Call, Effect, Reply, ReplyKind};
+use crate::own_threads::OwnThreads;
 use crate::passes::Pass;
 use event_log::{CpuId, Msg, Tid};
 
@@ -144,18 +145,34 @@ pub trait CallLayer<L: CallLaw>: Sized {
     fn is_busy(&self) -> bool
         ensures { result ≡ is_inside self.now };
 
+    /// The CPU's threads, where they lie.
+    fn own_threads(&self) -> &OwnThreads
+        ensures { result.now ≡ threads self.now };
+
     /// The thread that runs.
+    #[inline(always)]
     fn current(&self) -> Option<Tid>
-        ensures { result ≡ (threads self.now).current };
+        ensures { result ≡ (threads self.now).current }
+    {
+        self.own_threads().current()
+    }
 
     /// The thread that this CPU woke and has yet to send home.
+    #[inline(always)]
     fn hand(&self) -> Option<Tid>
-        ensures { result ≡ (threads self.now).hand };
+        ensures { result ≡ (threads self.now).hand }
+    {
+        self.own_threads().hand()
+    }
 
     /// Whether a thread is ready.
+    #[inline(always)]
     fn has_ready(&self) -> bool
         ensures some { result ≡ true → (threads self.now).ready ≢ [] }
-        ensures none { result ≡ false → (threads self.now).ready ≡ [] };
+        ensures none { result ≡ false → (threads self.now).ready ≡ [] }
+    {
+        self.own_threads().has_ready()
+    }
 
     /// The effect of this thread's newest call, from the poll in which it came until the thread's
     /// next call begins.
@@ -202,12 +219,7 @@ pub trait CallLayer<L: CallLaw>: Sized {
     /// Requires: what the call is on is there, part and machine agree, there is room for an event,
     /// `t` runs here, the call is the one that `t` has begun or `t` is between calls, and the CPU has
     /// nothing else under way. If it has nothing under way, no woken thread is in its hand.
-    fn poll_kind(
-        &mut self,
-        m: &mut Self::Machine,
-        t: Tid,
-        call: &Call,
-    ) -> Option<ReplyKind>
+    fn poll_kind(&mut self, m: &mut Self::Machine, t: Tid, call: &Call) -> Option<ReplyKind>
         requires fits { Fits self.old m.old }
         requires there { L.IsThere (caps m.old) call.now }
         requires room { 0 < room m.old }

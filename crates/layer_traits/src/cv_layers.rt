@@ -9,13 +9,14 @@ ghost use Rattle.event_log.specs.declared.ids.TheConstants.{THREADS};
 ghost use Rattle.event_log.specs.Sections.{sections_in};
 ghost use Rattle.layer_traits.specs.Conditions.{cv_rules};
 ghost use Rattle.layer_traits.specs.LockLaw.{LockAgrees, lock_kernel, slept_for, is_handed};
-ghost use Rattle.layer_traits.specs.Locking.{AreAtRest, lock_caller, lock_moves, lock_rules};
+ghost use Rattle.layer_traits.specs.Locking.{AreAtRest, lock_after, lock_caller, lock_moves, lock_rules};
+ghost use Rattle.layer_traits.specs.Owned.{wait_list_under};
 ghost use Rattle.layer_traits.specs.Payloads.{cv_meant, cv_told, lock_meant, lock_told, outcome_told};
-ghost use Rattle.layer_traits.specs.Places.{AreMoves};
+ghost use Rattle.layer_traits.specs.Places.{AreMoves, pending_by};
 ghost use Rattle.layer_traits.specs.Plans.{table_of};
 ghost use Rattle.layer_traits.specs.QueueBlocks.{StartsWell, homes_in, inner};
 ghost use Rattle.layer_traits.specs.QueueRules.{AreProper, queue_rules};
-ghost use Rattle.layer_traits.specs.Queues.{QueueAllowed, cpu_of_queue_event, event_of, moves_in};
+ghost use Rattle.layer_traits.specs.Queues.{QueueAllowed, buffer_sections, cpu_of_queue_event, event_of, moves_in};
 ghost use Rattle.layer_traits.specs.Scheds.{SchedPolled};
 ghost use Rattle.layer_traits.specs.SleepLaw.{done_if};
 ghost use Rattle.layer_traits.specs.declared.scheds.SchedCall.TheVariants as sched;
@@ -23,6 +24,7 @@ ghost use Rattle.layer_traits.specs.declared.scheds.SchedCall.TheVariants as sch
 use crate::conditions::{CvEdit, CvLeave, CvOut, Guarded};
 use crate::layers::Law;
 use crate::locked::{QEdit, QOut};
+use crate::owned_layers::SleeperLaw;
 use crate::qlock_layers::LockStateOf;
 use crate::queue_edits::{QueueBlock, QueueEdit};
 use crate::queues::{QueueAnswer, QueueEvent};
@@ -134,6 +136,22 @@ impl<G: Guarded> ThreadLaw for CvLaw<G> {
         × (own'.waits ≡ own.waits) };
 
     ghost pass_plan = { λ opening cpu call own. cv_pass_plan (lock_moves (cv_rules G.monitor_rules)) (homes_in opening) cpu call own };
+}
+
+impl<G: Guarded> SleeperLaw for CvLaw<G> {
+    type Seen = LockStateOf<G::Block>;
+
+    type Above = G::Block;
+
+    ghost above = { λ state. state.above };
+
+    ghost block_after = { λ opening seen b. lock_after (cv_rules G.monitor_rules) (inner opening) (Buffer b) (buffer_sections seen) };
+
+    ghost pending_after = { λ opening seen d. pending_by (moves_in (lock_kernel (cv_rules G.monitor_rules) opening) seen) d };
+
+    ghost owner_of = { λ state. state.owner };
+
+    ghost wait_list_of = { wait_list_under };
 }
 
 /// One CPU's part of a layer of queuing locks with conditions. A poll does at most one atomic action;

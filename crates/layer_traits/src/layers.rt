@@ -115,7 +115,7 @@ pub trait Law {
 /// the layers above a call is one event.
 ///
 /// No call takes memory.
-pub trait Layer<L: Law> {
+pub trait Layer<L: Law>: Sized {
     /// What lies beneath.
     type Machine;
 
@@ -180,6 +180,10 @@ pub trait Layer<L: Law> {
     /// Whether the CPU waits at a lock or holds one.
     fn is_busy(&self) -> bool
         ensures { result ≡ is_inside self.now };
+
+    /// What the part has of its own, where it lies.
+    fn own_here(&self) -> &L::State
+        ensures { result.now ≡ own self.now };
 
     /// Looks again for a section that waits at its lock, and returns whether it did: a poll that ends
     /// nothing, so it needs no call and has no answer. If it returns `false` nothing has changed,

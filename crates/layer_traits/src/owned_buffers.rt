@@ -63,14 +63,6 @@ pub trait OwnedBuffers: CallLayer<BufferLaw> {
     /// The pending queue of a CPU where it is in the hands of the part's CPU.
     ghost queue_with: { Self → CpuId → Option (List Tid) };
 
-    /// Whether `t` is ready on this CPU.
-    fn is_ready(&self, t: Tid) -> bool
-        ensures { result ≡ is_in t (Self.threads self.now).ready };
-
-    /// Whether `t` has ended on this CPU.
-    fn has_ended(&self, t: Tid) -> bool
-        ensures { result ≡ is_in t (Self.threads self.now).ended };
-
     /// The items of the buffer `b`, first in front; `None` where its block is in the hands of a CPU.
     ///
     /// Requires: the machine's holder acts for some CPU, and the buffer is there.

@@ -3,23 +3,25 @@
 //! No call takes memory, and none waits.
 
 ghost use Rattle.std.specs.Prelude.{◌≡◌, ◌≤◌, [], IsSome, None, length, map};
-ghost use Rattle.layer_traits.specs.Locking.{LockState, AreAtRest, lock_caller, lock_moves, lock_rules};
+ghost use Rattle.layer_traits.specs.Locking.{LockState, AreAtRest, lock_after, lock_caller, lock_moves, lock_rules};
 ghost use Rattle.layer_traits.specs.LockLaw.{Locking, at_start, LockAgrees, LockPolled, MayCallLock, MustWait, lock_kernel, lock_plan, slept_for, is_handed, lock_pass_plan};
 ghost use Rattle.event_log.specs.declared.ids.LockId.TheVariants.{Buffer, Pending};
 ghost use Rattle.event_log.specs.declared.ids.TheConstants.{THREADS};
 ghost use Rattle.event_log.specs.Sections.{sections_in};
+ghost use Rattle.layer_traits.specs.Owned.{wait_list_under};
 ghost use Rattle.layer_traits.specs.Payloads.{lock_meant, lock_told, outcome_told};
-ghost use Rattle.layer_traits.specs.Places.{AreMoves};
+ghost use Rattle.layer_traits.specs.Places.{AreMoves, pending_by};
 ghost use Rattle.layer_traits.specs.Plans.{table_of};
 ghost use Rattle.layer_traits.specs.QueueBlocks.{StartsWell, homes_in, inner};
 ghost use Rattle.layer_traits.specs.QueueRules.{AreProper, queue_rules};
-ghost use Rattle.layer_traits.specs.Queues.{QueueAllowed, cpu_of_queue_event, event_of, moves_in};
+ghost use Rattle.layer_traits.specs.Queues.{QueueAllowed, buffer_sections, cpu_of_queue_event, event_of, moves_in};
 ghost use Rattle.layer_traits.specs.Scheds.{SchedPolled};
 ghost use Rattle.layer_traits.specs.SleepLaw.{done_if};
 ghost use Rattle.layer_traits.specs.declared.scheds.SchedCall.TheVariants as sched;
 
 use crate::layers::Law;
 use crate::locked::{Locked, QEdit, QOut};
+use crate::owned_layers::SleeperLaw;
 use crate::queue_edits::{QueueBlock, QueueEdit};
 use crate::queues::{QueueAnswer, QueueEvent};
 use crate::scheds::SchedCall;
@@ -138,6 +140,22 @@ impl<F: Locked> ThreadLaw for QLockLaw<F> {
     ghost KeepsRest = { λ own own'. (own'.sleep.deferred ≡ own.sleep.deferred) × (own'.slept ≡ own.slept) };
 
     ghost pass_plan = { λ opening cpu call own. lock_pass_plan (lock_moves F.rules) (homes_in opening) cpu call own };
+}
+
+impl<F: Locked> SleeperLaw for QLockLaw<F> {
+    type Seen = LockStateOf<F::Block>;
+
+    type Above = F::Block;
+
+    ghost above = { λ state. state.above };
+
+    ghost block_after = { λ opening seen b. lock_after F.rules (inner opening) (Buffer b) (buffer_sections seen) };
+
+    ghost pending_after = { λ opening seen d. pending_by (moves_in (lock_kernel F.rules opening) seen) d };
+
+    ghost owner_of = { λ state. state.owner };
+
+    ghost wait_list_of = { wait_list_under };
 }
 
 /// One CPU's part of a layer of queuing locks. A poll does at most one atomic action of the current

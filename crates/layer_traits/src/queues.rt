@@ -3,16 +3,19 @@
 //! No call takes memory, and none waits.
 
 ghost use Rattle.std.specs.Prelude.{◌≡◌, IsSome, map};
-ghost use Rattle.event_log.specs.Sections.{sections_in};
+ghost use Rattle.event_log.specs.declared.ids.LockId.TheVariants.{Buffer};
+ghost use Rattle.event_log.specs.Sections.{block_after, sections_in};
 ghost use Rattle.layer_traits.specs.Payloads.{call_meant, queue_told};
+ghost use Rattle.layer_traits.specs.Places.{pending_by};
 ghost use Rattle.layer_traits.specs.Plans.{table_of};
 ghost use Rattle.layer_traits.specs.Polls.{until_answered};
-ghost use Rattle.layer_traits.specs.QueueBlocks.{StartsWell};
+ghost use Rattle.layer_traits.specs.QueueBlocks.{StartsWell, inner};
 ghost use Rattle.layer_traits.specs.QueueRules.{AreProper, queue_rules};
-ghost use Rattle.layer_traits.specs.Queues.{MayQueue, QueueAllowed, QueuePolled, cpu_of_queue_event, event, event_of, kernel, lock_of, queue_plan};
+ghost use Rattle.layer_traits.specs.Queues.{MayQueue, QueueAllowed, QueuePolled, buffer_sections, cpu_of_queue_event, event, event_of, kernel, lock_of, moves_in, queue_plan};
 
 use crate::layers::{Law, Layer};
 use crate::moves::Moves;
+use crate::owned_layers::BlockLaw;
 use crate::queue_edits::{QueueBlock, QueueEdit};
 use event_log::{BufId, CpuId, Tid};
 use std::marker::PhantomData;
@@ -113,6 +116,18 @@ impl<E: Moves> Law for QueueLaw<E> {
     ghost Starts = { StartsWell };
 
     ghost AreProper = { λ acts. AreProper (sections_in acts) };
+}
+
+impl<E: Moves> BlockLaw for QueueLaw<E> {
+    type Seen = E::Block;
+
+    type Above = E::Block;
+
+    ghost above = { λ block. block };
+
+    ghost block_after = { λ opening seen b. block_after E.rules.edited (inner opening) (Buffer b) (buffer_sections seen) };
+
+    ghost pending_after = { λ opening seen d. pending_by (moves_in (kernel E.rules E.moves opening) seen) d };
 }
 
 /// One CPU's part of a layer of shared queues. A poll does at most one atomic action of the call. To

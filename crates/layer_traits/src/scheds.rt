@@ -1,26 +1,27 @@
 //! The layer of schedulers.
 
 ghost use Rattle.std.specs.Prelude.{◌≡◌, ◌≢◌, ◌≤◌, true, false, length, [], IsSome, map};
-ghost use Rattle.layer_traits.specs.Places.{Threads, at_boot, Stands};
-ghost use Rattle.event_log.specs.declared.ids.LockId.TheVariants.{Pending};
+ghost use Rattle.layer_traits.specs.Places.{at_boot, pending_by, Stands};
+ghost use Rattle.event_log.specs.declared.ids.LockId.TheVariants.{Buffer, Pending};
 ghost use Rattle.event_log.specs.declared.ids.TheConstants.{THREADS};
-ghost use Rattle.event_log.specs.Sections.{sections_in};
+ghost use Rattle.event_log.specs.Sections.{block_after, sections_in};
 ghost use Rattle.layer_traits.specs.Payloads.{sched_meant, sched_told};
 ghost use Rattle.layer_traits.specs.Plans.{table_of};
 ghost use Rattle.layer_traits.specs.Polls.{until_answered};
-ghost use Rattle.layer_traits.specs.QueueBlocks.{StartsWell, homes_in};
+ghost use Rattle.layer_traits.specs.QueueBlocks.{StartsWell, homes_in, inner};
 ghost use Rattle.layer_traits.specs.QueueRules.{AreProper, queue_rules};
-ghost use Rattle.layer_traits.specs.Queues.{QueueAllowed, cpu_of_queue_event, event_of, kernel, moves_in};
+ghost use Rattle.layer_traits.specs.Queues.{QueueAllowed, buffer_sections, cpu_of_queue_event, event_of, kernel, moves_in};
 ghost use Rattle.layer_traits.specs.Scheds.{BufferIsThere, IsLocal, MaySched, SchedPolled, sched_plan};
-ghost use Rattle.thread_blocks.specs.Queues.{is_in};
 
 use crate::layers::{Law, Layer};
 use crate::moves::Moves;
+use crate::own_threads::OwnThreads;
+use crate::owned_layers::BlockLaw;
 use crate::passes::Pass;
 use crate::queue_edits::{QueueBlock, QueueEdit};
 use crate::queues::{QueueAnswer, QueueEvent};
 use event_log::{BufId, Tid};
-use std::marker::{Model, PhantomData};
+use std::marker::PhantomData;
 
 /// A call of a CPU's scheduler.
 #[derive(Clone, Copy, Debug, PartialEq, Eq)]
@@ -38,18 +39,6 @@ pub enum SchedAnswer<O> {
     Done,
     /// What the edit answers.
     Answer(O),
-}
-
-/// Stands in clauses for the threads of a CPU: who runs, who is ready, who has ended, and who is in
-/// its hand.
-pub struct ThreadsOf {
-    nothing: (),
-}
-
-impl Model for ThreadsOf {
-    ghost Value = { Threads };
-
-    ghost view = { λ _. at_boot [] (record { 0 = 0 }) };
 }
 
 /// The law of schedulers: which thread runs on a CPU, who is ready there, who has ended, and the
@@ -77,7 +66,7 @@ impl<E: Moves> Law for SchedLaw<E> {
 
     type Begun = SchedCall<E>;
 
-    type State = ThreadsOf;
+    type State = OwnThreads;
 
     ghost cpu_of_event = { cpu_of_queue_event };
 
@@ -116,27 +105,45 @@ impl<E: Moves> Law for SchedLaw<E> {
     ghost Agrees = { λ opening cpu seen own. Stands (homes_in opening) cpu (moves_in (kernel E.rules E.moves opening) seen) own };
 }
 
+impl<E: Moves> BlockLaw for SchedLaw<E> {
+    type Seen = E::Block;
+
+    type Above = E::Block;
+
+    ghost above = { λ block. block };
+
+    ghost block_after = { λ opening seen b. block_after E.rules.edited (inner opening) (Buffer b) (buffer_sections seen) };
+
+    ghost pending_after = { λ opening seen d. pending_by (moves_in (kernel E.rules E.moves opening) seen) d };
+}
+
 /// One CPU's part of a layer of schedulers. A poll does at most one atomic action of the call. To the
 /// layers above a call is one event.
 pub trait SchedLayer<E: Moves>: Layer<SchedLaw<E>> {
     /// The thread that runs; `None` if none does.
+    #[inline(always)]
     fn current(&self) -> Option<Tid>
-        ensures { result ≡ (Self.own self.now).current };
+        ensures { result ≡ (Self.own self.now).current }
+    {
+        self.own_here().current()
+    }
 
     /// The woken thread in hand, whose home is elsewhere; `None` if there is none.
+    #[inline(always)]
     fn hand(&self) -> Option<Tid>
-        ensures { result ≡ (Self.own self.now).hand };
+        ensures { result ≡ (Self.own self.now).hand }
+    {
+        self.own_here().hand()
+    }
 
     /// Whether any thread is ready.
+    #[inline(always)]
     fn has_ready(&self) -> bool
         ensures some { result ≡ true → (Self.own self.now).ready ≢ [] }
-        ensures none { result ≡ false → (Self.own self.now).ready ≡ [] };
-
-    /// Whether `t` is ready here.
-    fn is_ready(&self, t: Tid) -> bool
-        ensures { result ≡ is_in t (Self.own self.now).ready };
-
-    /// Whether `t` has ended here.
-    fn has_ended(&self, t: Tid) -> bool
-        ensures { result ≡ is_in t (Self.own self.now).ended };
+        ensures none { result ≡ false → (Self.own self.now).ready ≡ [] }
+    {
+        self.own_here().has_ready()
+    }
 }
+
+impl<E: Moves, X: Layer<SchedLaw<E>>> SchedLayer<E> for X {}

@@ -3,23 +3,25 @@
 //! No call takes memory, and none waits.
 
 ghost use Rattle.std.specs.Prelude.{◌≡◌, ◌≤◌, [], IsSome, None, length, map, false};
-ghost use Rattle.layer_traits.specs.Sleeping.{SleepState, NobodySleeps, sleep_moves, sleep_rules};
-ghost use Rattle.layer_traits.specs.Places.{at_boot, AreMoves};
+ghost use Rattle.layer_traits.specs.Sleeping.{SleepState, NobodySleeps, sleep_edited, sleep_moves, sleep_rules};
+ghost use Rattle.layer_traits.specs.Places.{at_boot, pending_by, AreMoves};
 ghost use Rattle.layer_traits.specs.SleepLaw.{Sleeping, MayCall, MaySleep, MustSend, SleepPolled, sleep_kernel, sleep_plan, done_if, pass_plan};
 ghost use Rattle.event_log.specs.declared.ids.LockId.TheVariants.{Buffer, Pending};
 ghost use Rattle.event_log.specs.declared.ids.TheConstants.{THREADS};
-ghost use Rattle.event_log.specs.Sections.{sections_in};
+ghost use Rattle.event_log.specs.Sections.{block_after, sections_in};
 ghost use Rattle.layer_traits.specs.ListsAgree.{SleepAgrees};
+ghost use Rattle.layer_traits.specs.Owned.{wait_list_with};
 ghost use Rattle.layer_traits.specs.Payloads.{outcome_told};
 ghost use Rattle.layer_traits.specs.Plans.{table_of};
 ghost use Rattle.layer_traits.specs.Polls.{until_answered};
 ghost use Rattle.layer_traits.specs.QueueBlocks.{StartsWell, homes_in, inner};
 ghost use Rattle.layer_traits.specs.QueueRules.{AreProper, queue_rules};
-ghost use Rattle.layer_traits.specs.Queues.{QueueAllowed, cpu_of_queue_event, event_of, moves_in};
+ghost use Rattle.layer_traits.specs.Queues.{QueueAllowed, buffer_sections, cpu_of_queue_event, event_of, moves_in};
 ghost use Rattle.layer_traits.specs.Scheds.{SchedPolled};
 ghost use Rattle.layer_traits.specs.declared.scheds.SchedCall.TheVariants as sched;
 
 use crate::layers::Law;
+use crate::owned_layers::SleeperLaw;
 use crate::queue_edits::{QueueBlock, QueueEdit};
 use crate::queues::{QueueAnswer, QueueEvent};
 use crate::scheds::SchedCall;
@@ -148,6 +150,22 @@ impl<E: Sleeps> ThreadLaw for SleepLaw<E> {
     ghost KeepsRest = { λ own own'. own'.deferred ≡ own.deferred };
 
     ghost pass_plan = { λ opening cpu call own. pass_plan (sleep_moves E.rules) (homes_in opening) cpu call own };
+}
+
+impl<E: Sleeps> SleeperLaw for SleepLaw<E> {
+    type Seen = SleepStateOf<E::Block>;
+
+    type Above = E::Block;
+
+    ghost above = { λ state. state.above };
+
+    ghost block_after = { λ opening seen b. block_after (sleep_edited E.rules) (inner opening) (Buffer b) (buffer_sections seen) };
+
+    ghost pending_after = { λ opening seen d. pending_by (moves_in (sleep_kernel E.rules opening) seen) d };
+
+    ghost owner_of = { λ state. None };
+
+    ghost wait_list_of = { wait_list_with };
 }
 
 /// One CPU's part of a layer whose sections put threads to sleep and wake them. To the layers above a

@@ -21,9 +21,9 @@ ghost use Rattle.layer_traits.specs.Looks.{Tries};
 ghost use Rattle.layer_traits.specs.Passes.{IsLocalPass, MayPass};
 ghost use Rattle.layer_traits.specs.Polls.{until_answered};
 ghost use Rattle.layer_traits.specs.SleepLaw.{MayCall};
-ghost use Rattle.thread_blocks.specs.Queues.{is_in};
 
 use crate::layers::Law;
+use crate::own_threads::OwnThreads;
 use crate::passes::Pass;
 use crate::payloads::Payload;
 use event_log::{CpuId, LockId, Tid};
@@ -55,7 +55,7 @@ pub trait ThreadLaw: Law {
 /// runs. To the layers above a section is one event.
 ///
 /// No call takes memory.
-pub trait ThreadLayer<L: ThreadLaw> {
+pub trait ThreadLayer<L: ThreadLaw>: Sized {
     /// What lies beneath.
     type Machine;
 
@@ -121,27 +121,35 @@ pub trait ThreadLayer<L: ThreadLaw> {
     fn is_busy(&self) -> bool
         ensures { result ≡ is_inside self.now };
 
+    /// The threads of this CPU, where they lie.
+    fn own_threads(&self) -> &OwnThreads
+        ensures { result.now ≡ L.threads_of (own self.now) };
+
     /// The thread that runs; `None` if none does.
+    #[inline(always)]
     fn current(&self) -> Option<Tid>
-        ensures { result ≡ (L.threads_of (own self.now)).current };
+        ensures { result ≡ (L.threads_of (own self.now)).current }
+    {
+        self.own_threads().current()
+    }
 
     /// The thread in this CPU's hand: woken here, and still to be sent to its home. `None` if there
     /// is none.
+    #[inline(always)]
     fn hand(&self) -> Option<Tid>
-        ensures { result ≡ (L.threads_of (own self.now)).hand };
+        ensures { result ≡ (L.threads_of (own self.now)).hand }
+    {
+        self.own_threads().hand()
+    }
 
     /// Whether any thread is ready here.
+    #[inline(always)]
     fn has_ready(&self) -> bool
         ensures some { result ≡ true → (L.threads_of (own self.now)).ready ≢ [] }
-        ensures none { result ≡ false → (L.threads_of (own self.now)).ready ≡ [] };
-
-    /// Whether `t` is ready here.
-    fn is_ready(&self, t: Tid) -> bool
-        ensures { result ≡ is_in t (L.threads_of (own self.now)).ready };
-
-    /// Whether `t` has ended here.
-    fn has_ended(&self, t: Tid) -> bool
-        ensures { result ≡ is_in t (L.threads_of (own self.now)).ended };
+        ensures none { result ≡ false → (L.threads_of (own self.now)).ready ≡ [] }
+    {
+        self.own_threads().has_ready()
+    }
 
     /// Whether the call of the thread that runs will answer without an action, since it slept for a
     /// lock and was handed it.

@@ -1,5 +1,5 @@
 use Rattle.std.proofs.Common.{◌≡◌, ◌+◌, is_some, true, false, ap, subst, ◌∙◌}
-use Rattle.fifo_buffer.proofs.Recorded.{told_some}
+use Rattle.layer_traits.proofs.ToldLemmas.{told_some}
 use Rattle.layer_traits.specs.Payloads.{told_by}
 use Rattle.layer_traits.specs.Protocol.{section}
 use Rattle.cpu_workers.specs.Counts.{made}

@@ -13,7 +13,8 @@ use Rattle.layer_traits.specs.QueueRules.{queue_rules}
 use Rattle.layer_traits.proofs.CallLemmas.{follows_raised}
 use Rattle.fifo_buffer.specs.SectionPolls.{outcome_of, recorded_if}
 use Rattle.fifo_buffer.proofs.Callers.{Caller}
-use Rattle.fifo_buffer.proofs.Recorded.{recorded_left, runs_awake, runs_home, told_some}
+use Rattle.layer_traits.proofs.ToldLemmas.{told_some}
+use Rattle.fifo_buffer.proofs.Recorded.{recorded_left, runs_awake, runs_home}
 use Rattle.fifo_buffer.proofs.Events.{caller_is}
 use Rattle.fifo_buffer.proofs.Polls.{may_poll_section}
 use Rattle.fifo_buffer.proofs.Pacing.{polled_section}
