@@ -7,7 +7,6 @@ use Rattle.event_log.specs.declared.ids.LockId.{LockId}
 use Rattle.event_log.specs.declared.ids.LockId.TheVariants.{Buffer}
 use Rattle.event_log.specs.declared.ids.Tid.{Tid}
 use Rattle.event_log.specs.declared.ids.TheConstants.{THREADS}
-use Rattle.event_log.specs.declared.messages.Msg.{Msg}
 use Rattle.event_log.specs.Actions.{Action}
 use Rattle.layer_traits.specs.declared.conditions.CvOut.{CvOut}
 use Rattle.layer_traits.specs.declared.conditions.CvOut.TheVariants as answer
@@ -15,6 +14,7 @@ use Rattle.layer_traits.specs.declared.locked.QOut.{QOut}
 use Rattle.layer_traits.specs.declared.locked.QOut.TheVariants.{Acquired, Queued, Did, Released}
 use Rattle.layer_traits.specs.declared.locked.Side.{Side}
 use Rattle.layer_traits.specs.declared.moves.WaitList.{WaitList}
+use Rattle.layer_traits.specs.declared.payloads.Parcel.{Parcel}
 use Rattle.layer_traits.specs.declared.queue_edits.QueueBlock.{QueueBlock}
 use Rattle.layer_traits.specs.declared.queue_edits.QueueEdit.{QueueEdit}
 use Rattle.layer_traits.specs.declared.queues.QueueAnswer.{QueueAnswer}
@@ -117,48 +117,48 @@ over_polled monitor_rules k ActsFor c b call old own under_way side waits some d
     over_at monitor_rules k ActsFor c b call old own under_way _ side waits (slept_for own.waits (lock_caller (cv_rules monitor_rules) call)) some duty.may left
     same now
 
--- whether an answer is that of a wait does not depend on the message beside it
-waited_told : {B O : Type 0} (told : B → Msg → O) (message : Msg) (out : CvOut B) → is_waited (cv_told told out message) ≡ is_waited out
-waited_told told message (answer.Did out) = refl
-waited_told told message (answer.Signalled side front) = refl
-waited_told told message answer.Left = refl
-waited_told told message (answer.Waited side) = refl
+-- whether an answer is that of a wait does not depend on the parcel beside it
+waited_told : {B O : Type 0} (told : B → Parcel → O) (parcel : Parcel) (out : CvOut B) → is_waited (cv_told told out parcel) ≡ is_waited out
+waited_told told parcel (answer.Did out) = refl
+waited_told told parcel (answer.Signalled side front) = refl
+waited_told told parcel answer.Left = refl
+waited_told told parcel (answer.Waited side) = refl
 
-waiting_told : {B O : Type 0} (told : B → Msg → O) (message : Msg) (out : QOut (CvOut B))
-    → is_waiting (lock_told (cv_told told) out message) ≡ is_waiting out
-waiting_told told message Acquired = refl
-waiting_told told message Queued = refl
-waiting_told told message (Did out) = refl
-waiting_told told message (Released out) = waited_told told message out
+waiting_told : {B O : Type 0} (told : B → Parcel → O) (parcel : Parcel) (out : QOut (CvOut B))
+    → is_waiting (lock_told (cv_told told) out parcel) ≡ is_waiting out
+waiting_told told parcel Acquired = refl
+waiting_told told parcel Queued = refl
+waiting_told told parcel (Did out) = refl
+waiting_told told parcel (Released out) = waited_told told parcel out
 
--- what the lock told, with the message beside its answer
-abbrev pub lock_tells : {B O : Type 0} → (B → Msg → O) → Msg → Option (Outcome (QOut (CvOut B))) → Option (Outcome (QOut (CvOut O)))
-lock_tells told message answer = told_by (outcome_told (lock_told (cv_told told))) answer message
+-- what the lock told, with the parcel beside its answer
+abbrev pub lock_tells : {B O : Type 0} → (B → Parcel → O) → Parcel → Option (Outcome (QOut (CvOut B))) → Option (Outcome (QOut (CvOut O)))
+lock_tells told parcel answer = told_by (outcome_told (lock_told (cv_told told))) answer parcel
 
-is_wait_told : {B O : Type 0} (told : B → Msg → O) (message : Msg) (answer : Option (Outcome (QOut (CvOut B))))
-    → is_wait (lock_tells told message answer) ≡ is_wait answer
-is_wait_told told message None = refl
-is_wait_told told message (Some outcome) = waiting_told told message outcome.out
+is_wait_told : {B O : Type 0} (told : B → Parcel → O) (parcel : Parcel) (answer : Option (Outcome (QOut (CvOut B))))
+    → is_wait (lock_tells told parcel answer) ≡ is_wait answer
+is_wait_told told parcel None = refl
+is_wait_told told parcel (Some outcome) = waiting_told told parcel outcome.out
 
 -- so who waits is known from what the lock told
-pub waits_told : {B O : Type 0} (told : B → Msg → O) (message : Msg) (answer : Option (Outcome (QOut (CvOut B)))) (t : Tid) (b : BufId)
+pub waits_told : {B O : Type 0} (told : B → Parcel → O) (parcel : Parcel) (answer : Option (Outcome (QOut (CvOut B)))) (t : Tid) (b : BufId)
     (waits now : List (Option BufId)) → now ≡ (if is_wait answer then slice_set waits t.0 (Some b) else waits)
-    → now ≡ (if is_wait (lock_tells told message answer) then slice_set waits t.0 (Some b) else waits)
-waits_told told message answer t b waits now same =
-    same ∙ ap (λ is. if is then slice_set waits t.0 (Some b) else waits) (sym (is_wait_told told message answer))
+    → now ≡ (if is_wait (lock_tells told parcel answer) then slice_set waits t.0 (Some b) else waits)
+waits_told told parcel answer t b waits now same =
+    same ∙ ap (λ is. if is then slice_set waits t.0 (Some b) else waits) (sym (is_wait_told told parcel answer))
 
-held_back : {B O : Type 0} (told : B → Msg → O) (message : Msg) (answer : Option (Outcome (QOut (CvOut B)))) (is : Bool)
-    → lock_tells told message (if is then None else answer) ≡ (if is then None else lock_tells told message answer)
-held_back told message answer true = refl
-held_back told message answer false = refl
+held_back : {B O : Type 0} (told : B → Parcel → O) (parcel : Parcel) (answer : Option (Outcome (QOut (CvOut B)))) (is : Bool)
+    → lock_tells told parcel (if is then None else answer) ≡ (if is then None else lock_tells told parcel answer)
+held_back told parcel answer true = refl
+held_back told parcel answer false = refl
 
 -- and so is what is held back
-pub complete_told : {B O : Type 0} (told : B → Msg → O) (message : Msg) (answer result : Option (Outcome (QOut (CvOut B))))
+pub complete_told : {B O : Type 0} (told : B → Parcel → O) (parcel : Parcel) (answer result : Option (Outcome (QOut (CvOut B))))
     → result ≡ (if is_wait answer then None else answer)
-    → lock_tells told message result ≡ (if is_wait (lock_tells told message answer) then None else lock_tells told message answer)
-complete_told told message answer result same =
-    ap (lock_tells told message) same ∙ held_back told message answer (is_wait answer)
-    ∙ ap (λ is. if is then None else lock_tells told message answer) (sym (is_wait_told told message answer))
+    → lock_tells told parcel result ≡ (if is_wait (lock_tells told parcel answer) then None else lock_tells told parcel answer)
+complete_told told parcel answer result same =
+    ap (lock_tells told parcel) same ∙ held_back told parcel answer (is_wait answer)
+    ∙ ap (λ is. if is then None else lock_tells told parcel answer) (sym (is_wait_told told parcel answer))
 
 -- what the lock's answer leaves, by what it says
 left_by_out : {O : Type 0} (t : Tid) (b : BufId) (waits now : List (Option BufId)) (lock : Locking (CvOut O)) (out : QOut (CvOut O))

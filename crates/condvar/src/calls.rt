@@ -6,15 +6,15 @@ ghost use Rattle.layer_traits.specs.Locking.{lock_caller};
 ghost use Rattle.layer_traits.specs.Payloads.{cv_meant, lock_meant};
 ghost use Rattle.condvar.specs.Waiting.{side_in};
 
-use event_log::{Msg, Tid};
-use layer_traits::{CvEdit, CvLeave, Guarded, QEdit, Side};
+use event_log::Tid;
+use layer_traits::{CvEdit, CvLeave, Guarded, Parcel, QEdit, Side};
 
-/// The thread that calls, with this message beside the call: it depends on no message.
+/// The thread that calls, with this parcel beside the call: it depends on no parcel.
 #[inline(always)]
-pub fn caller_of<G: Guarded>(call: &QEdit<CvEdit<G::Handed>, CvLeave>, message: &Msg) -> Tid
-    ensures { result ≡ lock_caller (cv_rules G.monitor_rules) (lock_meant (cv_meant G.meant) call.now message.now) }
+pub fn caller_of<G: Guarded>(call: &QEdit<CvEdit<G::Handed>, CvLeave>, parcel: &Parcel) -> Tid
+    ensures { result ≡ lock_caller (cv_rules G.monitor_rules) (lock_meant (cv_meant G.meant) call.now parcel.now) }
 {
-    let _ = message;
+    let _ = parcel;
     match call {
         QEdit::Acquire(t) => *t,
         QEdit::Inside(CvEdit::Edit(edit)) => G::caller(edit),
@@ -24,13 +24,13 @@ pub fn caller_of<G: Guarded>(call: &QEdit<CvEdit<G::Handed>, CvLeave>, message: 
     }
 }
 
-/// The side on which a wait is, with this message beside it, which tells nothing of it; `Receivers`
+/// The side on which a wait is, with this parcel beside it, which tells nothing of it; `Receivers`
 /// of a call that is no wait.
 #[inline(always)]
-pub fn side_of<G: Guarded>(call: &QEdit<CvEdit<G::Handed>, CvLeave>, message: &Msg) -> Side
-    ensures { result ≡ side_in (lock_meant (cv_meant G.meant) call.now message.now) }
+pub fn side_of<G: Guarded>(call: &QEdit<CvEdit<G::Handed>, CvLeave>, parcel: &Parcel) -> Side
+    ensures { result ≡ side_in (lock_meant (cv_meant G.meant) call.now parcel.now) }
 {
-    let _ = message;
+    let _ = parcel;
     match call {
         QEdit::Release(CvLeave::Wait(_, side)) => *side,
         QEdit::Release(CvLeave::Leave(_)) | QEdit::Acquire(_) | QEdit::Inside(_) => Side::Receivers,

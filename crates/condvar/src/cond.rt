@@ -4,7 +4,7 @@ use crate::calls::{caller_of, side_of};
 use crate::waits::Waits;
 use event_log::{BufId, CpuId, Tid};
 use layer_traits::{
-    BufferCall, CvEdit, CvLaw, CvLeave, CvOut, Guarded, Outcome, OwnedConds, OwnedQLocks, Pass,
+    BufferCall, CvEdit, CvLaw, CvLeave, CvOut, Guarded, Outcome, OwnThreads, OwnedThreadLayer, Pass,
     Payload, QEdit, QLockLaw, QOut, ThreadLayer, WaitList,
 };
 
@@ -64,28 +64,8 @@ impl<G: Guarded, Q: ThreadLayer<QLockLaw<CvEdit<G>>>> ThreadLayer<CvLaw<G>> for 
     }
 
     #[inline(always)]
-    fn current(&self) -> Option<Tid> {
-        self.lower.current()
-    }
-
-    #[inline(always)]
-    fn hand(&self) -> Option<Tid> {
-        self.lower.hand()
-    }
-
-    #[inline(always)]
-    fn has_ready(&self) -> bool {
-        self.lower.has_ready()
-    }
-
-    #[inline(always)]
-    fn is_ready(&self, t: Tid) -> bool {
-        self.lower.is_ready(t)
-    }
-
-    #[inline(always)]
-    fn has_ended(&self, t: Tid) -> bool {
-        self.lower.has_ended(t)
+    fn own_threads(&self) -> &OwnThreads {
+        self.lower.own_threads()
     }
 
     #[inline(always)]
@@ -105,10 +85,10 @@ impl<G: Guarded, Q: ThreadLayer<QLockLaw<CvEdit<G>>>> ThreadLayer<CvLaw<G>> for 
         call: BufferCall<QEdit<CvEdit<G::Handed>, CvLeave>>,
         payload: &mut Payload,
     ) -> Option<Outcome<QOut<CvOut<G::Brought>>>> {
-        let t = caller_of::<G>(&call.edit, &payload.message);
+        let t = caller_of::<G>(&call.edit, &payload.parcel);
         if self.waits.wake(t) {
             return Some(Outcome {
-                out: QOut::Released(CvOut::Waited(side_of::<G>(&call.edit, &payload.message))),
+                out: QOut::Released(CvOut::Waited(side_of::<G>(&call.edit, &payload.parcel))),
                 slept: false,
                 woke: None,
             });
@@ -148,7 +128,7 @@ impl<G: Guarded, Q: ThreadLayer<QLockLaw<CvEdit<G>>>> ThreadLayer<CvLaw<G>> for 
     ghost idle = { λ p m. Q.idle p.lower m };
 }
 
-impl<G: Guarded, Q: OwnedQLocks<CvEdit<G>>> OwnedConds<G> for Cond<Q> {
+impl<G: Guarded, Q: OwnedThreadLayer<QLockLaw<CvEdit<G>>>> OwnedThreadLayer<CvLaw<G>> for Cond<Q> {
     ghost use Rattle.std.specs.Prelude.{Some, refl};
     ghost use Rattle.event_log.specs.declared.ids.LockId.TheVariants.{Buffer};
     ghost use Rattle.layer_traits.specs.Conditions.{cv_rules};
@@ -159,9 +139,9 @@ impl<G: Guarded, Q: OwnedQLocks<CvEdit<G>>> OwnedConds<G> for Cond<Q> {
     ghost use Rattle.layer_traits.specs.Queues.{buffer_sections, moves_in};
     ghost use Rattle.layer_traits.proofs.OwnedLemmas.{shown_under};
 
-    ghost lock_at = { λ m b. Q.lock_at m b };
+    ghost block_at = { λ m b. Q.block_at m b };
 
-    ghost lock_with = { λ p b. Q.lock_with p.lower b };
+    ghost block_with = { λ p b. Q.block_with p.lower b };
 
     ghost queue_at = { λ m d. Q.queue_at m d };
 
@@ -210,7 +190,7 @@ impl<G: Guarded, Q: OwnedQLocks<CvEdit<G>>> OwnedConds<G> for Cond<Q> {
     ghost shown = { λ m c b acts there. shown_under (λ (p : Self). p.lower) (λ p. Q.Fits p m) (λ (p : Self). Self.Fits p m) (λ p. Q.cpu_of p)
         (λ (p : Self). Q.cpu_of p.lower)
         (Q.MayHold m) (Q.MayHold m)
-        (λ p. Q.lock_with p b) (Q.lock_at m b)
+        (λ p. Q.block_with p b) (Q.block_at m b)
         (lock_after (cv_rules G.monitor_rules) (inner (Q.opening m)) (Buffer b) (buffer_sections (Q.seen m)))
         (λ p fits. fits) (λ p fits. refl) (λ d inside. inside) (Q.shown m c b acts there) };
 

@@ -9,7 +9,7 @@ ghost use Rattle.cpu.specs.Cpus.{begins_at, begun_count, chosen_for, guest_at};
 use crate::guest_tables::Guests;
 use crate::guests::{Guest, Todo};
 use event_log::{CpuId, Entry, Tid};
-use layer_traits::{Call, CallLayer, Effect, Ghost, IpcLaw, Pass, Reason, Reply, Step};
+use layer_traits::{Call, CallLayer, Effect, Ghost, IpcLaw, Pass, Reason, Step};
 
 /// What a CPU does next that is not halted.
 #[derive(Drop)]
@@ -126,9 +126,9 @@ impl<I: CallLayer<IpcLaw>> Cpu<I> {
         ensures table { I.IsStepwise → IsTabledAt ⟦<I as CallLayer<IpcLaw>>⟧ m.new self.new }
         ensures steps { I.IsStepwise → WentAt ⟦<I as CallLayer<IpcLaw>>⟧ m.old self.old m.new self.new Stepped }
     {
-        let answer = self.part.poll(m, thread, call);
+        let answer = self.part.poll_kind(m, thread, call);
         let effect = self.part.effect_here(thread);
-        let fresh = self.guests.note_poll(thread, effect, &answer);
+        let fresh = self.guests.note_poll(thread, effect, answer);
         note_effect(&mut self.trace, self.number, thread, call, fresh, effect);
     }
 

@@ -3,13 +3,13 @@
 ghost use Rattle.std.specs.Prelude.{◌≡◌, ◌+◌, ◌^◌, ◌<◌, ◌≤◌, not, length, if◌then◌else◌, Some, None};
 ghost use Rattle.std.specs.List.{count_by, list_all};
 ghost use Rattle.layer_traits.specs.Places.{one_if};
-ghost use Rattle.cpu.specs.Guests.{computed, is_begun, is_ended, polled};
+ghost use Rattle.cpu.specs.Guests.{answer_with, computed, is_begun, is_ended, polled};
 ghost use Rattle.layer_traits.specs.declared.calls.Call.{Call};
 ghost use Rattle.cpu.specs.Cpus.{begun_count, fresh_at, guest_at, is_begun_guest, is_over, passed_by, stands_at, with_guest};
 
 use crate::guests::{Guest, GuestStage};
 use event_log::{BufId, Tid};
-use layer_traits::{Call, Effect, Ghost, Pass, Reply};
+use layer_traits::{Call, Effect, Ghost, Pass, ReplyKind};
 use std::marker::Model;
 
 /// The guest of each thread by its number, `None` at threads of other homes. It is seen as their
@@ -108,10 +108,10 @@ impl Guests {
         &mut self,
         thread: Tid,
         effect: &Option<Effect>,
-        answer: &Option<Reply>,
+        answer: Option<ReplyKind>,
     ) -> bool
         requires { thread.0 < length self.old.items }
-        ensures guests { self.new.items ≡ with_guest self.old.items thread.0 (λ g. polled g effect.now answer.now) }
+        ensures guests { self.new.items ≡ with_guest self.old.items thread.0 (λ g. polled g effect.now (answer_with effect.now answer)) }
         ensures fresh { (if result then effect.now else None) ≡ fresh_at (guest_at self.old.items thread.0) effect.now }
     {
         let Some(guest) = &mut self.table[usize::from(thread.0)] else {

@@ -3,11 +3,12 @@
 ghost use Rattle.std.specs.Prelude.{◌≡◌, Option, None, if◌then◌else◌};
 ghost use Rattle.layer_traits.specs.declared.calls.Call.{Call};
 ghost use Rattle.layer_traits.specs.declared.calls.Effect.{Effect};
+ghost use Rattle.layer_traits.specs.BufferLaw.{message_of};
 ghost use Rattle.cpu.specs.declared.guests.Todo.TheVariants.{Calls};
 
-use event_log::BufId;
+use event_log::{BufId, Msg};
 use guest::{Instruction, Program, Thread};
-use layer_traits::{Call, Effect, Ghost, Pass, Reply};
+use layer_traits::{Call, Effect, Ghost, Pass, ReplyKind};
 
 /// How a guest stands to its program.
 #[derive(Clone, Copy, Debug, PartialEq, Eq)]
@@ -74,7 +75,7 @@ pub struct Guest {
 }
 
 impl Guest {
-    ghost use Rattle.cpu.specs.Guests.{todo_of, new_guest, computed, passed, ended, after_pass, fresh_effect, polled, is_calling};
+    ghost use Rattle.cpu.specs.Guests.{todo_of, new_guest, computed, passed, ended, after_pass, answer_with, fresh_effect, polled, is_calling};
 
     /// A guest before its first instruction.
     pub(crate) fn new(program: Program) -> Guest
@@ -183,10 +184,10 @@ impl Guest {
     }
 
     /// Notes what a poll of the guest's call answered, where `effect` is what the call has had
-    /// after it.
+    /// after it. A message that was received lies in the effect.
     #[inline(always)]
-    pub(crate) fn note(&mut self, effect: &Option<Effect>, answer: &Option<Reply>)
-        ensures { self.new ≡ polled self.old effect.now answer.now }
+    pub(crate) fn note(&mut self, effect: &Option<Effect>, answer: Option<ReplyKind>)
+        ensures { self.new ≡ polled self.old effect.now (answer_with effect.now answer) }
     {
         self.stage = match (answer, effect) {
             (Some(_), _) => GuestStage::Idle,
@@ -194,11 +195,22 @@ impl Guest {
             (None, None) => GuestStage::Begun,
         };
         match answer {
-            None | Some(Reply::NoBuffer) => {}
-            Some(Reply::Sent) => self.thread.after_send(&self.program),
-            Some(Reply::Got(message)) => self.thread.after_recv(&self.program, *message),
-            Some(Reply::Shut) => self.thread.after_close(&self.program),
-            Some(Reply::Closed) => self.thread.after_closed(&self.program),
+            None | Some(ReplyKind::NoBuffer) => {}
+            Some(ReplyKind::Sent) => self.thread.after_send(&self.program),
+            Some(ReplyKind::Got) => self.thread.after_recv(&self.program, message_in(effect)),
+            Some(ReplyKind::Shut) => self.thread.after_close(&self.program),
+            Some(ReplyKind::Closed) => self.thread.after_closed(&self.program),
         }
+    }
+}
+
+/// The message of an effect; none where there is no effect.
+#[inline(always)]
+fn message_in(effect: &Option<Effect>) -> Msg
+    ensures { result ≡ message_of effect.now }
+{
+    match effect {
+        Some(effect) => effect.value,
+        None => Msg::none(),
     }
 }

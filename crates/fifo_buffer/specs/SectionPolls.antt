@@ -6,7 +6,6 @@ use Rattle.event_log.specs.declared.ids.CpuId.{CpuId}
 use Rattle.event_log.specs.declared.ids.LockId.{LockId}
 use Rattle.event_log.specs.declared.ids.Tid.{Tid}
 use Rattle.event_log.specs.declared.ids.TheConstants.{THREADS}
-use Rattle.event_log.specs.declared.messages.Msg.{Msg}
 use Rattle.event_log.specs.History.{AreForeign}
 use Rattle.layer_traits.specs.declared.buffer_edits.BareBufferOut.{BareBufferOut}
 use Rattle.layer_traits.specs.declared.buffer_edits.BufferEdit.{BufferEdit}
@@ -17,6 +16,7 @@ use Rattle.layer_traits.specs.declared.conditions.CvOut.{CvOut}
 use Rattle.layer_traits.specs.declared.conditions.CvOut.TheVariants as answer
 use Rattle.layer_traits.specs.declared.locked.QOut.{QOut}
 use Rattle.layer_traits.specs.declared.locked.QOut.TheVariants.{Acquired, Queued, Did, Released}
+use Rattle.layer_traits.specs.declared.payloads.Parcel.{Parcel}
 use Rattle.layer_traits.specs.declared.queues.QueueEvent.{QueueEvent}
 use Rattle.layer_traits.specs.declared.scheds.SchedCall.{SchedCall}
 use Rattle.layer_traits.specs.declared.scheds.SchedCall.TheVariants.{Pass, OnBuffer}
@@ -44,9 +44,9 @@ BufferEvent = QueueEvent (CvCall BufferEdit)
 abbrev pub BufferOutcome : Type 0
 BufferOutcome = Outcome (QOut (CvOut BufferOut))
 
--- what the answer of a section tells, with the message beside it
-abbrev pub outcome_of : Outcome (QOut (CvOut BareBufferOut)) → Msg → BufferOutcome
-outcome_of outcome message = outcome_told (lock_told (cv_told buffer_told)) outcome message
+-- what the answer of a section tells, with the parcel beside it
+abbrev pub outcome_of : Outcome (QOut (CvOut BareBufferOut)) → Parcel → BufferOutcome
+outcome_of outcome parcel = outcome_told (lock_told (cv_told buffer_told)) outcome parcel
 
 -- an answer that is handed on at once: its caller neither sleeps for the lock nor waits
 abbrev pub is_plain_in : CvOut BufferOut → Bool

@@ -7,8 +7,8 @@ ghost use Rattle.layer_traits.specs.Payloads.{told_by};
 ghost use Rattle.fifo_buffer.specs.SectionPolls.{outcome_of, recorded_if};
 
 use crate::sections::{begin, record_section};
-use event_log::{Msg, THREADS, Tid};
-use layer_traits::{BareBufferOut, Call, CallState, CvOut, Effect, Outcome, QOut, Stage};
+use event_log::{THREADS, Tid};
+use layer_traits::{BareBufferOut, Call, CallState, CvOut, Effect, Outcome, Parcel, QOut, Stage};
 
 /// The call state of each thread.
 #[derive(Drop)]
@@ -76,8 +76,8 @@ impl CallStates {
         }
     }
 
-    /// Keeps for `t`, which is in `call`, what a poll of its section answered, with the message that
-    /// the answer brought, and tells whether it did.
+    /// Keeps for `t`, which is in `call`, what a poll of its section answered, with the parcel that
+    /// the answer brought, and returns whether it did.
     ///
     /// Requires: the thread is below `THREADS`.
     #[inline(always)]
@@ -86,19 +86,19 @@ impl CallStates {
         t: Tid,
         call: &Call,
         answer: &Option<Outcome<QOut<CvOut<BareBufferOut>>>>,
-        message: &Msg,
+        parcel: &Parcel,
     ) -> bool
         requires { t.0 < THREADS }
         ensures done { result ≡ is_some answer.now }
         ensures call_states { self.new.call_states ≡ slice_set self.old.call_states t.0 (recorded_if (going (call_state_of self.old.call_states t) call.now)
-            (going (call_state_of self.old.call_states t) call.now).stage (told_by outcome_of answer.now message.now)) }
+            (going (call_state_of self.old.call_states t) call.now).stage (told_by outcome_of answer.now parcel.now)) }
     {
         let call_state = &mut self.call_states[usize::from(t.0)];
         begin(call_state, call);
         match answer {
             None => false,
             Some(outcome) => {
-                record_section(call_state, &outcome.out, message);
+                record_section(call_state, &outcome.out, parcel);
                 true
             }
         }

@@ -1,9 +1,9 @@
 //! First-in first-out buffers.
 
-ghost use Rattle.std.specs.Prelude.{◌≡◌, ◌<◌, [], Some, None, IsSome, refl, slice_set, if◌then◌else◌};
+ghost use Rattle.std.specs.Prelude.{◌≡◌, ◌<◌, [], Bool, Some, None, IsSome, refl, slice_set, if◌then◌else◌};
 ghost use Rattle.event_log.specs.declared.ids.LockId.TheVariants.{Buffer};
 ghost use Rattle.event_log.specs.declared.ids.TheConstants.{THREADS};
-ghost use Rattle.layer_traits.specs.BufferLaw.{buffer_of, buffering, going, plan_of, replied, call_state_of};
+ghost use Rattle.layer_traits.specs.BufferLaw.{answer_in, buffer_of, buffering, going, plan_of, replied, call_state_of};
 ghost use Rattle.layer_traits.specs.BufferProtocol.{buffer_rules};
 ghost use Rattle.layer_traits.specs.Framed.{Framed};
 ghost use Rattle.layer_traits.specs.Locking.{lock_moves, lock_rules};
@@ -19,8 +19,8 @@ use crate::sections::{answers_at_once, buffer_in, reply, section};
 use arrayvec::ArrayVec;
 use event_log::{BufId, CAPACITY, CpuId, Msg, Tid};
 use layer_traits::{
-    BufferCall, BufferEdit, BufferLaw, Call, CallLayer, CvLaw, Effect, OwnedBuffers, OwnedConds,
-    Pass, Payload, Reply, Stage, ThreadLayer, WaitList,
+    BufferCall, BufferEdit, BufferLaw, Call, CallLayer, CvLaw, Effect, Ghost, OwnThreads,
+    OwnedBuffers, OwnedThreadLayer, Pass, Payload, ReplyKind, Stage, ThreadLayer, WaitList,
 };
 
 /// One CPU's part of first-in first-out blocking bounded buffers (Anderson and Dahlin), over a part
@@ -30,12 +30,13 @@ use layer_traits::{
 pub struct Fifo<C> {
     lower: C,
     call_states: CallStates,
-    calling: Option<Tid>,
+    calling: Ghost<Option<Tid>>,
     payload: Payload,
 }
 
 impl<C: ThreadLayer<CvLaw<BufferEdit>>> Fifo<C> {
-    /// Polls the section of `call` by `t` at this stage, and tells whether it ended.
+    /// Polls the section of `call` by `t` at this stage, and returns whether it ended.
+    #[inline(always)]
     fn poll_section(&mut self, m: &mut C::Machine, t: Tid, call: &Call, stage: Stage) -> bool
         requires known { t.0 < THREADS }
         requires stage { stage ≡ (going (call_state_of self.old.call_states.call_states t) call.now).stage }
@@ -69,21 +70,23 @@ impl<C: ThreadLayer<CvLaw<BufferEdit>>> Fifo<C> {
                   (going (call_state_of self.old.call_states.call_states t) call.now).stage else None;
             }) }
     {
-        let edit = section(t, call, stage, &mut self.payload.message);
+        let edit = section(t, call, stage, &mut self.payload.parcel);
         let buffer = buffer_in(call);
         let answer = self
             .lower
             .poll(m, BufferCall { buffer, edit }, &mut self.payload);
         self.call_states
-            .record_answer(t, call, &answer, &self.payload.message)
+            .record_answer(t, call, &answer, &self.payload.parcel)
     }
 
-    /// The reply of `call` after a section poll at this stage, which ended its section or not; and notes
-    /// whether the call is still under way.
-    fn complete(&mut self, t: Tid, call: &Call, stage: Stage, done: bool) -> Option<Reply>
+    /// The kind of the reply of `call` after a section poll at this stage, which ended its section or
+    /// not; and keeps for clauses whether the call is still under way.
+    fn complete(&mut self, t: Tid, call: &Call, stage: Stage, done: bool) -> Option<ReplyKind>
         requires known { t.0 < THREADS }
-        ensures answer { result ≡ (if done then reply_at call.now stage (call_state_of self.old.call_states.call_states t).effect else None) }
-        ensures calling { self.new.calling ≡ calling_after t (C.own self.old.lower).lock.sleep.threads.current result }
+        ensures answer { answer_in self.old.call_states.call_states t result
+            ≡ (if done then reply_at call.now stage (call_state_of self.old.call_states.call_states t).effect else None) }
+        ensures calling { self.new.calling ≡ calling_after t (C.own self.old.lower).lock.sleep.threads.current
+            (answer_in self.old.call_states.call_states t result) }
         ensures lower { self.new.lower ≡ self.old.lower }
         ensures call_states { self.new.call_states.call_states ≡ self.old.call_states.call_states }
     {
@@ -92,11 +95,53 @@ impl<C: ThreadLayer<CvLaw<BufferEdit>>> Fifo<C> {
         } else {
             None
         };
-        self.calling = match self.lower.current() {
+        self.calling = Ghost::of(&match self.lower.current() {
             None => None,
             Some(_) => { if answer.is_none() { Some(t) } else { None } }
-        };
+        });
         answer
+    }
+
+    /// Goes on with `call` by `t` in the same poll, after a section that ended without an action: polls
+    /// the next section, and returns the kind of the reply if the call has ended.
+    #[inline(never)]
+    fn poll_next(&mut self, m: &mut C::Machine, t: Tid, call: &Call) -> Option<ReplyKind>
+        requires known { t.0 < THREADS }
+        requires fits { C.Fits self.old.lower m.old }
+        requires buffer { IsSome (C.opening m.old (Buffer (buffer_of call.now))) }
+        requires room { 0 < C.room m.old }
+        requires sizes { Sizes (C.own self.old.lower) self.old.call_states.call_states }
+        requires may { MayPollSection (inner (C.opening m.old)) (buffer_sections (C.seen m.old)) t call.now (going (call_state_of self.old.call_states.call_states t) call.now)
+            (C.own self.old.lower)
+            (C.under_way self.old.lower) }
+        ensures section_polled { (done : Bool)
+            × SectionPolled (homes_in (C.opening m.old)) (λ c. C.ActsFor m.old c) (inner (C.opening m.old)) (C.cpu_of self.old.lower) t call.now
+            (going (call_state_of self.old.call_states.call_states t) call.now) (C.seen m.old) (C.seen m.new) (C.own self.old.lower) (C.own self.new.lower)
+            (C.under_way self.new.lower) done
+            (call_state_of self.new.call_states.call_states t)
+            × (answer_in self.new.call_states.call_states t result
+            ≡ (if done then replied call.now (going (call_state_of self.old.call_states.call_states t) call.now)
+            (going (call_state_of self.old.call_states.call_states t) call.now).stage else None)) }
+        ensures call_states { self.new.call_states.call_states ≡ slice_set self.old.call_states.call_states t.0 (call_state_of self.new.call_states.call_states t) }
+        ensures calling { self.new.calling ≡ calling_after t (C.own self.new.lower).lock.sleep.threads.current
+            (answer_in self.new.call_states.call_states t result) }
+        ensures framed { Framed (λ (p : C) k. C.Fits p k) (λ p. C.cpu_of p) (λ k. C.opening k) (λ k. C.site k) (λ k. C.room k)
+            (λ k c. C.ActsFor k c) (λ k c. C.MayHold k c) self.old.lower self.new.lower m.old m.new }
+        ensures follows { C.IsStepwise
+            → Follows (C.ActsFor m.old) (table_of (queue_rules (lock_rules buffer_rules) (lock_moves buffer_rules))) (C.opening m.old)
+            (C.cpu_of self.old.lower)
+            (plan_of (homes_in (C.opening m.old)) (C.cpu_of self.old.lower) t call.now (going (call_state_of self.old.call_states.call_states t) call.now).stage
+            (going (call_state_of self.old.call_states.call_states t) call.now)
+            (buffering (C.own self.old.lower) self.old.call_states.call_states))
+            (C.acts m.old) (C.acts m.new)
+            (record {
+              own = buffering (C.own self.new.lower) self.new.call_states.call_states;
+              answer = answer_in self.new.call_states.call_states t result;
+            }) }
+    {
+        let next = self.call_states.next_stage(t, call);
+        let last = self.poll_section(m, t, call, next);
+        self.complete(t, call, next, last)
     }
 }
 
@@ -171,7 +216,7 @@ impl<C: ThreadLayer<CvLaw<BufferEdit>>> CallLayer<BufferLaw> for Fifo<C> {
         Fifo {
             lower: C::part(cpu, homes, buffers),
             call_states: CallStates::new(),
-            calling: None,
+            calling: Ghost::of(&None),
             payload: Payload::new(),
         }
     }
@@ -182,18 +227,8 @@ impl<C: ThreadLayer<CvLaw<BufferEdit>>> CallLayer<BufferLaw> for Fifo<C> {
     }
 
     #[inline(always)]
-    fn current(&self) -> Option<Tid> {
-        self.lower.current()
-    }
-
-    #[inline(always)]
-    fn hand(&self) -> Option<Tid> {
-        self.lower.hand()
-    }
-
-    #[inline(always)]
-    fn has_ready(&self) -> bool {
-        self.lower.has_ready()
+    fn own_threads(&self) -> &OwnThreads {
+        self.lower.own_threads()
     }
 
     #[inline(always)]
@@ -211,14 +246,12 @@ impl<C: ThreadLayer<CvLaw<BufferEdit>>> CallLayer<BufferLaw> for Fifo<C> {
         self.lower.look(m)
     }
 
-    fn poll(&mut self, m: &mut C::Machine, t: Tid, call: &Call) -> Option<Reply> {
+    fn poll_kind(&mut self, m: &mut C::Machine, t: Tid, call: &Call) -> Option<ReplyKind> {
         let stage = self.call_states.next_stage(t, call);
         let at_once = answers_at_once(stage, self.lower.at_once());
         let done = self.poll_section(m, t, call, stage);
         if done && at_once {
-            let next = self.call_states.next_stage(t, call);
-            let last = self.poll_section(m, t, call, next);
-            return self.complete(t, call, next, last);
+            return self.poll_next(m, t, call);
         }
         self.complete(t, call, stage, done)
     }
@@ -259,7 +292,7 @@ impl<C: ThreadLayer<CvLaw<BufferEdit>>> CallLayer<BufferLaw> for Fifo<C> {
     ghost opens = { λ step m homes c fresh. opens_so (caps_in (C.opening m)) homes c (C.opening m) (C.opens m c fresh.0.0) fresh.4 fresh.5 fresh.6 };
 }
 
-impl<C: OwnedConds<BufferEdit>> OwnedBuffers for Fifo<C> {
+impl<C: OwnedThreadLayer<CvLaw<BufferEdit>>> OwnedBuffers for Fifo<C> {
     ghost use Rattle.std.specs.Prelude.{option_map};
     ghost use Rattle.event_log.specs.Buffers.{items_of};
     ghost use Rattle.event_log.specs.Runs.{is_closed};
@@ -279,35 +312,25 @@ impl<C: OwnedConds<BufferEdit>> OwnedBuffers for Fifo<C> {
 
     ghost owner = { λ m b. owner_in (buffer_lock_of (C.opening m) (C.seen m) b) };
 
-    ghost items_at = { λ m b. option_map items_in (C.lock_at m b) };
+    ghost items_at = { λ m b. option_map items_in (C.block_at m b) };
 
-    ghost items_with = { λ p b. option_map items_in (C.lock_with p.lower b) };
+    ghost items_with = { λ p b. option_map items_in (C.block_with p.lower b) };
 
-    ghost closed_at = { λ m b. option_map closed_of (C.lock_at m b) };
+    ghost closed_at = { λ m b. option_map closed_of (C.block_at m b) };
 
-    ghost closed_with = { λ p b. option_map closed_of (C.lock_with p.lower b) };
+    ghost closed_with = { λ p b. option_map closed_of (C.block_with p.lower b) };
 
-    ghost owner_at = { λ m b. option_map owner_of (C.lock_at m b) };
+    ghost owner_at = { λ m b. option_map owner_of (C.block_at m b) };
 
-    ghost owner_with = { λ p b. option_map owner_of (C.lock_with p.lower b) };
+    ghost owner_with = { λ p b. option_map owner_of (C.block_with p.lower b) };
 
-    ghost wait_lists_at = { λ m b. option_map wait_lists_of (C.lock_at m b) };
+    ghost wait_lists_at = { λ m b. option_map wait_lists_of (C.block_at m b) };
 
-    ghost wait_lists_with = { λ p b. option_map wait_lists_of (C.lock_with p.lower b) };
+    ghost wait_lists_with = { λ p b. option_map wait_lists_of (C.block_with p.lower b) };
 
     ghost queue_at = { λ m d. C.queue_at m d };
 
     ghost queue_with = { λ p d. C.queue_with p.lower d };
-
-    #[inline(always)]
-    fn is_ready(&self, t: Tid) -> bool {
-        self.lower.is_ready(t)
-    }
-
-    #[inline(always)]
-    fn has_ended(&self, t: Tid) -> bool {
-        self.lower.has_ended(t)
-    }
 
     fn items_in(m: &C::Machine, b: BufId) -> Option<ArrayVec<Msg, CAPACITY>> {
         match C::block_in(m, b) {
@@ -371,21 +394,21 @@ impl<C: OwnedConds<BufferEdit>> OwnedBuffers for Fifo<C> {
 
     ghost items = { λ m c b acts within. lock_read (λ (p : Self). p.lower) (λ p. C.Fits p m) (λ (p : Self). Self.Fits p m)
         (λ p. C.cpu_of p) (C.MayHold m) (λ p fits. fits.0)
-        (buffer_lock_of (C.opening m) (C.seen m) b) items_in (λ p. C.lock_with p b) (C.lock_at m b)
+        (buffer_lock_of (C.opening m) (C.seen m) b) items_in (λ p. C.block_with p b) (C.block_at m b)
         (items_of (contents_of (caps_in (C.opening m)) (effects_in (inner (C.opening m)) (buffer_sections (C.seen m)))) b.0)
         (items_read (C.opening m) acts.1 b within (C.seen m) (C.lawful m c acts.0))
         (C.shown m c b acts.0 (block_there (C.opening m) acts.1 b within)) };
 
     ghost closed = { λ m c b acts within. lock_read (λ (p : Self). p.lower) (λ p. C.Fits p m) (λ (p : Self). Self.Fits p m)
         (λ p. C.cpu_of p) (C.MayHold m) (λ p fits. fits.0)
-        (buffer_lock_of (C.opening m) (C.seen m) b) closed_of (λ p. C.lock_with p b) (C.lock_at m b)
+        (buffer_lock_of (C.opening m) (C.seen m) b) closed_of (λ p. C.block_with p b) (C.block_at m b)
         (is_closed (effects_in (inner (C.opening m)) (buffer_sections (C.seen m))) b.0)
         (closed_read (C.opening m) acts.1 b within (C.seen m) (C.lawful m c acts.0))
         (C.shown m c b acts.0 (block_there (C.opening m) acts.1 b within)) };
 
     ghost owners = { λ m c b acts within. lock_read (λ (p : Self). p.lower) (λ p. C.Fits p m) (λ (p : Self). Self.Fits p m)
         (λ p. C.cpu_of p) (C.MayHold m) (λ p fits. fits.0)
-        (buffer_lock_of (C.opening m) (C.seen m) b) owner_of (λ p. C.lock_with p b) (C.lock_at m b)
+        (buffer_lock_of (C.opening m) (C.seen m) b) owner_of (λ p. C.block_with p b) (C.block_at m b)
         (owner_in (buffer_lock_of (C.opening m) (C.seen m) b)) (owner_read (C.opening m) acts.1 b within (C.seen m))
         (C.shown m c b acts.0 (block_there (C.opening m) acts.1 b within)) };
 
@@ -397,7 +420,7 @@ impl<C: OwnedConds<BufferEdit>> OwnedBuffers for Fifo<C> {
 
     ghost waiters_law = { λ m c b acts within. lock_read (λ (p : Self). p.lower) (λ p. C.Fits p m) (λ (p : Self). Self.Fits p m)
         (λ p. C.cpu_of p) (C.MayHold m) (λ p fits. fits.0)
-        (buffer_lock_of (C.opening m) (C.seen m) b) wait_lists_of (λ p. C.lock_with p b) (C.lock_at m b)
+        (buffer_lock_of (C.opening m) (C.seen m) b) wait_lists_of (λ p. C.block_with p b) (C.block_at m b)
         (λ line. wait_list_in line (buffer_lock_of (C.opening m) (C.seen m) b)) (wait_lists_read (C.opening m) acts.1 b within (C.seen m))
         (C.shown m c b acts.0 (block_there (C.opening m) acts.1 b within)) };
 

@@ -1,15 +1,16 @@
 //! The sections of a message call, stage by stage.
 
-ghost use Rattle.std.specs.Prelude.{◌≡◌};
-ghost use Rattle.layer_traits.specs.BufferLaw.{buffer_of, first_of, going, recorded, other_side, enlisted, reply_by, section_at, side_of, reported_by, tried, try_of};
+ghost use Rattle.std.specs.Prelude.{◌≡◌, Option, option_map};
+ghost use Rattle.layer_traits.specs.declared.calls.Effect.{Effect};
+ghost use Rattle.layer_traits.specs.declared.payloads.Parcel.{Parcel};
+ghost use Rattle.layer_traits.specs.BufferLaw.{buffer_of, first_of, going, message_of, recorded, other_side, enlisted, reply_by, reply_with, section_at, side_of, reported_by, tried, try_of};
 ghost use Rattle.layer_traits.specs.Payloads.{buffer_meant, buffer_told, cv_meant, cv_told, lock_meant, lock_told};
-ghost use Rattle.event_log.specs.declared.messages.Msg.{Msg};
 ghost use Rattle.fifo_buffer.specs.SectionPolls.{is_at_once, reply_at};
 
 use event_log::{BufId, Kind, Msg, Tid};
 use layer_traits::{
-    BareBufferEdit, BareBufferOut, Call, CallState, CvEdit, CvLeave, CvOut, Effect, QEdit, QOut,
-    Reply, Side, Stage,
+    BareBufferEdit, BareBufferOut, Call, CallState, CvEdit, CvLeave, CvOut, Effect, Parcel, QEdit,
+    QOut, ReplyKind, Side, Stage,
 };
 
 /// The buffer of a call.
@@ -47,7 +48,7 @@ fn far_side(call: &Call) -> Side
 /// The edit with which a call enters its line, or closes the buffer.
 #[inline(always)]
 fn first_edit(t: Tid, call: &Call) -> BareBufferEdit
-    ensures { (message : Msg) → buffer_meant result message ≡ first_of t call.now }
+    ensures { (parcel : Parcel) → buffer_meant result parcel ≡ first_of t call.now }
 {
     match call {
         Call::Send(_, _) => BareBufferEdit::Enter(t, Side::Senders),
@@ -58,12 +59,12 @@ fn first_edit(t: Tid, call: &Call) -> BareBufferEdit
 
 /// The edit that a call tries; a close never does. A send lays down the message that it puts.
 #[inline(always)]
-fn next_try(t: Tid, call: &Call, message: &mut Msg) -> BareBufferEdit
-    ensures { buffer_meant result message.new ≡ try_of t call.now }
+fn next_try(t: Tid, call: &Call, parcel: &mut Parcel) -> BareBufferEdit
+    ensures { buffer_meant result parcel.new ≡ try_of t call.now }
 {
     match call {
         Call::Send(_, put) => {
-            *message = *put;
+            parcel.message = *put;
             BareBufferEdit::TryPut(t)
         }
         Call::Recv(_) => BareBufferEdit::TryTake(t),
@@ -71,21 +72,21 @@ fn next_try(t: Tid, call: &Call, message: &mut Msg) -> BareBufferEdit
     }
 }
 
-/// The reply of a call after an effect.
+/// The kind of the reply of a call after an effect: the message of a receive lies in the effect.
 #[inline(always)]
-fn answer_by(call: &Call, kind: Kind, value: &Msg) -> Reply
-    ensures { result ≡ reply_by call.now kind value.now }
+fn kind_by(call: &Call, kind: Kind) -> ReplyKind
+    ensures { (effect : Option Effect) → reply_with result effect ≡ reply_by call.now kind (message_of effect) }
 {
     match call {
         Call::Send(_, _) => match kind {
-            Kind::SendClosed => Reply::Closed,
-            Kind::Send | Kind::Recv | Kind::Close | Kind::RecvClosed => Reply::Sent,
+            Kind::SendClosed => ReplyKind::Closed,
+            Kind::Send | Kind::Recv | Kind::Close | Kind::RecvClosed => ReplyKind::Sent,
         },
         Call::Recv(_) => match kind {
-            Kind::RecvClosed => Reply::Closed,
-            Kind::Send | Kind::Recv | Kind::Close | Kind::SendClosed => Reply::Got(*value),
+            Kind::RecvClosed => ReplyKind::Closed,
+            Kind::Send | Kind::Recv | Kind::Close | Kind::SendClosed => ReplyKind::Got,
         },
-        Call::Close(_) => Reply::Shut,
+        Call::Close(_) => ReplyKind::Shut,
     }
 }
 
@@ -96,14 +97,14 @@ pub fn section(
     t: Tid,
     call: &Call,
     stage: Stage,
-    message: &mut Msg,
+    parcel: &mut Parcel,
 ) -> QEdit<CvEdit<BareBufferEdit>, CvLeave>
-    ensures { lock_meant (cv_meant buffer_meant) result message.new ≡ section_at t call.now stage }
+    ensures { lock_meant (cv_meant buffer_meant) result parcel.new ≡ section_at t call.now stage }
 {
     match stage {
         Stage::Idle | Stage::Acquires | Stage::AcquiresAgain => QEdit::Acquire(t),
         Stage::Enters => QEdit::Inside(CvEdit::Edit(first_edit(t, call))),
-        Stage::Tries => QEdit::Inside(CvEdit::Edit(next_try(t, call, message))),
+        Stage::Tries => QEdit::Inside(CvEdit::Edit(next_try(t, call, parcel))),
         Stage::Waits => QEdit::Release(CvLeave::Wait(t, own_side(call))),
         Stage::Signals => QEdit::Inside(CvEdit::SignalFront(t, far_side(call))),
         Stage::SignalsOwn => QEdit::Inside(CvEdit::SignalFront(t, own_side(call))),
@@ -125,44 +126,44 @@ pub fn begin(call_state: &mut CallState, call: &Call)
 }
 
 /// Keeps what a thread that entered its line was told: its position; or what one that closed the
-/// buffer was told: its effect.
+/// buffer was told: its effect. The numbers lie in the parcel.
 #[inline(always)]
-fn record_entry(call_state: &mut CallState, out: &QOut<CvOut<BareBufferOut>>)
-    ensures { (message : Msg) → call_state.new ≡ enlisted call_state.old (reported_by (lock_told (cv_told buffer_told) out.now message)) }
+fn record_entry(call_state: &mut CallState, out: &QOut<CvOut<BareBufferOut>>, parcel: &Parcel)
+    ensures { call_state.new ≡ enlisted call_state.old (reported_by (lock_told (cv_told buffer_told) out.now parcel.now)) }
 {
     match out {
-        QOut::Did(CvOut::Did(BareBufferOut::Entered(position))) => {
+        QOut::Did(CvOut::Did(BareBufferOut::Entered)) => {
             call_state.stage = Stage::Tries;
-            call_state.position = *position;
+            call_state.position = parcel.first;
         }
-        QOut::Did(CvOut::Did(BareBufferOut::WasShut(op, pos))) => {
+        QOut::Did(CvOut::Did(BareBufferOut::WasShut)) => {
             call_state.stage = Stage::Signals;
             call_state.effect = Some(Effect {
                 kind: Kind::Close,
                 value: Msg::none(),
-                op: *op,
-                pos: *pos,
+                op: parcel.first,
+                pos: parcel.second,
             });
         }
-        QOut::Did(CvOut::Did(BareBufferOut::NotYet | BareBufferOut::Done(_, _))) => {}
+        QOut::Did(CvOut::Did(BareBufferOut::NotYet | BareBufferOut::Done(_))) => {}
         QOut::Did(CvOut::Signalled(_, _) | CvOut::Left | CvOut::Waited(_)) => {}
         QOut::Acquired | QOut::Queued | QOut::Released(_) => {}
     }
 }
 
-/// Keeps what a thread that tried was told: its effect, with the message that the answer brought, or
-/// that it has to wait.
+/// Keeps what a thread that tried was told: its effect, with the message and the number that lie in
+/// the parcel, or that it has to wait.
 #[inline(always)]
-fn record_try(call_state: &mut CallState, out: &QOut<CvOut<BareBufferOut>>, message: &Msg)
-    ensures { call_state.new ≡ tried call_state.old (reported_by (lock_told (cv_told buffer_told) out.now message.now)) }
+fn record_try(call_state: &mut CallState, out: &QOut<CvOut<BareBufferOut>>, parcel: &Parcel)
+    ensures { call_state.new ≡ tried call_state.old (reported_by (lock_told (cv_told buffer_told) out.now parcel.now)) }
 {
     match out {
-        QOut::Did(CvOut::Did(BareBufferOut::Done(kind, op))) => {
+        QOut::Did(CvOut::Did(BareBufferOut::Done(kind))) => {
             call_state.stage = Stage::Signals;
             call_state.effect = Some(Effect {
                 kind: *kind,
-                value: *message,
-                op: *op,
+                value: parcel.message,
+                op: parcel.first,
                 pos: call_state.position,
             });
         }
@@ -172,17 +173,17 @@ fn record_try(call_state: &mut CallState, out: &QOut<CvOut<BareBufferOut>>, mess
     }
 }
 
-/// Keeps what the section of the call state's stage answered, with the message that the answer brought:
+/// Keeps what the section of the call state's stage answered, with the parcel that the answer brought:
 /// the call state is at the next stage then.
 #[inline(always)]
-pub fn record_section(call_state: &mut CallState, out: &QOut<CvOut<BareBufferOut>>, message: &Msg)
-    ensures { call_state.new ≡ recorded call_state.old call_state.old.stage (lock_told (cv_told buffer_told) out.now message.now) }
+pub fn record_section(call_state: &mut CallState, out: &QOut<CvOut<BareBufferOut>>, parcel: &Parcel)
+    ensures { call_state.new ≡ recorded call_state.old call_state.old.stage (lock_told (cv_told buffer_told) out.now parcel.now) }
 {
     match call_state.stage {
         Stage::Idle => {}
         Stage::Acquires => call_state.stage = Stage::Enters,
-        Stage::Enters => record_entry(call_state, out),
-        Stage::Tries => record_try(call_state, out, message),
+        Stage::Enters => record_entry(call_state, out, parcel),
+        Stage::Tries => record_try(call_state, out, parcel),
         Stage::Waits => call_state.stage = Stage::AcquiresAgain,
         Stage::AcquiresAgain => call_state.stage = Stage::Tries,
         Stage::Signals => call_state.stage = Stage::SignalsOwn,
@@ -194,15 +195,15 @@ pub fn record_section(call_state: &mut CallState, out: &QOut<CvOut<BareBufferOut
     }
 }
 
-/// The reply of a call whose section at this stage has ended: that of its effect, after the last
-/// section.
+/// The kind of the reply of a call whose section at this stage has ended: that of its effect, after
+/// the last section.
 #[inline(always)]
-pub fn reply(call: &Call, stage: Stage, effect: &Option<Effect>) -> Option<Reply>
-    ensures { result ≡ reply_at call.now stage effect.now }
+pub fn reply(call: &Call, stage: Stage, effect: &Option<Effect>) -> Option<ReplyKind>
+    ensures { option_map (λ k. reply_with k effect.now) result ≡ reply_at call.now stage effect.now }
 {
     match stage {
         Stage::Releases => match effect {
-            Some(effect) => Some(answer_by(call, effect.kind, &effect.value)),
+            Some(effect) => Some(kind_by(call, effect.kind)),
             None => None,
         },
         Stage::Idle

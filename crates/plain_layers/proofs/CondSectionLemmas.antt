@@ -8,8 +8,6 @@ use Rattle.event_log.specs.declared.ids.LockId.{LockId}
 use Rattle.event_log.specs.declared.ids.LockId.TheVariants.{Buffer}
 use Rattle.event_log.specs.declared.ids.Tid.{Tid}
 use Rattle.event_log.specs.declared.ids.TheConstants.{THREADS}
-use Rattle.event_log.specs.declared.messages.Msg.{Msg}
-use Rattle.event_log.specs.Messages.{no_message}
 use Rattle.layer_traits.specs.declared.conditions.CvEdit.{CvEdit}
 use Rattle.layer_traits.specs.declared.conditions.CvLeave.{CvLeave}
 use Rattle.layer_traits.specs.declared.conditions.CvOut.{CvOut}
@@ -21,6 +19,7 @@ use Rattle.layer_traits.specs.declared.locked.Side.{Side}
 use Rattle.layer_traits.specs.declared.locked.Side.TheVariants.{Receivers, Senders}
 use Rattle.layer_traits.specs.declared.moves.WaitList.{WaitList}
 use Rattle.layer_traits.specs.declared.moves.WaitList.TheVariants as wait_list
+use Rattle.layer_traits.specs.declared.payloads.Parcel.{Parcel}
 use Rattle.layer_traits.specs.declared.queue_edits.QueueBlock.{QueueBlock}
 use Rattle.layer_traits.specs.declared.queues.QueueEvent.{QueueEvent}
 use Rattle.layer_traits.specs.declared.scheds.SchedCall.{SchedCall}
@@ -38,7 +37,7 @@ use Rattle.layer_traits.specs.SleepLaw.{MayCall}
 use Rattle.queuing_lock.proofs.SleptLemmas.{none_at}
 use Rattle.plain_layers.proofs.LockSectionLemmas.{After, after_polled}
 use Rattle.plain_layers.specs.CondSections.{CondHasEnded, IsCondReady, MayPollCondSection, WaitsAt}
-use Rattle.plain_layers.specs.LockSections.{call_alone}
+use Rattle.plain_layers.specs.LockSections.{call_alone, no_parcel}
 
 module _ {G B O : Type 0} (monitor_rules : MonitorRules G B O) (opening : LockId → Option (QueueBlock (LockState B))) (ActsFor : CpuId → Type 0) (c : CpuId)
     (b : BufId) (call : CvCall G) where
@@ -194,16 +193,16 @@ module _ {G B O : Type 0} (monitor_rules : MonitorRules G B O) (opening : LockId
   ended_after past own under None outcome after is = absurd cc
   ended_after past own under (Some o) outcome after is = after
 
--- the same of a poll of what is handed on, with no message beside it
+-- the same of a poll of what is handed on, with no parcel beside it
 pub after_alone : {H G B O : Type 0} (monitor_rules : MonitorRules G B O) (opening : LockId → Option (QueueBlock (LockState B))) (ActsFor : CpuId → Type 0)
-    (c : CpuId) (b : BufId) (meant : H → Msg → G) (call : QEdit (CvEdit H) CvLeave) (message : Msg) (old new : List (QueueEvent (CvCall G)))
-    (own : Waiting O) (before under : Option (SchedCall (CvCall G))) (got : Left (Waiting O) (Outcome (QOut (CvOut O)))) → message ≡ no_message
+    (c : CpuId) (b : BufId) (meant : H → Parcel → G) (call : QEdit (CvEdit H) CvLeave) (parcel : Parcel) (old new : List (QueueEvent (CvCall G)))
+    (own : Waiting O) (before under : Option (SchedCall (CvCall G))) (got : Left (Waiting O) (Outcome (QOut (CvOut O)))) → parcel ≡ no_parcel
     → MayPollCondSection monitor_rules (lock_kernel (cv_rules monitor_rules) opening) c old own before b (call_alone (cv_meant meant) call)
-    → CvPolled monitor_rules (lock_kernel (cv_rules monitor_rules) opening) ActsFor c b (lock_meant (cv_meant meant) call message)
-    (slept_for own.waits (lock_caller (cv_rules monitor_rules) (lock_meant (cv_meant meant) call message))) old new own under got
-    → (IsSome (slept_for own.lock.slept (lock_caller (cv_rules monitor_rules) (lock_meant (cv_meant meant) call message))) → new ≡ old)
+    → CvPolled monitor_rules (lock_kernel (cv_rules monitor_rules) opening) ActsFor c b (lock_meant (cv_meant meant) call parcel)
+    (slept_for own.waits (lock_caller (cv_rules monitor_rules) (lock_meant (cv_meant meant) call parcel))) old new own under got
+    → (IsSome (slept_for own.lock.slept (lock_caller (cv_rules monitor_rules) (lock_meant (cv_meant meant) call parcel))) → new ≡ old)
     → AfterCall monitor_rules opening ActsFor c b (call_alone (cv_meant meant) call) new got.own under got.answer
-after_alone monitor_rules opening ActsFor c b meant call message old new own before under got none may polled same =
+after_alone monitor_rules opening ActsFor c b meant call parcel old new own before under got none may polled same =
     after_call monitor_rules opening ActsFor c b (call_alone (cv_meant meant) call)
     (slept_for own.waits (lock_caller (cv_rules monitor_rules) (call_alone (cv_meant meant) call))) old new own before under got refl may
     (subst (λ m. CvPolled monitor_rules (lock_kernel (cv_rules monitor_rules) opening) ActsFor c b (lock_meant (cv_meant meant) call m)

@@ -8,8 +8,6 @@ use Rattle.event_log.specs.declared.ids.LockId.{LockId}
 use Rattle.event_log.specs.declared.ids.LockId.TheVariants.{Buffer}
 use Rattle.event_log.specs.declared.ids.Tid.{Tid}
 use Rattle.event_log.specs.declared.ids.TheConstants.{THREADS}
-use Rattle.event_log.specs.declared.messages.Msg.{Msg}
-use Rattle.event_log.specs.Messages.{no_message}
 use Rattle.event_log.proofs.Same.{same_lock_self}
 use Rattle.event_log.proofs.BoolLemmas.{none_of}
 use Rattle.layer_traits.specs.declared.locked.QEdit.{QEdit}
@@ -18,6 +16,7 @@ use Rattle.layer_traits.specs.declared.locked.QOut.{QOut}
 use Rattle.layer_traits.specs.declared.locked.QOut.TheVariants.{Acquired, Queued, Did, Released}
 use Rattle.layer_traits.specs.declared.moves.WaitList.{WaitList}
 use Rattle.layer_traits.specs.declared.moves.WaitList.TheVariants.{Sleepers}
+use Rattle.layer_traits.specs.declared.payloads.Parcel.{Parcel}
 use Rattle.layer_traits.specs.declared.queue_edits.QueueBlock.{QueueBlock}
 use Rattle.layer_traits.specs.declared.queues.QueueCall.TheVariants.{OnBuffer}
 use Rattle.layer_traits.specs.declared.queues.QueueEvent.{QueueEvent}
@@ -39,7 +38,7 @@ use Rattle.layer_traits.specs.Scheds.{own_answered}
 use Rattle.layer_traits.specs.SleepLaw.{MayCall, PollResult, Does, MayDo, Sends, Sleeping, Waits, left_with, must_send, seen_with}
 use Rattle.layer_traits.proofs.PlaceLemmas.{woken_current}
 use Rattle.queuing_lock.proofs.SleptLemmas.{none_at}
-use Rattle.plain_layers.specs.LockSections.{LockHasEnded, IsSteady, MayPollLockSection, SleepsFor, call_alone}
+use Rattle.plain_layers.specs.LockSections.{LockHasEnded, IsSteady, MayPollLockSection, SleepsFor, call_alone, no_parcel}
 
 -- Who runs after a section.
 
@@ -334,16 +333,16 @@ module _ {F R B O : Type 0} (rules : LockRules F R B O) (opening : LockId → Op
   ended_after past own under None outcome after is = absurd cc
   ended_after past own under (Some o) outcome after is = (after.0, after.1)
 
--- the same of a poll of what is handed on, with no message beside it
+-- the same of a poll of what is handed on, with no parcel beside it
 pub after_alone : {H F R B O : Type 0} (rules : LockRules F R B O) (opening : LockId → Option (QueueBlock (LockState B))) (ActsFor : CpuId → Type 0)
-    (c : CpuId) (b : BufId) (meant : H → Msg → F) (call : QEdit H R) (message : Msg) (old new : List (QueueEvent (QEdit F R))) (own : Locking O)
-    (under : Option (SchedCall (QEdit F R))) (got : Left (Locking O) (Outcome (QOut O))) → message ≡ no_message
+    (c : CpuId) (b : BufId) (meant : H → Parcel → F) (call : QEdit H R) (parcel : Parcel) (old new : List (QueueEvent (QEdit F R))) (own : Locking O)
+    (under : Option (SchedCall (QEdit F R))) (got : Left (Locking O) (Outcome (QOut O))) → parcel ≡ no_parcel
     → own.sleep.threads.current ≡ Some (lock_caller rules (call_alone meant call)) → IsSteady rules own (lock_caller rules (call_alone meant call))
-    → LockPolled rules (lock_kernel rules opening) ActsFor c b (lock_meant meant call message)
-    (slept_for own.slept (lock_caller rules (lock_meant meant call message))) old new own under got
-    → (IsSome (slept_for own.slept (lock_caller rules (lock_meant meant call message))) → new ≡ old)
+    → LockPolled rules (lock_kernel rules opening) ActsFor c b (lock_meant meant call parcel)
+    (slept_for own.slept (lock_caller rules (lock_meant meant call parcel))) old new own under got
+    → (IsSome (slept_for own.slept (lock_caller rules (lock_meant meant call parcel))) → new ≡ old)
     → After rules opening ActsFor c b (call_alone meant call) new got.own under got.answer
-after_alone rules opening ActsFor c b meant call message old new own under got none runs steady polled same =
+after_alone rules opening ActsFor c b meant call parcel old new own under got none runs steady polled same =
     after_polled rules opening ActsFor c b (call_alone meant call) (slept_for own.slept (lock_caller rules (call_alone meant call))) old new own under got refl
     runs steady
     (subst (λ m. LockPolled rules (lock_kernel rules opening) ActsFor c b (lock_meant meant call m)

@@ -3,10 +3,10 @@ use Rattle.std.specs.Prelude.{◌≡◌, ◌<◌, List, length, Option, Some, No
 use Rattle.event_log.specs.declared.ids.BufId.{BufId}
 use Rattle.event_log.specs.declared.ids.CpuId.{CpuId}
 use Rattle.event_log.specs.declared.ids.Tid.{Tid}
-use Rattle.event_log.specs.declared.messages.Msg.{Msg}
 use Rattle.event_log.specs.Messages.{no_message}
 use Rattle.layer_traits.specs.declared.locked.QEdit.{QEdit}
 use Rattle.layer_traits.specs.declared.locked.QOut.{QOut}
+use Rattle.layer_traits.specs.declared.payloads.Parcel.{Parcel}
 use Rattle.layer_traits.specs.declared.queues.QueueEvent.{QueueEvent}
 use Rattle.layer_traits.specs.declared.scheds.SchedCall.{SchedCall}
 use Rattle.layer_traits.specs.declared.sleeps.Outcome.{Outcome}
@@ -15,9 +15,13 @@ use Rattle.layer_traits.specs.LockLaw.{Locking, MayCallLock, slept_for}
 use Rattle.layer_traits.specs.Payloads.{lock_meant}
 use Rattle.layer_traits.specs.Queues.{Kernel}
 
--- the call that is meant by what is handed on, with no message beside it
-abbrev pub call_alone : {H F R : Type 0} → (H → Msg → F) → QEdit H R → QEdit F R
-call_alone meant call = lock_meant meant call no_message
+-- a parcel with no message, and with zeros
+abbrev pub no_parcel : Parcel
+no_parcel = record { message = no_message; first = 0; second = 0 }
+
+-- the call that is meant by what is handed on, with no parcel beside it
+abbrev pub call_alone : {H F R : Type 0} → (H → Parcel → F) → QEdit H R → QEdit F R
+call_alone meant call = lock_meant meant call no_parcel
 
 -- the part has a place for the thread, and keeps no outcome of a call by which its caller fell asleep
 pub record IsSteady {F R B O : Type 0} (rules : LockRules F R B O) (own : Locking O) (t : Tid) : Type 0 where

@@ -8,13 +8,13 @@ use crate::attempts::{Attempt, PlainBuffer};
 use crate::kernel::PlainKernel;
 use crate::scheds::PlainSched;
 use event_log::{CpuId, NoMemory};
-use layer_traits::OwnedSleeps;
+use layer_traits::{OwnedThreadLayer, SleepLaw};
 use sleep_wakeup::{SleepEdit, Sleeper, sleep_blocks};
 use std::alloc::Global;
 
 /// A layer of sleep and wakeup for attempts, whose machine is opened with empty buffers, and of which
 /// each poll does a whole section where it may.
-pub trait OpensAttempts: OwnedSleeps<Attempt> {
+pub trait OpensAttempts: OwnedThreadLayer<SleepLaw<Attempt>> {
     ghost use Rattle.event_log.specs.declared.ids.CpuId.{CpuId};
     ghost use Rattle.event_log.specs.declared.ids.LockId.TheVariants.{Pending};
     ghost use Rattle.event_log.specs.declared.ids.TheConstants.{CPUS};

@@ -2,7 +2,7 @@
 
 use crate::{Ask, Attempt, PlainBuffer, Tried};
 use event_log::{Msg, Tid};
-use layer_traits::Sleeps;
+use layer_traits::{Parcel, Sleeps};
 use std::test::Fail;
 
 /// The message of these words: one number, or two with a comma between them.
@@ -73,7 +73,7 @@ fn rows_go(rt: &HostRuntime, rows: &str) -> Result<(), Fail> {
         let Some(attempt) = attempt(text) else {
             return Err(Fail::new(row));
         };
-        let tried = Attempt::apply_handed(&attempt, None, &mut buffer, &mut Msg::none());
+        let tried = Attempt::apply_handed(&attempt, None, &mut buffer, &mut Parcel::new());
         let acted = matches!(tried, Tried::Acted(..));
         let (tried_text, state) = (tried_text(rt, &tried)?, state(rt, &buffer)?);
         let text = format!(in rt.alloc(); "{}; {}", tried_text.as_str(), state.as_str())?;

@@ -13,7 +13,7 @@ ghost use Rattle.thread_blocks.specs.Queues.{first};
 
 use arrayvec::ArrayVec;
 use event_log::{CAPACITY, Kind, Msg, Ring, THREADS, Tid};
-use layer_traits::{Effect, Side, Sleeps, WaitList, Wake};
+use layer_traits::{Effect, Parcel, Side, Sleeps, WaitList, Wake};
 use std::marker::Model;
 use thread_blocks::ThreadQueue;
 
@@ -296,16 +296,16 @@ impl Sleeps for Attempt {
 
     ghost rules = { attempts };
 
-    ghost meant = { λ attempt message. attempt };
+    ghost meant = { λ attempt parcel. attempt };
 
-    ghost told = { λ tried message. tried };
+    ghost told = { λ tried parcel. tried };
 
     fn caller(attempt: &Attempt) -> Tid {
         attempt.thread
     }
 
     // An attempt holds its message itself.
-    fn whole(attempt: &Attempt, _message: &Msg) -> Attempt {
+    fn whole(attempt: &Attempt, _parcel: &Parcel) -> Attempt {
         *attempt
     }
 
@@ -313,7 +313,7 @@ impl Sleeps for Attempt {
         attempt: &Attempt,
         _first: Option<Tid>,
         block: &mut PlainBuffer,
-        _message: &mut Msg,
+        _parcel: &mut Parcel,
     ) -> Tried {
         if !block.allows(&attempt.ask) {
             let side = attempt_side(&attempt.ask);

@@ -69,6 +69,10 @@ impl<E: SplitEdit, L: Layer<LockLaw<E>>> Layer<LockLaw<E>> for Backoff<L> {
         self.lower.is_busy()
     }
 
+    fn own_here(&self) -> &() {
+        &()
+    }
+
     fn look(&mut self, _m: &mut L::Machine) -> bool {
         false
     }

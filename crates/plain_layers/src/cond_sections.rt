@@ -14,8 +14,8 @@ ghost use Rattle.plain_layers.specs.LockSections.{call_alone};
 
 use event_log::{BufId, Tid};
 use layer_traits::{
-    BufferCall, CvEdit, CvLaw, CvLeave, CvOut, Guarded, Outcome, OwnedConds, Pass, Payload, QEdit,
-    QOut, Side, ThreadLayer,
+    BufferCall, CvEdit, CvLaw, CvLeave, CvOut, Guarded, Outcome, OwnedThreadLayer, Pass, Payload,
+    QEdit, QOut, Side, ThreadLayer,
 };
 
 /// How a call stands after a poll.
@@ -42,7 +42,7 @@ fn caller_of<G: Guarded>(call: &QEdit<CvEdit<G::Handed>, CvLeave>) -> Tid
     }
 }
 
-/// One poll of a call of the thread that runs, with no message beside it.
+/// One poll of a call of the thread that runs, with no parcel beside it.
 pub fn one_section_poll<G: Guarded, C: ThreadLayer<CvLaw<G>>>(
     part: &mut C,
     m: &mut C::Machine,
@@ -134,7 +134,7 @@ fn is_callers<G: Guarded>(
 }
 
 /// So many polls of a call; `None` if its caller may not make it, or if it ends or sleeps sooner.
-pub fn calls<G: Guarded, C: OwnedConds<G>>(
+pub fn calls<G: Guarded, C: OwnedThreadLayer<CvLaw<G>>>(
     part: &mut C,
     m: &mut C::Machine,
     buffer: BufId,

@@ -17,10 +17,10 @@ use crate::PlainSched;
 use crate::cond_sections::{PollSection, calls, drains, is_woken, section_polls, switches};
 use crate::openings::{Opens, SchedLaws};
 use condvar::Cond;
-use event_log::{BufId, CPUS, CpuId, Msg, NoMemory, THREADS, Tid};
+use event_log::{BufId, CPUS, CpuId, NoMemory, THREADS, Tid};
 use layer_traits::{
-    CvEdit, CvLaw, CvLeave, CvOut, Guarded, OwnedConds, OwnedLocks, QEdit, QOut, QueueEdit, Side,
-    ThreadLayer, WaitList,
+    CvEdit, CvLaw, CvLeave, CvOut, Guarded, OwnedLocks, OwnedThreadLayer, Parcel, QEdit, QOut,
+    QueueEdit, Side, ThreadLayer, WaitList,
 };
 use plain_machine::Plain;
 use queuing_lock::{QLock, QLockEdit, lock_blocks};
@@ -57,19 +57,19 @@ impl Guarded for Reads {
       allowed = λ opening past s. Unit {0};
     } };
 
-    ghost meant = { λ reads message. reads };
+    ghost meant = { λ reads parcel. reads };
 
-    ghost told = { λ front message. front };
+    ghost told = { λ front parcel. front };
 
     fn caller(reads: &Reads) -> Tid {
         reads.caller
     }
 
-    fn whole(reads: &Reads, _message: &Msg) -> Reads {
+    fn whole(reads: &Reads, _parcel: &Parcel) -> Reads {
         *reads
     }
 
-    fn apply_handed(_reads: &Reads, block: &mut Tid, _message: &mut Msg) -> Tid {
+    fn apply_handed(_reads: &Reads, block: &mut Tid, _parcel: &mut Parcel) -> Tid {
         *block
     }
 
@@ -80,7 +80,7 @@ impl Guarded for Reads {
 
 /// Thread 0 acquires in the polls of a section; after those of its Wait it waits among the receivers
 /// and the lock has no owner; and thread 1 then acquires in those of another.
-fn waits_and_frees<G: Guarded, C: OwnedConds<G>>(
+fn waits_and_frees<G: Guarded, C: OwnedThreadLayer<CvLaw<G>>>(
     zero: &mut C,
     one: &mut C,
     m: &mut C::Machine,
@@ -139,7 +139,7 @@ where
 
 /// Thread 1 signals the front of the receivers, by which thread 0 comes into CPU 1's hand and is then
 /// sent home, and leaves the lock.
-fn signals_and_leaves<G: Guarded, C: OwnedConds<G>>(
+fn signals_and_leaves<G: Guarded, C: OwnedThreadLayer<CvLaw<G>>>(
     one: &mut C,
     m: &mut C::Machine,
     section: usize,
@@ -198,7 +198,7 @@ fn is_over<G: Guarded, C: ThreadLayer<CvLaw<G>>>(
 }
 
 /// Thread 0 waits and is woken by thread 1.
-fn is_waited_for<G: Guarded, C: OwnedConds<G>>(
+fn is_waited_for<G: Guarded, C: OwnedThreadLayer<CvLaw<G>>>(
     zero: &mut C,
     one: &mut C,
     m: &mut C::Machine,
@@ -225,7 +225,7 @@ where
 
 /// Thread 0 acquires and reads the block: the machine tells of the lock, and the part has no block in
 /// its hands; then it begins to leave, and looks again.
-fn is_observed<C: OwnedConds<Reads>>(zero: &mut C, m: &mut C::Machine) -> bool
+fn is_observed<C: OwnedThreadLayer<CvLaw<Reads>>>(zero: &mut C, m: &mut C::Machine) -> bool
     requires fits { C.Fits zero.old m.old }
     requires buffer { IsSome (C.opening m.old (Buffer (record { 0 = 0 }))) }
     requires queue { IsSome (C.opening m.old (Pending (record { 0 = 1 }))) }
@@ -235,7 +235,7 @@ fn is_observed<C: OwnedConds<Reads>>(zero: &mut C, m: &mut C::Machine) -> bool
     let at = BufId(0);
     let reads = QEdit::Inside(CvEdit::Edit(Reads { caller: Tid(0) }));
     let leave = QEdit::Release(CvLeave::Leave(Tid(0)));
-    if !switches::<Reads, C>(zero, m) || zero.is_ready(Tid(0)) || zero.has_ended(Tid(0)) {
+    if !switches::<Reads, C>(zero, m) || zero.own_threads().is_ready(Tid(0)) || zero.own_threads().has_ended(Tid(0)) {
         return false;
     }
     let Some(PollSection::Answered(_)) = calls::<Reads, C>(zero, m, at, &QEdit::Acquire(Tid(0)), 3)

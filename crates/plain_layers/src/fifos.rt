@@ -1,8 +1,8 @@
 //! First-in first-out buffers in one section.
 
-ghost use Rattle.std.specs.Prelude.{◌≡◌, ◌<◌, [], None, Some, false, replicate, slice_set};
+ghost use Rattle.std.specs.Prelude.{◌≡◌, ◌<◌, [], None, Some, false, option_map, replicate, slice_set};
 ghost use Rattle.event_log.specs.declared.ids.TheConstants.{THREADS};
-ghost use Rattle.layer_traits.specs.BufferLaw.{buffer_of, no_call, reply_of, call_state_of};
+ghost use Rattle.layer_traits.specs.BufferLaw.{buffer_of, no_call, reply_of, reply_with, call_state_of};
 ghost use Rattle.plain_layers.specs.Fifos.{ask_of, attempt_of, reply_to, call_state_after};
 
 use crate::attempts::{Ask, Attempt, Tried};
@@ -10,8 +10,8 @@ use crate::wholes::whole;
 use arrayvec::ArrayVec;
 use event_log::{BufId, CAPACITY, CpuId, Kind, Msg, THREADS, Tid};
 use layer_traits::{
-    BufferLaw, Call, CallLayer, CallState, Effect, Outcome, OwnedBuffers, OwnedSleeps, Pass,
-    Payload, Reply, SleepLaw, Stage, ThreadLayer, WaitList,
+    BufferLaw, Call, CallLayer, CallState, Effect, Outcome, OwnThreads, OwnedBuffers,
+    OwnedThreadLayer, Pass, Payload, ReplyKind, SleepLaw, Stage, ThreadLayer, WaitList,
 };
 
 /// One CPU's part of first-in first-out blocking buffers as they are meant, over a part `S` of sleep
@@ -74,26 +74,26 @@ fn next(call: &Call, effect: &Option<Effect>) -> CallState
     }
 }
 
-/// The reply of a call after this effect.
-fn answer(call: &Call, effect: &Effect) -> Reply
-    ensures { result ≡ reply_of call.now effect.now }
+/// The kind of the reply of a call after this effect.
+fn answer(call: &Call, effect: &Effect) -> ReplyKind
+    ensures { reply_with result (Some effect.now) ≡ reply_of call.now effect.now }
 {
     match *call {
         Call::Send(_, _) => match effect.kind {
-            Kind::SendClosed => Reply::Closed,
-            _ => Reply::Sent,
+            Kind::SendClosed => ReplyKind::Closed,
+            _ => ReplyKind::Sent,
         },
         Call::Recv(_) => match effect.kind {
-            Kind::RecvClosed => Reply::Closed,
-            _ => Reply::Got(effect.value),
+            Kind::RecvClosed => ReplyKind::Closed,
+            _ => ReplyKind::Got,
         },
-        Call::Close(_) => Reply::Shut,
+        Call::Close(_) => ReplyKind::Shut,
     }
 }
 
-/// The reply of a call after this effect, or none.
-fn reply(call: &Call, effect: &Option<Effect>) -> Option<Reply>
-    ensures { result ≡ reply_to call.now effect.now }
+/// The kind of the reply of a call after this effect, or none.
+fn reply(call: &Call, effect: &Option<Effect>) -> Option<ReplyKind>
+    ensures { option_map (λ kind. reply_with kind effect.now) result ≡ reply_to call.now effect.now }
 {
     match effect {
         None => None,
@@ -178,16 +178,9 @@ impl<S: ThreadLayer<SleepLaw<Attempt>>> CallLayer<BufferLaw> for PlainFifo<S> {
         false
     }
 
-    fn current(&self) -> Option<Tid> {
-        self.lower.current()
-    }
-
-    fn hand(&self) -> Option<Tid> {
-        self.lower.hand()
-    }
-
-    fn has_ready(&self) -> bool {
-        self.lower.has_ready()
+    #[inline(always)]
+    fn own_threads(&self) -> &OwnThreads {
+        self.lower.own_threads()
     }
 
     fn effect(&self, t: Tid) -> Option<Effect> {
@@ -202,7 +195,7 @@ impl<S: ThreadLayer<SleepLaw<Attempt>>> CallLayer<BufferLaw> for PlainFifo<S> {
         false
     }
 
-    fn poll(&mut self, m: &mut S::Machine, t: Tid, call: &Call) -> Option<Reply> {
+    fn poll_kind(&mut self, m: &mut S::Machine, t: Tid, call: &Call) -> Option<ReplyKind> {
         let mut payload = Payload::new();
         let outcome = whole::<Attempt, S>(
             &mut self.lower,
@@ -249,7 +242,7 @@ impl<S: ThreadLayer<SleepLaw<Attempt>>> CallLayer<BufferLaw> for PlainFifo<S> {
     ghost opens = { λ step m homes c fresh. absurd step };
 }
 
-impl<S: OwnedSleeps<Attempt>> OwnedBuffers for PlainFifo<S> {
+impl<S: OwnedThreadLayer<SleepLaw<Attempt>>> OwnedBuffers for PlainFifo<S> {
     ghost use Rattle.std.specs.Prelude.{option_map};
     ghost use Rattle.std.proofs.Common.{sym};
     ghost use Rattle.event_log.specs.declared.ids.LockId.TheVariants.{Buffer, Pending};
@@ -269,33 +262,25 @@ impl<S: OwnedSleeps<Attempt>> OwnedBuffers for PlainFifo<S> {
 
     ghost owner = { λ m b. nobody };
 
-    ghost items_at = { λ m b. option_map items_in (S.state_at m b) };
+    ghost items_at = { λ m b. option_map items_in (S.block_at m b) };
 
-    ghost items_with = { λ p b. option_map items_in (S.state_with p.lower b) };
+    ghost items_with = { λ p b. option_map items_in (S.block_with p.lower b) };
 
-    ghost closed_at = { λ m b. option_map closed_of (S.state_at m b) };
+    ghost closed_at = { λ m b. option_map closed_of (S.block_at m b) };
 
-    ghost closed_with = { λ p b. option_map closed_of (S.state_with p.lower b) };
+    ghost closed_with = { λ p b. option_map closed_of (S.block_with p.lower b) };
 
     ghost owner_at = { λ m b. Some nobody };
 
     ghost owner_with = { λ p b. nothing_read };
 
-    ghost wait_lists_at = { λ m b. option_map wait_lists_of (S.state_at m b) };
+    ghost wait_lists_at = { λ m b. option_map wait_lists_of (S.block_at m b) };
 
-    ghost wait_lists_with = { λ p b. option_map wait_lists_of (S.state_with p.lower b) };
+    ghost wait_lists_with = { λ p b. option_map wait_lists_of (S.block_with p.lower b) };
 
     ghost queue_at = { λ m d. S.queue_at m d };
 
     ghost queue_with = { λ p d. S.queue_with p.lower d };
-
-    fn is_ready(&self, t: Tid) -> bool {
-        self.lower.is_ready(t)
-    }
-
-    fn has_ended(&self, t: Tid) -> bool {
-        self.lower.has_ended(t)
-    }
 
     fn items_in(m: &S::Machine, b: BufId) -> Option<ArrayVec<Msg, CAPACITY>> {
         match S::block_in(m, b) {
@@ -354,7 +339,7 @@ impl<S: OwnedSleeps<Attempt>> OwnedBuffers for PlainFifo<S> {
     ghost items = { λ m c b acts within. view_read (λ (p : Self). p.lower) (λ p. S.Fits p m) (λ (p : Self). Self.Fits p m) (λ p. S.cpu_of p)
         (S.MayHold m) (S.MayHold m) (λ p fits. fits.0)
         (λ d held. held) (locked_after (inner (S.opening m)) (Buffer b) (buffer_sections (S.seen m))) items_in
-        (λ p. S.state_with p b) (S.state_at m b)
+        (λ p. S.block_with p b) (S.block_at m b)
         (items_of (contents_of (caps_in (inner (S.opening m))) (entries_in (inner (S.opening m)) (buffer_sections (S.seen m)))) b.0)
         (items_read (S.opening m) acts.2.fresh b within (buffer_sections (S.seen m)))
         (S.shown m c b acts.0 (buffer_there (S.opening m) acts.2.fresh b within)) };
@@ -362,7 +347,7 @@ impl<S: OwnedSleeps<Attempt>> OwnedBuffers for PlainFifo<S> {
     ghost closed = { λ m c b acts within. view_read (λ (p : Self). p.lower) (λ p. S.Fits p m) (λ (p : Self). Self.Fits p m) (λ p. S.cpu_of p)
         (S.MayHold m) (S.MayHold m) (λ p fits. fits.0)
         (λ d held. held) (locked_after (inner (S.opening m)) (Buffer b) (buffer_sections (S.seen m))) closed_of
-        (λ p. S.state_with p b) (S.state_at m b)
+        (λ p. S.block_with p b) (S.block_at m b)
         (is_closed (entries_in (inner (S.opening m)) (buffer_sections (S.seen m))) b.0)
         (closed_read (S.opening m) acts.2.fresh b within (buffer_sections (S.seen m)))
         (S.shown m c b acts.0 (buffer_there (S.opening m) acts.2.fresh b within)) };
@@ -377,7 +362,7 @@ impl<S: OwnedSleeps<Attempt>> OwnedBuffers for PlainFifo<S> {
     ghost waiters_law = { λ m c b acts within. view_read (λ (p : Self). p.lower) (λ p. S.Fits p m) (λ (p : Self). Self.Fits p m) (λ p. S.cpu_of p)
         (S.MayHold m) (S.MayHold m) (λ p fits. fits.0)
         (λ d held. held) (locked_after (inner (S.opening m)) (Buffer b) (buffer_sections (S.seen m))) wait_lists_of
-        (λ p. S.state_with p b) (S.state_at m b)
+        (λ p. S.block_with p b) (S.block_at m b)
         (λ line. wait_lists_in (inner (S.opening m)) (buffer_sections (S.seen m)) b line)
         (wait_lists_read (S.opening m) acts.2.fresh b within (buffer_sections (S.seen m)))
         (S.shown m c b acts.0 (buffer_there (S.opening m) acts.2.fresh b within)) };

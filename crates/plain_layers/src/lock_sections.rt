@@ -12,7 +12,8 @@ ghost use Rattle.plain_layers.specs.LockSections.{LockHasEnded, MayPollLockSecti
 
 use event_log::{BufId, Tid};
 use layer_traits::{
-    BufferCall, Locked, Outcome, OwnedQLocks, Pass, Payload, QEdit, QLockLaw, QOut, ThreadLayer,
+    BufferCall, Locked, Outcome, OwnedThreadLayer, Pass, Payload, QEdit, QLockLaw, QOut,
+    ThreadLayer,
 };
 
 /// How a call stands after a poll.
@@ -26,7 +27,7 @@ pub enum PollSection<O> {
     Sleeps,
 }
 
-/// One poll of a call of the thread that runs, with no message beside it.
+/// One poll of a call of the thread that runs, with no parcel beside it.
 pub fn one_section_poll<F: Locked, Q: ThreadLayer<QLockLaw<F>>>(
     part: &mut Q,
     m: &mut Q::Machine,
@@ -98,7 +99,7 @@ where
 }
 
 /// So many polls of a thread's Acquire; `None` if it may not call, or if it ends or sleeps sooner.
-pub fn acquires<F: Locked, Q: OwnedQLocks<F>>(
+pub fn acquires<F: Locked, Q: OwnedThreadLayer<QLockLaw<F>>>(
     part: &mut Q,
     m: &mut Q::Machine,
     buffer: BufId,
@@ -133,7 +134,7 @@ where
 }
 
 /// So many polls of an owner's Release; `None` if it may not call, or if it ends sooner.
-pub fn releases<F: Locked, Q: OwnedQLocks<F>>(
+pub fn releases<F: Locked, Q: OwnedThreadLayer<QLockLaw<F>>>(
     part: &mut Q,
     m: &mut Q::Machine,
     buffer: BufId,

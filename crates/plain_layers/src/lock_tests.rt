@@ -17,10 +17,10 @@ use crate::lock_sections::{
     PollSection, acquires, drains, is_handed, releases, section_polls, switches,
 };
 use crate::openings::{Opens, SchedLaws};
-use event_log::{BufId, CPUS, CpuId, Msg, NoMemory, THREADS, Tid};
+use event_log::{BufId, CPUS, CpuId, NoMemory, THREADS, Tid};
 use layer_traits::{
-    Locked, OwnedLocks, OwnedQLocks, QEdit, QLockLaw, QOut, QueueEdit, Side, ThreadLayer, WaitList,
-    WakeWaiter,
+    Locked, OwnedLocks, OwnedThreadLayer, Parcel, QEdit, QLockLaw, QOut, QueueEdit, Side,
+    ThreadLayer, WaitList, WakeWaiter,
 };
 use plain_machine::Plain;
 use queuing_lock::{QBlock, QLock, QLockEdit, lock_blocks};
@@ -64,19 +64,19 @@ impl Locked for Reads {
       allowed = λ opening past s. Unit {0};
     } };
 
-    ghost meant = { λ reads message. reads };
+    ghost meant = { λ reads parcel. reads };
 
-    ghost told = { λ block message. block };
+    ghost told = { λ block parcel. block };
 
     fn caller(reads: &Reads) -> Tid {
         reads.caller
     }
 
-    fn whole(reads: &Reads, _message: &Msg) -> Reads {
+    fn whole(reads: &Reads, _parcel: &Parcel) -> Reads {
         *reads
     }
 
-    fn apply_handed(_reads: &Reads, block: &mut u8, _message: &mut Msg) -> u8 {
+    fn apply_handed(_reads: &Reads, block: &mut u8, _parcel: &mut Parcel) -> u8 {
         *block
     }
 
@@ -98,7 +98,7 @@ impl Locked for Reads {
 }
 
 /// Thread 0 acquires in the polls of a section; thread 1's Acquire then sleeps at the lock.
-fn one_sleeps<F: Locked, Q: OwnedQLocks<F>>(
+fn one_sleeps<F: Locked, Q: OwnedThreadLayer<QLockLaw<F>>>(
     zero: &mut Q,
     one: &mut Q,
     m: &mut Q::Machine,
@@ -139,7 +139,7 @@ where
 
 /// Thread 0's Release leaves thread 1 the owner and in CPU 0's hand after the polls of a section,
 /// and answers after as many more, by which thread 1 is sent home.
-fn hands_over<F: Locked, Q: OwnedQLocks<F>>(
+fn hands_over<F: Locked, Q: OwnedThreadLayer<QLockLaw<F>>>(
     zero: &mut Q,
     m: &mut Q::Machine,
     last: F::Release,
@@ -171,7 +171,7 @@ where
 }
 
 /// Thread 1 is told that it owns the lock only once it runs again on its CPU.
-fn one_is_observed<F: Locked, Q: OwnedQLocks<F>>(
+fn one_is_observed<F: Locked, Q: OwnedThreadLayer<QLockLaw<F>>>(
     one: &mut Q,
     m: &mut Q::Machine,
     section: usize,
@@ -198,7 +198,7 @@ where
 }
 
 /// The lock passes from thread 0 to thread 1, for which thread 2 then sleeps.
-fn is_handed_over<F: Locked, Q: OwnedQLocks<F>>(
+fn is_handed_over<F: Locked, Q: OwnedThreadLayer<QLockLaw<F>>>(
     zero: &mut Q,
     one: &mut Q,
     two: &mut Q,
@@ -236,7 +236,7 @@ where
 
 /// Thread 0 acquires: the machine tells of the lock, and the part has no block in its hands; then it
 /// begins a Release, and looks again.
-fn is_observed<Q: OwnedQLocks<Reads>>(zero: &mut Q, m: &mut Q::Machine) -> bool
+fn is_observed<Q: OwnedThreadLayer<QLockLaw<Reads>>>(zero: &mut Q, m: &mut Q::Machine) -> bool
     requires fits { Q.Fits zero.old m.old }
     requires buffer { IsSome (Q.opening m.old (Buffer (record { 0 = 0 }))) }
     requires queue { IsSome (Q.opening m.old (Pending (record { 0 = 1 }))) }
@@ -244,7 +244,7 @@ fn is_observed<Q: OwnedQLocks<Reads>>(zero: &mut Q, m: &mut Q::Machine) -> bool
     requires ended { LockHasEnded ⟦<Reads as Locked>⟧.rules (Q.own zero.old) (Q.under_way zero.old) (record { 0 = 0 }) }
 {
     let at = BufId(0);
-    if !switches::<Reads, Q>(zero, m) || zero.is_ready(Tid(0)) || zero.has_ended(Tid(0)) {
+    if !switches::<Reads, Q>(zero, m) || zero.own_threads().is_ready(Tid(0)) || zero.own_threads().has_ended(Tid(0)) {
         return false;
     }
     let Some(PollSection::Answered(_)) = acquires::<Reads, Q>(zero, m, at, Tid(0), 3) else {

@@ -62,6 +62,10 @@ impl<E: SplitEdit> Layer<LockLaw<E>> for PlainLock<E> {
         false
     }
 
+    fn own_here(&self) -> &() {
+        &()
+    }
+
     fn look(&mut self, _m: &mut LockTable<E>) -> bool {
         false
     }

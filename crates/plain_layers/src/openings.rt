@@ -14,8 +14,8 @@ use crate::queues::PlainQueues;
 use crate::scheds::PlainSched;
 use event_log::{CpuId, NoMemory};
 use layer_traits::{
-    Layer, LockLaw, Moves, OwnedLocks, OwnedScheds, QueueEdit, QueueEvent, QueueLaw, SchedCall,
-    SchedLaw, SectionOf, ThreadsOf,
+    Layer, LockLaw, Moves, OwnThreads, OwnedLayer, OwnedLocks, QueueEdit, QueueEvent, QueueLaw,
+    SchedCall, SchedLaw, SectionOf,
 };
 use scheduler::Sched;
 use shared_queue::{SharedQueues, queue_blocks};
@@ -32,12 +32,12 @@ pub type SchedLaws<E> = PhantomData<
         QueueEvent<E>,
         SchedLaw<E>,
         SchedCall<E>,
-        ThreadsOf,
+        OwnThreads,
     ),
 >;
 
 /// A layer of schedulers whose machine is opened with the blocks of its buffers.
-pub trait Opens<E: Moves>: OwnedScheds<E> {
+pub trait Opens<E: Moves>: OwnedLayer<SchedLaw<E>> {
     /// A machine of so many CPUs, on which nobody is pending, with the block of each buffer in its
     /// place. `homes` holds the home of each thread; there is room for `room` events.
     ///

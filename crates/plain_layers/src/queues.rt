@@ -4,7 +4,7 @@ ghost use Rattle.std.specs.Prelude.{[], None, false, refl};
 
 use crate::kernel::PlainKernel;
 use event_log::{BufId, CpuId, Tid};
-use layer_traits::{BareQueueAnswer, Layer, Moves, OwnedQueues, Payload, QueueCall, QueueLaw};
+use layer_traits::{BareQueueAnswer, Layer, Moves, OwnedLayer, Payload, QueueCall, QueueLaw};
 use std::marker::PhantomData;
 
 /// One CPU's part of shared queues as they are meant: a push, a taking or an edit is done in one
@@ -61,6 +61,10 @@ impl<E: Moves> Layer<QueueLaw<E>> for PlainQueues<E> {
         false
     }
 
+    fn own_here(&self) -> &() {
+        &()
+    }
+
     fn look(&mut self, _m: &mut PlainKernel<E>) -> bool {
         false
     }
@@ -99,7 +103,7 @@ impl<E: Moves> Layer<QueueLaw<E>> for PlainQueues<E> {
     ghost busy = { λ p m fits step. absurd step };
 }
 
-impl<E: Moves> OwnedQueues<E> for PlainQueues<E> {
+impl<E: Moves> OwnedLayer<QueueLaw<E>> for PlainQueues<E> {
     ghost use Rattle.std.specs.Prelude.{slice_get};
     ghost use Rattle.plain_layers.specs.Kernels.{calls_in};
     ghost use Rattle.plain_layers.specs.Laws.ShownLaws.{block_shown, queue_shown};

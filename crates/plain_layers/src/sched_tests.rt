@@ -14,8 +14,8 @@ use crate::openings::{Opens, SchedLaws};
 use crate::{PlainLock, PlainQueues, PlainSched};
 use event_log::{BufId, CPUS, CpuId, LockId, NoMemory, Tid};
 use layer_traits::{
-    BareQueueAnswer, Moves, OwnedLocks, OwnedScheds, Pass, Payload, QueueAnswer, QueueBlock,
-    QueueEdit, SchedCall, SchedLayer, SplitEdit, WaitList,
+    BareQueueAnswer, Layer, Moves, OwnedLayer, OwnedLocks, Pass, Payload, QueueAnswer, QueueBlock,
+    QueueEdit, SchedCall, SchedLaw, SplitEdit, WaitList,
 };
 use plain_machine::{GrantLockWords, GrantPlain, Plain};
 use scheduler::Sched;
@@ -125,20 +125,20 @@ fn machine<S: Opens<Nap>>(alloc: Global, cpus: u8, homes: &[CpuId]) -> Result<S:
 }
 
 /// Whether what the part's CPU has of its own lets a pass come.
-fn may_pass<S: SchedLayer<Nap>>(part: &S, pass: Pass) -> bool
+fn may_pass<S: Layer<SchedLaw<Nap>>>(part: &S, pass: Pass) -> bool
     ensures { result ≡ true → MayPass pass (S.own part.now) }
 {
     match pass {
-        Pass::Switch => part.current().is_none() && part.hand().is_none() && part.has_ready(),
-        Pass::YieldNow => part.current().is_some() && part.hand().is_none(),
-        Pass::Drain => part.current().is_none() && part.hand().is_none() && !part.has_ready(),
-        Pass::MakeReady(t) => part.hand() == Some(t),
-        Pass::End => part.current().is_some() && part.hand().is_none(),
+        Pass::Switch => part.own_here().current().is_none() && part.own_here().hand().is_none() && part.own_here().has_ready(),
+        Pass::YieldNow => part.own_here().current().is_some() && part.own_here().hand().is_none(),
+        Pass::Drain => part.own_here().current().is_none() && part.own_here().hand().is_none() && !part.own_here().has_ready(),
+        Pass::MakeReady(t) => part.own_here().hand() == Some(t),
+        Pass::End => part.own_here().current().is_some() && part.own_here().hand().is_none(),
     }
 }
 
 /// Whether a call of the part's CPU has begun and not ended.
-fn has_begun<S: SchedLayer<Nap>>(part: &S) -> bool
+fn has_begun<S: Layer<SchedLaw<Nap>>>(part: &S) -> bool
     ensures { result ≡ is_some (S.under_way part.now) }
 {
     part.is_busy()
@@ -146,7 +146,7 @@ fn has_begun<S: SchedLayer<Nap>>(part: &S) -> bool
 
 /// Polls a pass, if it may come, until it answers, and tells at which poll it did; 0 where none of
 /// three polls answered.
-fn passed_at<S: SchedLayer<Nap>>(part: &mut S, m: &mut S::Machine, pass: Pass) -> u8
+fn passed_at<S: Layer<SchedLaw<Nap>>>(part: &mut S, m: &mut S::Machine, pass: Pass) -> u8
     requires fits { S.Fits part.old m.old }
     requires room { 3 ≤ S.room m.old }
     requires free { inner (S.opening m.old) waiters_of ≡ Some None }
@@ -174,7 +174,7 @@ fn passed_at<S: SchedLayer<Nap>>(part: &mut S, m: &mut S::Machine, pass: Pass) -
 }
 
 /// The same of a nap.
-fn napped_at<S: SchedLayer<Nap>>(part: &mut S, m: &mut S::Machine, nap: Nap) -> u8
+fn napped_at<S: Layer<SchedLaw<Nap>>>(part: &mut S, m: &mut S::Machine, nap: Nap) -> u8
     requires fits { S.Fits part.old m.old }
     requires room { 3 ≤ S.room m.old }
     requires free { inner (S.opening m.old) waiters_of ≡ Some None }
@@ -184,7 +184,7 @@ fn napped_at<S: SchedLayer<Nap>>(part: &mut S, m: &mut S::Machine, nap: Nap) -> 
     ensures cpu { S.cpu_of part.new ≡ S.cpu_of part.old }
     ensures others { (p : S) → S.cpu_of p ≢ S.cpu_of part.old → S.Fits p m.old → S.Fits p m.new }
 {
-    if has_begun(part) || part.current() != Some(nap.by) || part.hand().is_some() {
+    if has_begun(part) || part.own_here().current() != Some(nap.by) || part.own_here().hand().is_some() {
         return 0;
     }
     let mut payload = Payload::new();
@@ -212,7 +212,7 @@ fn napped_at<S: SchedLayer<Nap>>(part: &mut S, m: &mut S::Machine, nap: Nap) -> 
 
 /// Thread `t` sleeps at buffer 0, or waits in CPU 0's queue: the machine tells it, and no part has the
 /// block or the queue in its hands.
-fn is_observed<S: OwnedScheds<Nap>>(part: &S, m: &S::Machine, t: Tid, pends: bool) -> bool
+fn is_observed<S: OwnedLayer<SchedLaw<Nap>>>(part: &S, m: &S::Machine, t: Tid, pends: bool) -> bool
     requires fits { S.Fits part.now m.now }
     requires free { inner (S.opening m.now) waiters_of ≡ Some None }
     requires queue { IsSome (S.opening m.now (Pending (record { 0 = 0 }))) }
@@ -226,7 +226,7 @@ fn is_observed<S: OwnedScheds<Nap>>(part: &S, m: &S::Machine, t: Tid, pends: boo
 
 /// A look takes the place of the second poll of the taking of CPU 0's queue, which is then in its
 /// hands.
-fn looks_again<S: OwnedScheds<Nap>>(rt: &impl Abort, part: &mut S, m: &mut S::Machine)
+fn looks_again<S: OwnedLayer<SchedLaw<Nap>>>(rt: &impl Abort, part: &mut S, m: &mut S::Machine)
     requires fits { S.Fits part.old m.old }
     requires room { 4 ≤ S.room m.old }
 {
@@ -240,7 +240,7 @@ fn looks_again<S: OwnedScheds<Nap>>(rt: &impl Abort, part: &mut S, m: &mut S::Ma
 }
 
 /// The part of `cpu` at boot.
-fn part<S: SchedLayer<Nap>>(m: &S::Machine, cpu: CpuId, homes: &[CpuId]) -> S
+fn part<S: Layer<SchedLaw<Nap>>>(m: &S::Machine, cpu: CpuId, homes: &[CpuId]) -> S
     requires few { length homes.now ≤ THREADS }
     requires small { cpu.0 < CPUS }
     requires acts { (c : CpuId) → c.0 < CPUS → S.ActsFor m.now c }
@@ -256,24 +256,24 @@ fn part<S: SchedLayer<Nap>>(m: &S::Machine, cpu: CpuId, homes: &[CpuId]) -> S
 }
 
 /// Two threads at home on one CPU take turns; a call of the shared queues is done in so many polls.
-fn take_turns<S: SchedLayer<Nap>>(rt: &impl Abort, part: &mut S, m: &mut S::Machine, polls: u8)
+fn take_turns<S: Layer<SchedLaw<Nap>>>(rt: &impl Abort, part: &mut S, m: &mut S::Machine, polls: u8)
     requires fits { S.Fits part.old m.old }
     requires room { 12 ≤ S.room m.old }
     requires free { inner (S.opening m.old) waiters_of ≡ Some None }
 {
     assert_eq!(rt; passed_at(part, m, Pass::Switch), 1);
-    assert!(rt; part.current() == Some(Tid(0)));
+    assert!(rt; part.own_here().current() == Some(Tid(0)));
     assert_eq!(rt; passed_at(part, m, Pass::YieldNow), polls);
-    assert!(rt; part.current().is_none());
-    assert!(rt; part.is_ready(Tid(1)) && part.is_ready(Tid(0)));
+    assert!(rt; part.own_here().current().is_none());
+    assert!(rt; part.own_here().is_ready(Tid(1)) && part.own_here().is_ready(Tid(0)));
     assert_eq!(rt; passed_at(part, m, Pass::Switch), 1);
-    assert!(rt; part.current() == Some(Tid(1)));
+    assert!(rt; part.own_here().current() == Some(Tid(1)));
     assert_eq!(rt; passed_at(part, m, Pass::End), 1);
-    assert!(rt; part.has_ended(Tid(1)) && !has_begun(part));
+    assert!(rt; part.own_here().has_ended(Tid(1)) && !has_begun(part));
 }
 
 /// The front of the ready threads, which is `t`, runs and goes to sleep.
-fn falls_asleep<S: SchedLayer<Nap>>(
+fn falls_asleep<S: Layer<SchedLaw<Nap>>>(
     rt: &impl Abort,
     part: &mut S,
     m: &mut S::Machine,
@@ -295,11 +295,11 @@ fn falls_asleep<S: SchedLayer<Nap>>(
         wakes: false,
     };
     assert_eq!(rt; napped_at(part, m, nap), polls);
-    assert!(rt; part.current().is_none());
+    assert!(rt; part.own_here().current().is_none());
 }
 
 /// The front of the ready threads, which is `t`, runs and wakes `sleeper`, which stands in hand.
-fn wakes<S: SchedLayer<Nap>>(
+fn wakes<S: Layer<SchedLaw<Nap>>>(
     rt: &impl Abort,
     part: &mut S,
     m: &mut S::Machine,
@@ -319,11 +319,11 @@ fn wakes<S: SchedLayer<Nap>>(
     assert_eq!(rt; passed_at(part, m, Pass::Switch), 1);
     let nap = Nap { by: t, wakes: true };
     assert_eq!(rt; napped_at(part, m, nap), polls);
-    assert!(rt; part.hand() == Some(sleeper));
+    assert!(rt; part.own_here().hand() == Some(sleeper));
 }
 
 /// The thread in hand is pushed to its home.
-fn sends_home<S: SchedLayer<Nap>>(
+fn sends_home<S: Layer<SchedLaw<Nap>>>(
     rt: &impl Abort,
     part: &mut S,
     m: &mut S::Machine,
@@ -338,11 +338,11 @@ fn sends_home<S: SchedLayer<Nap>>(
     ensures others { (p : S) → S.cpu_of p ≢ S.cpu_of part.old → S.Fits p m.old → S.Fits p m.new }
 {
     assert_eq!(rt; passed_at(part, m, Pass::MakeReady(t)), polls);
-    assert!(rt; part.hand().is_none());
+    assert!(rt; part.own_here().hand().is_none());
 }
 
 /// Thread `t` comes out of the pending queue and runs again.
-fn runs_again<S: SchedLayer<Nap>>(
+fn runs_again<S: Layer<SchedLaw<Nap>>>(
     rt: &impl Abort,
     part: &mut S,
     m: &mut S::Machine,
@@ -354,13 +354,13 @@ fn runs_again<S: SchedLayer<Nap>>(
     requires free { inner (S.opening m.old) waiters_of ≡ Some None }
 {
     assert_eq!(rt; passed_at(part, m, Pass::Drain), polls);
-    assert!(rt; part.is_ready(t));
+    assert!(rt; part.own_here().is_ready(t));
     assert_eq!(rt; passed_at(part, m, Pass::Switch), 1);
-    assert!(rt; part.current() == Some(t));
+    assert!(rt; part.own_here().current() == Some(t));
 }
 
 /// Polls a pass once, where it is under way or may come, and tells whether it is done.
-fn polled<S: SchedLayer<Nap>>(part: &mut S, m: &mut S::Machine, pass: Pass) -> bool
+fn polled<S: Layer<SchedLaw<Nap>>>(part: &mut S, m: &mut S::Machine, pass: Pass) -> bool
     requires fits { S.Fits part.old m.old }
     requires call { MatchOption (S.under_way part.old) (Unit {0}) (λ s. s ≡ ThePass pass) }
     requires room { 0 < S.room m.old }
@@ -379,7 +379,7 @@ fn polled<S: SchedLayer<Nap>>(part: &mut S, m: &mut S::Machine, pass: Pass) -> b
 
 /// The second CPU pushes thread 1, which it has in hand, into the queue of the first CPU, while the
 /// first CPU takes that queue. The push came first, so the queue that is taken holds the thread.
-fn meet_at_one_queue<S: SchedLayer<Nap>>(
+fn meet_at_one_queue<S: Layer<SchedLaw<Nap>>>(
     rt: &impl Abort,
     first: &mut S,
     second: &mut S,
@@ -398,10 +398,10 @@ fn meet_at_one_queue<S: SchedLayer<Nap>>(
     assert!(rt; !polled(first, m, Pass::Drain));
     assert!(rt; !polled(second, m, push));
     assert!(rt; polled(second, m, push));
-    assert!(rt; second.hand().is_none());
+    assert!(rt; second.own_here().hand().is_none());
     assert!(rt; !polled(first, m, Pass::Drain));
     assert!(rt; polled(first, m, Pass::Drain));
-    assert!(rt; first.is_ready(Tid(1)));
+    assert!(rt; first.own_here().is_ready(Tid(1)));
 }
 
 /// Two threads at home on one CPU, over a machine of this layer.
@@ -546,7 +546,7 @@ fn one_step_schedulers_do_a_call_in_one_poll(rt: HostRuntime) -> Result<(), Fail
 type TowerOverGrants = Sched<SharedQueues<Grant<GrantPlain<QueueEdit<Nap>>>>>;
 
 /// Whether two drains of a CPU's empty queue each answer at their third poll.
-fn drains_twice<S: SchedLayer<Nap>>(part: &mut S, m: &mut S::Machine) -> bool
+fn drains_twice<S: Layer<SchedLaw<Nap>>>(part: &mut S, m: &mut S::Machine) -> bool
     requires fits { S.Fits part.old m.old }
     requires room { 6 ≤ S.room m.old }
     requires free { inner (S.opening m.old) waiters_of ≡ Some None }

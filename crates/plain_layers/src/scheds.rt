@@ -6,9 +6,9 @@ use crate::kernel::PlainKernel;
 use arrayvec::ArrayVec;
 use event_log::{BufId, CpuId, THREADS, Tid};
 use layer_traits::{
-    Layer, Moves, OwnedScheds, Payload, SchedAnswer, SchedCall, SchedLaw, SchedLayer, kept_homes,
+    Layer, Moves, OwnThreads, OwnedLayer, Payload, SchedAnswer, SchedCall, SchedLaw, kept_homes,
 };
-use scheduler::{OwnThreads, call_beneath};
+use scheduler::{call_beneath, pass_locally, take_answer, threads_at_boot};
 use std::marker::PhantomData;
 
 /// One CPU's part of schedulers as they are meant: each call is done in one step, and nobody ever
@@ -61,13 +61,17 @@ impl<E: Moves> Layer<SchedLaw<E>> for PlainSched<E> {
         PlainSched {
             cpu,
             homes: kept_homes(homes),
-            own: OwnThreads::at_boot(homes, cpu),
+            own: threads_at_boot(homes, cpu),
             edits: PhantomData,
         }
     }
 
     fn is_busy(&self) -> bool {
         false
+    }
+
+    fn own_here(&self) -> &OwnThreads {
+        &self.own
     }
 
     fn look(&mut self, _m: &mut PlainKernel<E>) -> bool {
@@ -83,12 +87,18 @@ impl<E: Moves> Layer<SchedLaw<E>> for PlainSched<E> {
         let homes = self.homes.as_slice();
         match call_beneath::<E>(homes, self.cpu, call) {
             Err(pass) => {
-                self.own.local(pass);
+                pass_locally(&mut self.own, pass);
                 Some(SchedAnswer::Done)
             }
             Ok(step) => {
                 let answer = m.done(self.cpu, step, payload);
-                Some(self.own.answered::<E>(homes, self.cpu, answer, payload))
+                Some(take_answer::<E>(
+                    &mut self.own,
+                    homes,
+                    self.cpu,
+                    answer,
+                    payload,
+                ))
             }
         }
     }
@@ -118,29 +128,7 @@ impl<E: Moves> Layer<SchedLaw<E>> for PlainSched<E> {
     ghost idle = { λ p m fits none. refl };
 }
 
-impl<E: Moves> SchedLayer<E> for PlainSched<E> {
-    fn current(&self) -> Option<Tid> {
-        self.own.current()
-    }
-
-    fn hand(&self) -> Option<Tid> {
-        self.own.hand()
-    }
-
-    fn has_ready(&self) -> bool {
-        self.own.has_ready()
-    }
-
-    fn is_ready(&self, t: Tid) -> bool {
-        self.own.is_ready(t)
-    }
-
-    fn has_ended(&self, t: Tid) -> bool {
-        self.own.has_ended(t)
-    }
-}
-
-impl<E: Moves> OwnedScheds<E> for PlainSched<E> {
+impl<E: Moves> OwnedLayer<SchedLaw<E>> for PlainSched<E> {
     ghost use Rattle.std.specs.Prelude.{slice_get};
     ghost use Rattle.plain_layers.specs.Kernels.{calls_in};
     ghost use Rattle.plain_layers.specs.Laws.ShownLaws.{block_shown, queue_shown};

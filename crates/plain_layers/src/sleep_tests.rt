@@ -12,10 +12,10 @@ ghost use Rattle.sleep_wakeup.specs.Nested.{state_of};
 
 use crate::PlainSched;
 use crate::openings::{Opens, SchedLaws};
-use event_log::{BufId, CPUS, CpuId, Msg, NoMemory, Tid};
+use event_log::{BufId, CPUS, CpuId, NoMemory, Tid};
 use layer_traits::{
-    BufferCall, Outcome, OwnedLocks, OwnedSleeps, Pass, Payload, QueueEdit, SleepLaw, Sleeps,
-    ThreadLayer, WaitList, Wake,
+    BufferCall, Outcome, OwnedLocks, OwnedThreadLayer, Parcel, Pass, Payload, QueueEdit, SleepLaw,
+    Sleeps, ThreadLayer, WaitList, Wake,
 };
 use plain_machine::Plain;
 use scheduler::Sched;
@@ -56,19 +56,19 @@ impl Sleeps for Nap {
       allowed = λ opening past s. Unit {0};
     } };
 
-    ghost meant = { λ nap message. nap };
+    ghost meant = { λ nap parcel. nap };
 
-    ghost told = { λ nap message. nap };
+    ghost told = { λ nap parcel. nap };
 
     fn caller(nap: &Nap) -> Tid {
         nap.caller
     }
 
-    fn whole(nap: &Nap, _message: &Msg) -> Nap {
+    fn whole(nap: &Nap, _parcel: &Parcel) -> Nap {
         *nap
     }
 
-    fn apply_handed(nap: &Nap, _first: Option<Tid>, _block: &mut u8, _message: &mut Msg) -> Nap {
+    fn apply_handed(nap: &Nap, _first: Option<Tid>, _block: &mut u8, _parcel: &mut Parcel) -> Nap {
         *nap
     }
 
@@ -266,7 +266,7 @@ fn across<S: ThreadLayer<SleepLaw<Nap>>>(
     if taken == 0 || taken != polls || away.hand() != Some(Tid(0)) {
         return false;
     }
-    if home.current().is_some() || home.hand().is_some() || home.is_ready(Tid(0)) {
+    if home.current().is_some() || home.hand().is_some() || home.own_threads().is_ready(Tid(0)) {
         return false;
     }
     let Some((sent, woke)) = sends_at(away, m, wake) else {
@@ -289,7 +289,7 @@ fn at_home<S: ThreadLayer<SleepLaw<Nap>>>(home: &mut S, m: &mut S::Machine, poll
     let Some((at, woke)) = ends_at(home, m, wake(Tid(2), Tid(0))) else {
         return false;
     };
-    if at != polls || woke.woke != Some(Tid(0)) || !home.is_ready(Tid(0)) {
+    if at != polls || woke.woke != Some(Tid(0)) || !home.own_threads().is_ready(Tid(0)) {
         return false;
     }
     if home.current().is_none()
@@ -298,11 +298,11 @@ fn at_home<S: ThreadLayer<SleepLaw<Nap>>>(home: &mut S, m: &mut S::Machine, poll
     {
         return false;
     }
-    home.has_ended(Tid(2)) && home.current().is_none()
+    home.own_threads().has_ended(Tid(2)) && home.current().is_none()
 }
 
 /// Thread 0 sleeps: the machine tells in which line, and the part has no block in its hands.
-fn is_observed<S: OwnedSleeps<Nap>>(home: &mut S, m: &mut S::Machine) -> bool
+fn is_observed<S: OwnedThreadLayer<SleepLaw<Nap>>>(home: &mut S, m: &mut S::Machine) -> bool
     requires fits { S.Fits home.old m.old }
     requires idle { S.under_way home.old ≡ None }
     requires buffer { IsSome (S.opening m.old (Buffer (record { 0 = 0 }))) }

@@ -31,9 +31,9 @@ where
     requires buffer { IsSome (S.opening m.old (Buffer buffer)) }
     requires room { 1 < S.room m.old }
     requires call { MaySleep (sleep_kernel E.rules (S.opening m.old)) (S.cpu_of part.old) (S.seen m.old) (S.own part.old).threads buffer
-        (E.meant edit payload.old.message) }
-    ensures done { IsDoneWhole (asked (sleep_kernel E.rules (S.opening m.old)) (S.cpu_of part.old) buffer (E.meant edit payload.old.message))
-        (S.seen m.old) (S.seen m.new) (S.own part.old).threads (S.own part.new) (outcome_told E.told result payload.new.message) }
+        (E.meant edit payload.old.parcel) }
+    ensures done { IsDoneWhole (asked (sleep_kernel E.rules (S.opening m.old)) (S.cpu_of part.old) buffer (E.meant edit payload.old.parcel))
+        (S.seen m.old) (S.seen m.new) (S.own part.old).threads (S.own part.new) (outcome_told E.told result payload.new.parcel) }
     ensures fits { S.Fits part.new m.new }
     ensures cpu { S.cpu_of part.new ≡ S.cpu_of part.old }
     ensures none { S.under_way part.new ≡ None }
@@ -44,12 +44,12 @@ where
     ensures others { (p : S) → S.cpu_of p ≢ S.cpu_of part.old → S.Fits p m.old → S.Fits p m.new }
     ensures holders { (c : CpuId) → c ≢ S.cpu_of part.old → S.ActsFor m.old c → S.MayHold m.new c → S.MayHold m.old c }
 {
-    let message = payload.message;
+    let parcel = payload.parcel;
     match part.poll(m, BufferCall { buffer, edit }, payload) {
         Some(outcome) => outcome,
         None => {
-            // The section may have put its answer's message in the place of the edit's.
-            payload.message = message;
+            // The section may have laid its answer's parcel in the place of the edit's.
+            payload.parcel = parcel;
             part.poll(m, BufferCall { buffer, edit }, payload).unwrap()
         }
     }

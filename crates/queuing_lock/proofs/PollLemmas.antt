@@ -10,7 +10,6 @@ use Rattle.event_log.specs.declared.ids.LockId.{LockId}
 use Rattle.event_log.specs.declared.ids.LockId.TheVariants.{Buffer}
 use Rattle.event_log.specs.declared.ids.TheConstants.{THREADS}
 use Rattle.event_log.specs.declared.ids.Tid.{Tid}
-use Rattle.event_log.specs.declared.messages.Msg.{Msg}
 use Rattle.event_log.specs.History.{IsLawful, same_cpu}
 use Rattle.event_log.proofs.Foreign.{lawful_before}
 use Rattle.event_log.proofs.Same.{same_cpu_true, same_lock_self}
@@ -21,6 +20,7 @@ use Rattle.layer_traits.specs.declared.locked.QOut.TheVariants.{Acquired, Queued
 use Rattle.layer_traits.specs.declared.moves.WaitList.TheVariants.{Sleepers}
 use Rattle.layer_traits.specs.declared.passes.Pass.{Pass as PassCall}
 use Rattle.layer_traits.specs.declared.passes.Pass.TheVariants as pass
+use Rattle.layer_traits.specs.declared.payloads.Parcel.{Parcel}
 use Rattle.layer_traits.specs.declared.queue_edits.QueueBlock.{QueueBlock}
 use Rattle.layer_traits.specs.declared.queues.QueueCall.TheVariants.{Push, OnBuffer}
 use Rattle.layer_traits.specs.declared.queues.QueueEvent.{QueueEvent}
@@ -86,21 +86,21 @@ reported_is t b slept sleep (Did out) outcome = refl
 reported_is t b slept sleep (Released out) outcome = refl
 
 -- whether a call slept does not depend on what its answer tells
-pub slept_told : {B O : Type 0} (told : B → Msg → O) (message : Msg) (t : Tid) (b : BufId) (slept : List (Option BufId)) (out : QOut B)
-    → slept_left_with t b slept out ≡ slept_left_with t b slept (lock_told told out message)
-slept_told told message t b slept Acquired = refl
-slept_told told message t b slept Queued = refl
-slept_told told message t b slept (Did out) = refl
-slept_told told message t b slept (Released out) = refl
+pub slept_told : {B O : Type 0} (told : B → Parcel → O) (parcel : Parcel) (t : Tid) (b : BufId) (slept : List (Option BufId)) (out : QOut B)
+    → slept_left_with t b slept out ≡ slept_left_with t b slept (lock_told told out parcel)
+slept_told told parcel t b slept Acquired = refl
+slept_told told parcel t b slept Queued = refl
+slept_told told parcel t b slept (Did out) = refl
+slept_told told parcel t b slept (Released out) = refl
 
 -- nor does whether its outcome is handed on
-pub reported_told : {B O : Type 0} (told : B → Msg → O) (message : Msg) (out : QOut B) (outcome : Outcome (QOut B))
-    → option_map (λ o. outcome_told (lock_told told) o message) (reported_with out outcome)
-    ≡ reported_with (lock_told told out message) (outcome_told (lock_told told) outcome message)
-reported_told told message Acquired outcome = refl
-reported_told told message Queued outcome = refl
-reported_told told message (Did out) outcome = refl
-reported_told told message (Released out) outcome = refl
+pub reported_told : {B O : Type 0} (told : B → Parcel → O) (parcel : Parcel) (out : QOut B) (outcome : Outcome (QOut B))
+    → option_map (λ o. outcome_told (lock_told told) o parcel) (reported_with out outcome)
+    ≡ reported_with (lock_told told out parcel) (outcome_told (lock_told told) outcome parcel)
+reported_told told parcel Acquired outcome = refl
+reported_told told parcel Queued outcome = refl
+reported_told told parcel (Did out) outcome = refl
+reported_told told parcel (Released out) outcome = refl
 
 module _ {F R B O : Type 0} (rules : LockRules F R B O) where
   asked_waits : (t : Tid) (owner : Option Tid) (state : LockState B) → t.0 < THREADS → asker_report {O = O} owner ≡ Queued

@@ -2,7 +2,6 @@
 use Rattle.std.specs.Prelude.{map, Option, Some, None, option_map}
 use Rattle.event_log.specs.declared.ids.LockId.{LockId}
 use Rattle.event_log.specs.declared.ids.Tid.{Tid}
-use Rattle.event_log.specs.declared.messages.Msg.{Msg}
 use Rattle.event_log.specs.Sections.{renamed_section}
 use Rattle.layer_traits.specs.declared.locked.QEdit.{QEdit}
 use Rattle.layer_traits.specs.declared.locked.QEdit.TheVariants.{Acquire, Inside, Release}
@@ -10,6 +9,7 @@ use Rattle.layer_traits.specs.declared.locked.QOut.{QOut}
 use Rattle.layer_traits.specs.declared.locked.QOut.TheVariants.{Acquired, Queued, Did, Released}
 use Rattle.layer_traits.specs.declared.locked.WakeWaiter.{WakeWaiter}
 use Rattle.layer_traits.specs.declared.locked.WakeWaiter.TheVariants as signal
+use Rattle.layer_traits.specs.declared.payloads.Parcel.{Parcel}
 use Rattle.layer_traits.specs.declared.sleeps.Wake.{Wake}
 use Rattle.layer_traits.specs.declared.sleeps.Wake.TheVariants.{Nobody, FirstSleeper, Receiver, Sender}
 use Rattle.layer_traits.specs.Locking.{LockAllowed, LockRules, LockState, wait_list_slept, lock_caller, asker_report}
@@ -26,9 +26,9 @@ edit_in section = section.edit
 abbrev pub as_section : {F R : Type 0} → QEdit F R → QLockEdit F R
 as_section e = record { edit = e }
 
--- the section that is meant by what is handed on: of the call that is meant, with this message
-abbrev pub section_meant : {H F R : Type 0} → (H → Msg → F) → QLockEdit H R → Msg → QLockEdit F R
-section_meant meant section message = record { edit = lock_meant meant section.edit message }
+-- the section that is meant by what is handed on: of the call that is meant, with this parcel
+abbrev pub section_meant : {H F R : Type 0} → (H → Parcel → F) → QLockEdit H R → Parcel → QLockEdit F R
+section_meant meant section parcel = record { edit = lock_meant meant section.edit parcel }
 
 -- a block of the layer above under a lock without an owner
 abbrev pub unowned : {B : Type 0} → B → QBlock B

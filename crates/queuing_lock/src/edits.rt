@@ -5,9 +5,9 @@ ghost use Rattle.layer_traits.specs.Locking.{wait_list_for};
 ghost use Rattle.layer_traits.specs.Payloads.{lock_told};
 ghost use Rattle.queuing_lock.specs.Nested.{busy_rules, leaving, section_meant};
 
-use event_log::{Msg, Tid};
+use event_log::Tid;
 use layer_traits::{
-    Locked, QEdit, QOut, Side, Sleeps, WaitList, Wake, WakeWaiter, WholeLocked, WholeSleeps,
+    Locked, Parcel, QEdit, QOut, Side, Sleeps, WaitList, Wake, WakeWaiter, WholeLocked, WholeSleeps,
 };
 
 /// A call on a queuing lock, as a section of the layer that lets threads sleep.
@@ -52,13 +52,16 @@ impl<F: Locked> Sleeps for QLockEdit<F, F::Release> {
     }
 
     #[inline(always)]
-    fn whole(handed: &QLockEdit<F::Handed, F::Release>, message: &Msg) -> QLockEdit<F, F::Release> {
+    fn whole(
+        handed: &QLockEdit<F::Handed, F::Release>,
+        parcel: &Parcel,
+    ) -> QLockEdit<F, F::Release> {
         match &handed.edit {
             QEdit::Acquire(t) => QLockEdit {
                 edit: QEdit::Acquire(*t),
             },
             QEdit::Inside(inside) => QLockEdit {
-                edit: QEdit::Inside(F::whole(inside, message)),
+                edit: QEdit::Inside(F::whole(inside, parcel)),
             },
             QEdit::Release(last) => QLockEdit {
                 edit: QEdit::Release(*last),
@@ -71,7 +74,7 @@ impl<F: Locked> Sleeps for QLockEdit<F, F::Release> {
         handed: &QLockEdit<F::Handed, F::Release>,
         first: Option<Tid>,
         block: &mut QBlock<F::Block>,
-        message: &mut Msg,
+        parcel: &mut Parcel,
     ) -> QOut<F::Brought> {
         match &handed.edit {
             QEdit::Acquire(t) => {
@@ -82,7 +85,7 @@ impl<F: Locked> Sleeps for QLockEdit<F, F::Release> {
                 QOut::Acquired
             }
             QEdit::Inside(inside) => {
-                QOut::Did(F::apply_handed(inside, &mut block.above, message))
+                QOut::Did(F::apply_handed(inside, &mut block.above, parcel))
             }
             QEdit::Release(last) => {
                 block.busy = first;
@@ -135,13 +138,13 @@ fn leave(signal: WakeWaiter) -> Wake
 }
 
 impl<F: WholeLocked> WholeSleeps for QLockEdit<F, F::Release> {
-    fn hand_on(self, message: &mut Msg) -> QLockEdit<F::Handed, F::Release> {
+    fn hand_on(self, parcel: &mut Parcel) -> QLockEdit<F::Handed, F::Release> {
         match self.edit {
             QEdit::Acquire(t) => QLockEdit {
                 edit: QEdit::Acquire(t),
             },
             QEdit::Inside(inside) => QLockEdit {
-                edit: QEdit::Inside(inside.hand_on(message)),
+                edit: QEdit::Inside(inside.hand_on(parcel)),
             },
             QEdit::Release(last) => QLockEdit {
                 edit: QEdit::Release(last),
@@ -149,12 +152,12 @@ impl<F: WholeLocked> WholeSleeps for QLockEdit<F, F::Release> {
         }
     }
 
-    fn bring_back(brought: QOut<F::Brought>, message: &Msg) -> QOut<F::Out> {
+    fn bring_back(brought: QOut<F::Brought>, parcel: &Parcel) -> QOut<F::Out> {
         match brought {
             QOut::Acquired => QOut::Acquired,
             QOut::Queued => QOut::Queued,
-            QOut::Did(out) => QOut::Did(F::bring_back(out, message)),
-            QOut::Released(out) => QOut::Released(F::bring_back(out, message)),
+            QOut::Did(out) => QOut::Did(F::bring_back(out, parcel)),
+            QOut::Released(out) => QOut::Released(F::bring_back(out, parcel)),
         }
     }
 }

@@ -4,7 +4,7 @@ use crate::edits::QLockEdit;
 use crate::slept::Slept;
 use event_log::{BufId, CpuId, Tid};
 use layer_traits::{
-    BufferCall, Locked, Outcome, OwnedQLocks, OwnedSleeps, Pass, Payload, QEdit, QLockLaw, QOut,
+    BufferCall, Locked, Outcome, OwnThreads, OwnedThreadLayer, Pass, Payload, QEdit, QLockLaw, QOut,
     SleepLaw, Sleeps, ThreadLayer, WaitList,
 };
 
@@ -74,28 +74,8 @@ impl<F: Locked, S: ThreadLayer<SleepLaw<QLockEdit<F, F::Release>>>> ThreadLayer<
     }
 
     #[inline(always)]
-    fn current(&self) -> Option<Tid> {
-        self.lower.current()
-    }
-
-    #[inline(always)]
-    fn hand(&self) -> Option<Tid> {
-        self.lower.hand()
-    }
-
-    #[inline(always)]
-    fn has_ready(&self) -> bool {
-        self.lower.has_ready()
-    }
-
-    #[inline(always)]
-    fn is_ready(&self, t: Tid) -> bool {
-        self.lower.is_ready(t)
-    }
-
-    #[inline(always)]
-    fn has_ended(&self, t: Tid) -> bool {
-        self.lower.has_ended(t)
+    fn own_threads(&self) -> &OwnThreads {
+        self.lower.own_threads()
     }
 
     #[inline(always)]
@@ -173,7 +153,8 @@ impl<F: Locked, S: ThreadLayer<SleepLaw<QLockEdit<F, F::Release>>>> ThreadLayer<
     ghost idle = { λ p m fits none. S.idle p.lower m fits.0 (none_beneath (S.under_way p.lower) none) };
 }
 
-impl<F: Locked, S: OwnedSleeps<QLockEdit<F, F::Release>>> OwnedQLocks<F> for QLock<S> {
+impl<F: Locked, S: OwnedThreadLayer<SleepLaw<QLockEdit<F, F::Release>>>>
+    OwnedThreadLayer<QLockLaw<F>> for QLock<S> {
     ghost use Rattle.std.specs.Prelude.{option_map};
     ghost use Rattle.event_log.specs.declared.ids.LockId.TheVariants.{Buffer, Pending};
     ghost use Rattle.layer_traits.proofs.KernelRenaming.{there_viewed};
@@ -181,9 +162,9 @@ impl<F: Locked, S: OwnedSleeps<QLockEdit<F, F::Release>>> OwnedQLocks<F> for QLo
     ghost use Rattle.queuing_lock.specs.Laws.OwnedLaws.{locks_queues, locks_shown};
     ghost use Rattle.queuing_lock.specs.Nested.{nested_lock_of};
 
-    ghost lock_at = { λ m b. option_map nested_lock_of (S.state_at m b) };
+    ghost block_at = { λ m b. option_map nested_lock_of (S.block_at m b) };
 
-    ghost lock_with = { λ p b. option_map nested_lock_of (S.state_with p.lower b) };
+    ghost block_with = { λ p b. option_map nested_lock_of (S.block_with p.lower b) };
 
     ghost queue_at = { λ m d. S.queue_at m d };
 
@@ -239,7 +220,7 @@ impl<F: Locked, S: OwnedSleeps<QLockEdit<F, F::Release>>> OwnedQLocks<F> for QLo
 
     ghost shown = { λ m c b acts there. locks_shown F.rules (S.opening m) (S.seen m)
         (parts_on (λ (p : Self). p.lower) (λ p. S.Fits p m) (λ (p : Self). Self.Fits p m) (λ p. S.cpu_of p) (S.MayHold m) (λ p fits. fits.0))
-        b (λ p. S.state_with p b) (S.state_at m b)
+        b (λ p. S.block_with p b) (S.block_at m b)
         (S.shown m c b acts (there_viewed nested_lock_of (S.opening m) (Buffer b) there)) };
 
     ghost queues = { λ m c d acts there. locks_queues F.rules (S.opening m) (S.seen m)

@@ -15,5 +15,5 @@ mod owns;
 mod sched;
 
 pub use calls::call_beneath;
-pub use owns::OwnThreads;
+pub use owns::{pass_locally, take_answer, threads_at_boot};
 pub use sched::Sched;

@@ -3,12 +3,12 @@
 //! No call takes memory, and none waits.
 
 use crate::calls::call_beneath;
-use crate::owns::OwnThreads;
+use crate::owns::{pass_locally, take_answer, threads_at_boot};
 use arrayvec::ArrayVec;
 use event_log::{BufId, CpuId, THREADS, Tid};
 use layer_traits::{
-    Layer, Moves, OwnedQueues, OwnedScheds, Payload, QueueLaw, SchedAnswer, SchedCall, SchedLaw,
-    SchedLayer, kept_homes,
+    Layer, Moves, OwnThreads, OwnedLayer, Payload, QueueLaw, SchedAnswer, SchedCall, SchedLaw,
+    kept_homes,
 };
 
 /// One CPU's part of a scheduler over shared queues: it does its CPU's calls one by one, and keeps
@@ -65,13 +65,18 @@ impl<E: Moves, Q: Layer<QueueLaw<E>>> Layer<SchedLaw<E>> for Sched<Q> {
             lower: Q::part(cpu, homes, buffers),
             cpu,
             homes: kept_homes(homes),
-            own: OwnThreads::at_boot(homes, cpu),
+            own: threads_at_boot(homes, cpu),
         }
     }
 
     #[inline(always)]
     fn is_busy(&self) -> bool {
         self.lower.is_busy()
+    }
+
+    #[inline(always)]
+    fn own_here(&self) -> &OwnThreads {
+        &self.own
     }
 
     #[inline(always)]
@@ -89,12 +94,15 @@ impl<E: Moves, Q: Layer<QueueLaw<E>>> Layer<SchedLaw<E>> for Sched<Q> {
         let homes = self.homes.as_slice();
         match call_beneath::<E>(homes, self.cpu, call) {
             Err(pass) => {
-                self.own.local(pass);
+                pass_locally(&mut self.own, pass);
                 Some(SchedAnswer::Done)
             }
             Ok(step) => match self.lower.poll(m, step, payload) {
                 None => None,
-                Some(answer) => Some(self.own.answered::<E>(homes, self.cpu, answer, payload)),
+                Some(answer) => {
+                    let own = &mut self.own;
+                    Some(take_answer::<E>(own, homes, self.cpu, answer, payload))
+                }
             },
         }
     }
@@ -124,34 +132,7 @@ impl<E: Moves, Q: Layer<QueueLaw<E>>> Layer<SchedLaw<E>> for Sched<Q> {
     ghost idle = { λ p m fits none. Q.idle p.lower m fits.0 (none_under (Q.under_way p.lower) p.own.current none) };
 }
 
-impl<E: Moves, Q: Layer<QueueLaw<E>>> SchedLayer<E> for Sched<Q> {
-    #[inline(always)]
-    fn current(&self) -> Option<Tid> {
-        self.own.current()
-    }
-
-    #[inline(always)]
-    fn hand(&self) -> Option<Tid> {
-        self.own.hand()
-    }
-
-    #[inline(always)]
-    fn has_ready(&self) -> bool {
-        self.own.has_ready()
-    }
-
-    #[inline(always)]
-    fn is_ready(&self, t: Tid) -> bool {
-        self.own.is_ready(t)
-    }
-
-    #[inline(always)]
-    fn has_ended(&self, t: Tid) -> bool {
-        self.own.has_ended(t)
-    }
-}
-
-impl<E: Moves, Q: OwnedQueues<E>> OwnedScheds<E> for Sched<Q> {
+impl<E: Moves, Q: OwnedLayer<QueueLaw<E>>> OwnedLayer<SchedLaw<E>> for Sched<Q> {
     ghost use Rattle.layer_traits.proofs.OwnedLemmas.{shown_under};
     ghost use Rattle.std.specs.Prelude.{Some};
     ghost use Rattle.event_log.specs.Sections.{block_after};

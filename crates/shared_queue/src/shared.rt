@@ -7,7 +7,7 @@ ghost use Rattle.layer_traits.specs.Queues.{lock_of, edit_of};
 
 use event_log::{BufId, CpuId, LockId, Tid};
 use layer_traits::{
-    BareQueueAnswer, Layer, LockCall, LockLaw, Moves, OwnedLocks, OwnedQueues, Payload, QueueBlock,
+    BareQueueAnswer, Layer, LockCall, LockLaw, Moves, OwnedLayer, OwnedLocks, Payload, QueueBlock,
     QueueCall, QueueEdit, QueueLaw,
 };
 
@@ -85,6 +85,11 @@ impl<E: Moves, L: Layer<LockLaw<QueueEdit<E>>>> Layer<QueueLaw<E>> for SharedQue
     }
 
     #[inline(always)]
+    fn own_here(&self) -> &() {
+        &()
+    }
+
+    #[inline(always)]
     fn look(&mut self, m: &mut L::Machine) -> bool {
         self.lower.look(m)
     }
@@ -124,7 +129,7 @@ impl<E: Moves, L: Layer<LockLaw<QueueEdit<E>>>> Layer<QueueLaw<E>> for SharedQue
     ghost busy = { λ p m fits step. L.busy p.lower m fits.0 step };
 }
 
-impl<E: Moves, L: OwnedLocks<QueueEdit<E>>> OwnedQueues<E> for SharedQueues<L> {
+impl<E: Moves, L: OwnedLocks<QueueEdit<E>>> OwnedLayer<QueueLaw<E>> for SharedQueues<L> {
     ghost use Rattle.std.specs.Option.{option_and_then};
     ghost use Rattle.event_log.specs.declared.ids.LockId.TheVariants.{Buffer, Pending};
     ghost use Rattle.event_log.specs.Sections.{block_after};

@@ -4,10 +4,10 @@ use Rattle.event_log.specs.declared.ids.BufId.{BufId}
 use Rattle.event_log.specs.declared.ids.CpuId.{CpuId}
 use Rattle.event_log.specs.declared.ids.LockId.{LockId}
 use Rattle.event_log.specs.declared.ids.Tid.{Tid}
-use Rattle.event_log.specs.declared.messages.Msg.{Msg}
 use Rattle.event_log.specs.History.{IsLawful}
 use Rattle.event_log.specs.Actions.{Action, renamed}
 use Rattle.layer_traits.specs.declared.passes.Pass.{Pass}
+use Rattle.layer_traits.specs.declared.payloads.Parcel.{Parcel}
 use Rattle.layer_traits.specs.declared.payloads.Payload.{Payload}
 use Rattle.layer_traits.specs.declared.queue_edits.QueueBlock.{QueueBlock}
 use Rattle.layer_traits.specs.declared.queue_edits.QueueEdit.{QueueEdit}
@@ -35,7 +35,7 @@ use Rattle.sleep_wakeup.specs.declared.edits.SleepEdit.{SleepEdit}
 use Rattle.sleep_wakeup.specs.declared.deferred.DeferredOutcome.{DeferredOutcome}
 use Rattle.sleep_wakeup.specs.Laws.NestedLaws.{beneath, here, nested_stays, nested_wraps}
 use Rattle.sleep_wakeup.specs.Nested.{edit_in, nested_moves, nested_rules, nested_told, state_of, states}
-use Rattle.sleep_wakeup.specs.Parts.{Deferred, DeferredFits, answer_reported, as_edit, deferred_of_answer, deferred_told, done_of, message_reported, must_wait, outcome_in, own_of, under_of}
+use Rattle.sleep_wakeup.specs.Parts.{Deferred, DeferredFits, answer_reported, as_edit, deferred_of_answer, deferred_told, done_of, parcel_reported, must_wait, outcome_in, own_of, under_of}
 
 -- where nobody sleeps at the opening here, nobody does beneath
 pub nobody_beneath : {B : Type 0} (opening : LockId → Option (QueueBlock (SleepBlock B))) → NobodySleeps (inner (viewed state_of opening))
@@ -88,20 +88,20 @@ left_if waits outcome threads =
     then record { own = record { threads = threads; deferred = Some outcome }; answer = None }
     else record { own = record { threads = threads; deferred = None }; answer = Some outcome }
 
--- what the part keeps and answers then, told with the message
-abbrev deferred_if : {E B O : Type 0} → (B → Msg → O) → Bool → BufId → E → Outcome B → Msg → Threads → Left (Sleeping O) (Outcome O)
-deferred_if told waits b e outcome message threads = record {
+-- what the part keeps and answers then, told with the parcel
+abbrev deferred_if : {E B O : Type 0} → (B → Parcel → O) → Bool → BufId → E → Outcome B → Parcel → Threads → Left (Sleeping O) (Outcome O)
+deferred_if told waits b e outcome parcel threads = record {
   own = own_of (option_map (deferred_told told)
-      (if waits then Some (record { buffer = b; edit = e; outcome = outcome; message = message }) else None)) threads;
-  answer = option_map (λ o. outcome_told told o message) (if waits then None else Some outcome);
+      (if waits then Some (record { buffer = b; edit = e; outcome = outcome; parcel = parcel }) else None)) threads;
+  answer = option_map (λ o. outcome_told told o parcel) (if waits then None else Some outcome);
 }
 
 -- what is kept and answered is what the scheduler's answer tells
-pub reported_is : {E B O : Type 0} (told : B → Msg → O) (deferred : Option (DeferredOutcome E B)) (threads : Threads) (b : BufId) (e : E)
+pub reported_is : {E B O : Type 0} (told : B → Parcel → O) (deferred : Option (DeferredOutcome E B)) (threads : Threads) (b : BufId) (e : E)
     (answer : SchedAnswer (Outcome B)) (payload payload' : Payload)
     (hand : Option Tid) (deferred' : Option (DeferredOutcome E B)) (result : Option (Outcome B))
-    → hand ≡ threads.hand → deferred' ≡ deferred_of_answer hand b e answer payload.message → result ≡ answer_reported deferred hand answer
-    → payload'.message ≡ message_reported deferred answer payload.message
+    → hand ≡ threads.hand → deferred' ≡ deferred_of_answer hand b e answer payload.parcel → result ≡ answer_reported deferred hand answer
+    → payload'.parcel ≡ parcel_reported deferred answer payload.parcel
     → left_reported (outcome_in (option_map (deferred_told told) deferred)) threads (Some (sched_told (nested_told told) answer payload))
     ≡ record { own = own_of (option_map (deferred_told told) deferred') threads; answer = told_by (nested_told told) result payload' }
 reported_is {E = E} {B = B} {O = O} told deferred threads b e answer payload payload' hand deferred' result in_hand keeps gives brings =
@@ -114,12 +114,12 @@ reported_is {E = E} {B = B} {O = O} told deferred threads b e answer payload pay
   where
     leaves : Option (DeferredOutcome E B) → SchedAnswer (Outcome B) → Option Tid → Left (Sleeping O) (Outcome O)
     leaves d a h = record {
-      own = own_of (option_map (deferred_told told) (deferred_of_answer h b e a payload.message)) threads;
-      answer = option_map (λ o. outcome_told told o (message_reported d a payload.message)) (answer_reported d h a);
+      own = own_of (option_map (deferred_told told) (deferred_of_answer h b e a payload.parcel)) threads;
+      answer = option_map (λ o. outcome_told told o (parcel_reported d a payload.parcel)) (answer_reported d h a);
     }
 
     by_test : (outcome : Outcome B) (waits : Bool)
-        → left_if waits (outcome_told told outcome payload.message) threads ≡ deferred_if told waits b e outcome payload.message threads
+        → left_if waits (outcome_told told outcome payload.parcel) threads ≡ deferred_if told waits b e outcome payload.parcel threads
     by_test outcome true = refl
     by_test outcome false = refl
 

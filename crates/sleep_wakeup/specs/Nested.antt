@@ -1,9 +1,9 @@
 -- A section's edit with the waiting lists of its lock, as an edit of what the lock guards.
 use Rattle.std.specs.Prelude.{List, [], Option, map, option_map}
 use Rattle.event_log.specs.declared.ids.LockId.{LockId}
-use Rattle.event_log.specs.declared.messages.Msg.{Msg}
 use Rattle.event_log.specs.Sections.{Section, renamed_section}
 use Rattle.layer_traits.specs.declared.moves.WaitList.TheVariants.{Sleepers, Receivers, Senders}
+use Rattle.layer_traits.specs.declared.payloads.Parcel.{Parcel}
 use Rattle.layer_traits.specs.declared.payloads.Payload.{Payload}
 use Rattle.layer_traits.specs.declared.sleeps.Outcome.{Outcome}
 use Rattle.layer_traits.specs.MoveRules.{MoveRules}
@@ -18,13 +18,13 @@ use Rattle.thread_blocks.specs.Queues.{first}
 abbrev pub edit_in : {E : Type 0} → SleepEdit E → E
 edit_in d = d.edit
 
--- the edit that is meant by what is handed on: of the layer above, with the message of the payload
-abbrev pub nested_meant : {H E : Type 0} → (H → Msg → E) → SleepEdit H → Payload → SleepEdit E
-nested_meant meant section payload = record { edit = meant section.edit payload.message }
+-- the edit that is meant by what is handed on: of the layer above, with the parcel of the payload
+abbrev pub nested_meant : {H E : Type 0} → (H → Parcel → E) → SleepEdit H → Payload → SleepEdit E
+nested_meant meant section payload = record { edit = meant section.edit payload.parcel }
 
--- the outcome that is told, with that message
-abbrev pub nested_told : {B O : Type 0} → (B → Msg → O) → Outcome B → Payload → Outcome O
-nested_told told outcome payload = outcome_told told outcome payload.message
+-- the outcome that is told, with that parcel
+abbrev pub nested_told : {B O : Type 0} → (B → Parcel → O) → Outcome B → Payload → Outcome O
+nested_told told outcome payload = outcome_told told outcome payload.parcel
 
 -- a block with nobody in its waiting lists
 abbrev pub resting : {B : Type 0} → B → SleepBlock B

@@ -2,8 +2,8 @@
 use Rattle.std.specs.Prelude.{◌≡◌, Bool, not, ◌&&◌, Option, Some, None, is_some, option_map, if◌then◌else◌}
 use Rattle.event_log.specs.declared.ids.BufId.{BufId}
 use Rattle.event_log.specs.declared.ids.Tid.{Tid}
-use Rattle.event_log.specs.declared.messages.Msg.{Msg}
 use Rattle.layer_traits.specs.declared.passes.Pass.TheVariants.{MakeReady}
+use Rattle.layer_traits.specs.declared.payloads.Parcel.{Parcel}
 use Rattle.layer_traits.specs.declared.scheds.SchedAnswer.{SchedAnswer}
 use Rattle.layer_traits.specs.declared.scheds.SchedAnswer.TheVariants.{Done, Answer}
 use Rattle.layer_traits.specs.declared.scheds.SchedCall.{SchedCall}
@@ -27,9 +27,9 @@ pub record Deferred (E O : Type 0) : Type 0 where
   pub edit : E
   pub outcome : Outcome O
 
--- what is told of one that is kept with its message
-abbrev pub deferred_told : {E B O : Type 0} → (B → Msg → O) → DeferredOutcome E B → Deferred E O
-deferred_told told k = record { buffer = k.buffer; edit = k.edit; outcome = outcome_told told k.outcome k.message }
+-- what is told of one that is kept with its parcel
+abbrev pub deferred_told : {E B O : Type 0} → (B → Parcel → O) → DeferredOutcome E B → Deferred E O
+deferred_told told k = record { buffer = k.buffer; edit = k.edit; outcome = outcome_told told k.outcome k.parcel }
 
 -- the outcome of a section that is kept
 abbrev pub outcome_in : {E O : Type 0} → Option (Deferred E O) → Option (Outcome O)
@@ -59,22 +59,22 @@ DeferredFits (Some k) (Some under) None = ⊥
 abbrev pub must_wait : {O : Type 0} → Outcome O → Option Tid → Bool
 must_wait outcome hand = not outcome.slept && is_some hand
 
--- what is kept after the scheduler's answer, where this message lies in the payload
-abbrev pub deferred_of_answer : {E B : Type 0} → Option Tid → BufId → E → SchedAnswer (Outcome B) → Msg → Option (DeferredOutcome E B)
-deferred_of_answer hand b e Done message = None
-deferred_of_answer hand b e (Answer outcome) message =
-    if must_wait outcome hand then Some (record { buffer = b; edit = e; outcome = outcome; message = message }) else None
+-- what is kept after the scheduler's answer, where this parcel lies in the payload
+abbrev pub deferred_of_answer : {E B : Type 0} → Option Tid → BufId → E → SchedAnswer (Outcome B) → Parcel → Option (DeferredOutcome E B)
+deferred_of_answer hand b e Done parcel = None
+deferred_of_answer hand b e (Answer outcome) parcel =
+    if must_wait outcome hand then Some (record { buffer = b; edit = e; outcome = outcome; parcel = parcel }) else None
 
 -- what is handed back after it
 abbrev pub answer_reported : {E B : Type 0} → Option (DeferredOutcome E B) → Option Tid → SchedAnswer (Outcome B) → Option (Outcome B)
 answer_reported deferred hand Done = option_map (λ k. k.outcome) deferred
 answer_reported deferred hand (Answer outcome) = if must_wait outcome hand then None else Some outcome
 
--- the message in the payload after it: that of the kept outcome, where that is answered
-abbrev pub message_reported : {E B : Type 0} → Option (DeferredOutcome E B) → SchedAnswer (Outcome B) → Msg → Msg
-message_reported None Done message = message
-message_reported (Some k) Done message = k.message
-message_reported deferred (Answer outcome) message = message
+-- the parcel in the payload after it: that of the kept outcome, where that is answered
+abbrev pub parcel_reported : {E B : Type 0} → Option (DeferredOutcome E B) → SchedAnswer (Outcome B) → Parcel → Parcel
+parcel_reported None Done parcel = parcel
+parcel_reported (Some k) Done parcel = k.parcel
+parcel_reported deferred (Answer outcome) parcel = parcel
 
 -- a call that is passed on is done where the scheduler answers
 abbrev pub done_of : {O : Type 0} → Option (SchedAnswer O) → Option (Unit {0})

@@ -2,13 +2,13 @@
 
 ghost use Rattle.std.specs.Prelude.{◌≡◌};
 ghost use Rattle.layer_traits.specs.SleepLaw.{due};
-ghost use Rattle.sleep_wakeup.specs.Parts.{answer_reported, as_edit, deferred_of_answer, done_of, message_reported};
+ghost use Rattle.sleep_wakeup.specs.Parts.{answer_reported, as_edit, deferred_of_answer, done_of, parcel_reported};
 
 use crate::edits::SleepEdit;
-use event_log::{BufId, Msg, Tid};
-use layer_traits::{Ghost, Outcome, Payload, SchedAnswer, SchedCall, Sleeps};
+use event_log::{BufId, Tid};
+use layer_traits::{Ghost, Outcome, Parcel, Payload, SchedAnswer, SchedCall, Sleeps};
 
-/// A section that is done and not answered yet: which it was, its outcome, and the message that the
+/// A section that is done and not answered yet: which it was, its outcome, and the parcel that the
 /// outcome brings. The section's edit has gone down with its call, and clauses alone speak of it.
 #[derive(Drop)]
 pub struct DeferredOutcome<E, B> {
@@ -19,16 +19,16 @@ pub struct DeferredOutcome<E, B> {
     /// What it answers once the thread that it woke has left the hand.
     pub outcome: Outcome<B>,
     /// What lies in the payload then, as others use the payload until then.
-    pub message: Msg,
+    pub parcel: Parcel,
 }
 
 /// The edit that is meant, for clauses alone. It is made before the poll beneath, which writes the
 /// payload.
 #[inline(always)]
 pub(crate) fn kept_edit<E: Sleeps>(handed: &E::Handed, payload: &Payload) -> Ghost<E>
-    ensures { result ≡ E.meant handed.now payload.now.message }
+    ensures { result ≡ E.meant handed.now payload.now.parcel }
 {
-    Ghost::of(&E::whole(handed, &payload.message))
+    Ghost::of(&E::whole(handed, &payload.parcel))
 }
 
 /// The section's call on the scheduler.
@@ -40,7 +40,7 @@ pub(crate) fn section<H: Drop>(buffer: BufId, edit: H) -> SchedCall<SleepEdit<H>
 }
 
 /// Takes the scheduler's answer, after which the hand is this, and gives the outcome of the section
-/// if it has one now, with its message in the payload. It is kept while its caller goes on and a thread
+/// if it has one now, with its parcel in the payload. It is kept while its caller goes on and a thread
 /// stands in the hand.
 #[inline(always)]
 pub(crate) fn complete<E, B: Drop>(
@@ -51,15 +51,15 @@ pub(crate) fn complete<E, B: Drop>(
     answer: SchedAnswer<Outcome<B>>,
     payload: &mut Payload,
 ) -> Option<Outcome<B>>
-    ensures deferred { deferred.new ≡ deferred_of_answer hand buffer edit answer payload.old.message }
+    ensures deferred { deferred.new ≡ deferred_of_answer hand buffer edit answer payload.old.parcel }
     ensures answer { result ≡ answer_reported deferred.old hand answer }
-    ensures message { payload.new.message ≡ message_reported deferred.old answer payload.old.message }
+    ensures parcel { payload.new.parcel ≡ parcel_reported deferred.old answer payload.old.parcel }
 {
     match answer {
         SchedAnswer::Done => match deferred.take() {
             None => None,
             Some(k) => {
-                payload.message = k.message;
+                payload.parcel = k.parcel;
                 Some(k.outcome)
             }
         },
@@ -69,7 +69,7 @@ pub(crate) fn complete<E, B: Drop>(
                     buffer,
                     edit,
                     outcome,
-                    message: payload.message,
+                    parcel: payload.parcel,
                 });
                 return None;
             }

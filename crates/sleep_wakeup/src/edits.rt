@@ -129,7 +129,7 @@ impl<E: Sleeps> SplitEdit for SleepEdit<E> {
     #[inline(always)]
     fn whole(handed: &SleepEdit<E::Handed>, payload: &Payload) -> SleepEdit<E> {
         SleepEdit {
-            edit: E::whole(&handed.edit, &payload.message),
+            edit: E::whole(&handed.edit, &payload.parcel),
         }
     }
 
@@ -141,7 +141,7 @@ impl<E: Sleeps> SplitEdit for SleepEdit<E> {
     ) -> Outcome<E::Brought> {
         let caller = E::caller(&handed.edit);
         let first = block.sleepers.front();
-        let out = E::apply_handed(&handed.edit, first, &mut block.above, &mut payload.message);
+        let out = E::apply_handed(&handed.edit, first, &mut block.above, &mut payload.parcel);
         let line = E::joins(&out);
         let leave = E::leaves(&out);
         let woke = let_out(
@@ -187,13 +187,13 @@ impl<E: Sleeps> Moves for SleepEdit<E> {
 impl<E: WholeSleeps> Edit for SleepEdit<E> {
     fn hand_on(self, payload: &mut Payload) -> SleepEdit<E::Handed> {
         SleepEdit {
-            edit: self.edit.hand_on(&mut payload.message),
+            edit: self.edit.hand_on(&mut payload.parcel),
         }
     }
 
     fn bring_back(brought: Outcome<E::Brought>, payload: &mut Payload) -> Outcome<E::Out> {
         Outcome {
-            out: E::bring_back(brought.out, &payload.message),
+            out: E::bring_back(brought.out, &payload.parcel),
             slept: brought.slept,
             woke: brought.woke,
         }

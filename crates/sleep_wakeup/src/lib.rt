@@ -4,7 +4,7 @@
 //!
 //! ```text
 //! let mut part = Sleeper::<E, S>::part(CpuId(0), &homes, 1);
-//! let call = BufferCall { buffer: BufId(0), edit: edit.hand_on(&mut payload.message) };
+//! let call = BufferCall { buffer: BufId(0), edit: edit.hand_on(&mut payload.parcel) };
 //! match part.poll(&mut machine, call, &mut payload) {
 //!     None => {}           // the same call is to be polled again
 //!     Some(outcome) => {}  // done: outcome.slept tells whether the caller sleeps

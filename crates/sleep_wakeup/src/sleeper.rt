@@ -4,8 +4,8 @@ use crate::deferred::{DeferredOutcome, complete, done, kept_edit, section};
 use crate::edits::{SleepEdit, wait_list_in_block};
 use event_log::{BufId, CpuId, Tid};
 use layer_traits::{
-    BufferCall, Layer, Outcome, OwnedScheds, OwnedSleeps, Pass, Payload, SchedCall, SchedLayer,
-    SleepLaw, Sleeps, ThreadLayer, WaitList,
+    BufferCall, Layer, Outcome, OwnThreads, OwnedLayer, OwnedThreadLayer, Pass, Payload, SchedCall,
+    SchedLaw, SleepLaw, Sleeps, ThreadLayer, WaitList,
 };
 
 /// One CPU's part of sleep and wakeup over a part of a scheduler (Gu et al., PLDI 2018): the
@@ -17,7 +17,7 @@ pub struct Sleeper<E: Sleeps, S> {
     deferred: Option<DeferredOutcome<E, E::Brought>>,
 }
 
-impl<E: Sleeps, S: SchedLayer<SleepEdit<E>>> ThreadLayer<SleepLaw<E>> for Sleeper<E, S> {
+impl<E: Sleeps, S: Layer<SchedLaw<SleepEdit<E>>>> ThreadLayer<SleepLaw<E>> for Sleeper<E, S> {
     ghost use Rattle.std.proofs.Common.{map, option_map, ap, ◌∙◌};
     ghost use Rattle.event_log.specs.Actions.{renamed};
     ghost use Rattle.event_log.proofs.Renaming.{legal_renamed};
@@ -75,28 +75,8 @@ impl<E: Sleeps, S: SchedLayer<SleepEdit<E>>> ThreadLayer<SleepLaw<E>> for Sleepe
     }
 
     #[inline(always)]
-    fn current(&self) -> Option<Tid> {
-        self.lower.current()
-    }
-
-    #[inline(always)]
-    fn hand(&self) -> Option<Tid> {
-        self.lower.hand()
-    }
-
-    #[inline(always)]
-    fn has_ready(&self) -> bool {
-        self.lower.has_ready()
-    }
-
-    #[inline(always)]
-    fn is_ready(&self, t: Tid) -> bool {
-        self.lower.is_ready(t)
-    }
-
-    #[inline(always)]
-    fn has_ended(&self, t: Tid) -> bool {
-        self.lower.has_ended(t)
+    fn own_threads(&self) -> &OwnThreads {
+        self.lower.own_here()
     }
 
     #[inline(always)]
@@ -118,13 +98,13 @@ impl<E: Sleeps, S: SchedLayer<SleepEdit<E>>> ThreadLayer<SleepLaw<E>> for Sleepe
     ) -> Option<Outcome<E::Brought>> {
         let BufferCall { buffer, edit } = call;
         // Two arms in full, as one that polls either call would copy the edit with the other's bytes.
-        match self.lower.hand() {
+        match self.lower.own_here().hand() {
             None => {
                 let kept = kept_edit::<E>(&edit, payload);
                 match self.lower.poll(m, section(buffer, edit), payload) {
                     None => None,
                     Some(answer) => {
-                        let hand = self.lower.hand();
+                        let hand = self.lower.own_here().hand();
                         complete(&mut self.deferred, hand, buffer, kept, answer, payload)
                     }
                 }
@@ -137,7 +117,7 @@ impl<E: Sleeps, S: SchedLayer<SleepEdit<E>>> ThreadLayer<SleepLaw<E>> for Sleepe
                 {
                     None => None,
                     Some(answer) => {
-                        let hand = self.lower.hand();
+                        let hand = self.lower.own_here().hand();
                         complete(&mut self.deferred, hand, buffer, kept, answer, payload)
                     }
                 }
@@ -179,7 +159,9 @@ impl<E: Sleeps, S: SchedLayer<SleepEdit<E>>> ThreadLayer<SleepLaw<E>> for Sleepe
     ghost idle = { λ p m fits none. S.idle p.lower m fits.0 (nested_idle (option_map (deferred_told E.told) p.deferred) (S.under_way p.lower) none) };
 }
 
-impl<E: Sleeps, S: OwnedScheds<SleepEdit<E>>> OwnedSleeps<E> for Sleeper<E, S> {
+impl<E: Sleeps, S: OwnedLayer<SchedLaw<SleepEdit<E>>>> OwnedThreadLayer<SleepLaw<E>>
+    for Sleeper<E, S>
+{
     ghost use Rattle.std.specs.Prelude.{option_map};
     ghost use Rattle.event_log.specs.declared.ids.LockId.TheVariants.{Buffer, Pending};
     ghost use Rattle.layer_traits.proofs.KernelRenaming.{there_viewed};
@@ -187,9 +169,9 @@ impl<E: Sleeps, S: OwnedScheds<SleepEdit<E>>> OwnedSleeps<E> for Sleeper<E, S> {
     ghost use Rattle.sleep_wakeup.specs.Laws.OwnedLaws.{nested_queues, nested_shown};
     ghost use Rattle.sleep_wakeup.specs.Nested.{state_of};
 
-    ghost state_at = { λ m b. option_map state_of (S.block_at m b) };
+    ghost block_at = { λ m b. option_map state_of (S.block_at m b) };
 
-    ghost state_with = { λ p b. option_map state_of (S.block_with p.lower b) };
+    ghost block_with = { λ p b. option_map state_of (S.block_with p.lower b) };
 
     ghost queue_at = { λ m d. S.queue_at m d };
 
@@ -206,6 +188,20 @@ impl<E: Sleeps, S: OwnedScheds<SleepEdit<E>>> OwnedSleeps<E> for Sleeper<E, S> {
         match self.lower.block_here(b) {
             None => None,
             Some(block) => Some(&block.above),
+        }
+    }
+
+    fn owner_in(m: &S::Machine, b: BufId) -> Option<Option<Tid>> {
+        match S::block_in(m, b) {
+            None => None,
+            Some(_) => Some(None),
+        }
+    }
+
+    fn owner_here(&self, b: BufId) -> Option<Option<Tid>> {
+        match self.lower.block_here(b) {
+            None => None,
+            Some(_) => Some(None),
         }
     }
 

@@ -88,6 +88,10 @@ impl<M: FairLock<LockProtocol>, LockProtocol> Layer<LockLaw<M::Edit>>
         !matches!(self.stage, TicketPhase::Out)
     }
 
+    fn own_here(&self) -> &() {
+        &()
+    }
+
     #[inline(always)]
     fn look(&mut self, m: &mut M) -> bool {
         match self.stage {

@@ -20,8 +20,8 @@ section_polls-requires-clause-poll_section g c =
     let call = call_alone (cv_meant g.G.Guarded.meant) c.args.call.now in
     let runs : (C.own part).lock.sleep.threads.current ≡ Some (lock_caller (cv_rules monitor_rules) call) = search rules in
     let empty : (C.own part).lock.sleep.threads.hand ≡ None = search rules in
-    let shown = g.met.C.OwnedConds.shown m (C.cpu_of part) c.args.buffer (g.met.C.ThreadLayer.own_cpu part m c.requires.fits) c.requires.buffer in
-    let told = owner_told (g.C.OwnedConds.lock_at m c.args.buffer)
+    let shown = g.met.C.OwnedThreadLayer.shown m (C.cpu_of part) c.args.buffer (g.met.C.ThreadLayer.own_cpu part m c.requires.fits) c.requires.buffer in
+    let told = owner_told (g.C.OwnedThreadLayer.block_at m c.args.buffer)
     (lock_after (cv_rules monitor_rules) (inner (C.opening m)) (Buffer c.args.buffer) (buffer_sections (C.seen m))) c.in-Some.owner shown.by_machine
     (sym c.owner_in.ensures ∙ c.in-Some.is) in
     may_begin monitor_rules (lock_kernel (cv_rules monitor_rules) (C.opening m)) (C.cpu_of part) (C.seen m) (C.own part) (C.under_way part) c.args.buffer call

@@ -15,14 +15,14 @@ use Rattle.plain_layers.specs.LockSections.{call_alone}
 use Rattle.plain_layers.proofs.CondSectionLemmas.{after_alone, ended_after, goes_after, waits_after}
 use Rattle.plain_layers.proofs.cond_sections.one_section_poll.Goals as goal
 
--- the call that is meant is the one with no message
+-- the call that is meant is the one with no parcel
 pub poll-requires-clause-call : goal.poll-requires-clause-call
 poll-requires-clause-call g c =
     let monitor_rules = g.G.Guarded.monitor_rules in
     let C = g.C.ThreadLayer in
-    subst (λ message. MayCallCond monitor_rules (lock_kernel (cv_rules monitor_rules) (C.opening c.args.m.now)) (C.cpu_of c.args.part.now) (C.seen c.args.m.now)
-    (C.own c.args.part.now) (C.under_way c.args.part.now) c.args.buffer (lock_meant (cv_meant g.G.Guarded.meant) c.args.call message))
-    (sym c.new.ensures.message) c.requires.poll_section.may
+    subst (λ parcel. MayCallCond monitor_rules (lock_kernel (cv_rules monitor_rules) (C.opening c.args.m.now)) (C.cpu_of c.args.part.now) (C.seen c.args.m.now)
+    (C.own c.args.part.now) (C.under_way c.args.part.now) c.args.buffer (lock_meant (cv_meant g.G.Guarded.meant) c.args.call parcel))
+    (sym c.new.ensures.parcel) c.requires.poll_section.may
 
 pub returns-then-is_some-clause-goes : goal.returns-then-is_some-clause-goes
 returns-then-is_some-clause-goes g c =
@@ -35,10 +35,10 @@ returns-then-is_some-clause-goes g c =
     let under = C.under_way c.poll.new.self in
     let seen = C.seen c.poll.new.m in
     let tells = λ (o : Option (Outcome (QOut (CvOut g.row.G-Brought.Denot)))).
-    told_by (λ o p. outcome_told (lock_told (cv_told g.G.Guarded.told)) o p.message) o c.poll.new.payload in
+    told_by (λ o p. outcome_told (lock_told (cv_told g.G.Guarded.told)) o p.parcel) o c.poll.new.payload in
     let after = after_alone monitor_rules opening (C.ActsFor c.args.m.now) (C.cpu_of c.args.part.now) b g.G.Guarded.meant c.args.call
-    c.new.result.message (C.seen c.args.m.now) seen (C.own c.args.part.now) (C.under_way c.args.part.now) under
-    (record { own = own; answer = tells c.poll.result }) c.new.ensures.message c.requires.poll_section c.poll.ensures.seen
+    c.new.result.parcel (C.seen c.args.m.now) seen (C.own c.args.part.now) (C.under_way c.args.part.now) under
+    (record { own = own; answer = tells c.poll.result }) c.new.ensures.parcel c.requires.poll_section c.poll.ensures.seen
     (λ some. ap C.seen (c.poll.ensures.still (inr some))) in
     λ same. subst (λ o. MayPollCondSection monitor_rules (lock_kernel (cv_rules monitor_rules) o) (C.cpu_of c.poll.new.self) seen own under b e)
     (sym c.poll.ensures.framed.stays.opening)
@@ -55,13 +55,13 @@ returns-in-Some-clause-ended g c =
     let under = C.under_way c.poll.new.self in
     let seen = C.seen c.poll.new.m in
     let tells = λ (o : Option (Outcome (QOut (CvOut g.row.G-Brought.Denot)))).
-    told_by (λ o p. outcome_told (lock_told (cv_told g.G.Guarded.told)) o p.message) o c.poll.new.payload in
+    told_by (λ o p. outcome_told (lock_told (cv_told g.G.Guarded.told)) o p.parcel) o c.poll.new.payload in
     let after = after_alone monitor_rules (C.opening c.args.m.now) (C.ActsFor c.args.m.now) (C.cpu_of c.args.part.now) c.args.buffer g.G.Guarded.meant c.args.call
-    c.new.result.message (C.seen c.args.m.now) seen (C.own c.args.part.now) (C.under_way c.args.part.now) under
-    (record { own = own; answer = tells c.poll.result }) c.new.ensures.message c.requires.poll_section c.poll.ensures.seen
+    c.new.result.parcel (C.seen c.args.m.now) seen (C.own c.args.part.now) (C.under_way c.args.part.now) under
+    (record { own = own; answer = tells c.poll.result }) c.new.ensures.parcel c.requires.poll_section c.poll.ensures.seen
     (λ some. ap C.seen (c.poll.ensures.still (inr some))) in
     λ outcome same. (ended_after monitor_rules (C.opening c.args.m.now) (C.ActsFor c.args.m.now) (C.cpu_of c.args.part.now) c.args.buffer e seen own under
-    (tells c.poll.result) (outcome_told (lock_told (cv_told g.G.Guarded.told)) c.in-Some.outcome c.poll.new.payload.message) after (ap tells c.in-Some.is)).0
+    (tells c.poll.result) (outcome_told (lock_told (cv_told g.G.Guarded.told)) c.in-Some.outcome c.poll.new.payload.parcel) after (ap tells c.in-Some.is)).0
 
 pub returns-in-Some-clause-owns : goal.returns-in-Some-clause-owns
 returns-in-Some-clause-owns g c =
@@ -72,16 +72,16 @@ returns-in-Some-clause-owns g c =
     let under = C.under_way c.poll.new.self in
     let seen = C.seen c.poll.new.m in
     let tells = λ (o : Option (Outcome (QOut (CvOut g.row.G-Brought.Denot)))).
-    told_by (λ o p. outcome_told (lock_told (cv_told g.G.Guarded.told)) o p.message) o c.poll.new.payload in
+    told_by (λ o p. outcome_told (lock_told (cv_told g.G.Guarded.told)) o p.parcel) o c.poll.new.payload in
     let after = after_alone monitor_rules (C.opening c.args.m.now) (C.ActsFor c.args.m.now) (C.cpu_of c.args.part.now) c.args.buffer g.G.Guarded.meant c.args.call
-    c.new.result.message (C.seen c.args.m.now) seen (C.own c.args.part.now) (C.under_way c.args.part.now) under
-    (record { own = own; answer = tells c.poll.result }) c.new.ensures.message c.requires.poll_section c.poll.ensures.seen
+    c.new.result.parcel (C.seen c.args.m.now) seen (C.own c.args.part.now) (C.under_way c.args.part.now) under
+    (record { own = own; answer = tells c.poll.result }) c.new.ensures.parcel c.requires.poll_section c.poll.ensures.seen
     (λ some. ap C.seen (c.poll.ensures.still (inr some))) in
     λ outcome same asks.
     subst (λ o. owner_of (cv_rules monitor_rules) (inner o) (buffer_sections seen) (Buffer c.args.buffer) ≡ Some (lock_caller (cv_rules monitor_rules) e))
     (sym c.poll.ensures.framed.stays.opening)
     ((ended_after monitor_rules (C.opening c.args.m.now) (C.ActsFor c.args.m.now) (C.cpu_of c.args.part.now) c.args.buffer e seen own under
-    (tells c.poll.result) (outcome_told (lock_told (cv_told g.G.Guarded.told)) c.in-Some.outcome c.poll.new.payload.message) after (ap tells c.in-Some.is)).1 asks)
+    (tells c.poll.result) (outcome_told (lock_told (cv_told g.G.Guarded.told)) c.in-Some.outcome c.poll.new.payload.parcel) after (ap tells c.in-Some.is)).1 asks)
 
 pub returns-else-is_some-clause-waits : goal.returns-else-is_some-clause-waits
 returns-else-is_some-clause-waits g c =
@@ -92,10 +92,10 @@ returns-else-is_some-clause-waits g c =
     let under = C.under_way c.poll.new.self in
     let seen = C.seen c.poll.new.m in
     let tells = λ (o : Option (Outcome (QOut (CvOut g.row.G-Brought.Denot)))).
-    told_by (λ o p. outcome_told (lock_told (cv_told g.G.Guarded.told)) o p.message) o c.poll.new.payload in
+    told_by (λ o p. outcome_told (lock_told (cv_told g.G.Guarded.told)) o p.parcel) o c.poll.new.payload in
     let after = after_alone monitor_rules (C.opening c.args.m.now) (C.ActsFor c.args.m.now) (C.cpu_of c.args.part.now) c.args.buffer g.G.Guarded.meant c.args.call
-    c.new.result.message (C.seen c.args.m.now) seen (C.own c.args.part.now) (C.under_way c.args.part.now) under
-    (record { own = own; answer = tells c.poll.result }) c.new.ensures.message c.requires.poll_section c.poll.ensures.seen
+    c.new.result.parcel (C.seen c.args.m.now) seen (C.own c.args.part.now) (C.under_way c.args.part.now) under
+    (record { own = own; answer = tells c.poll.result }) c.new.ensures.parcel c.requires.poll_section c.poll.ensures.seen
     (λ some. ap C.seen (c.poll.ensures.still (inr some))) in
     λ same other. waits_after monitor_rules (C.opening c.args.m.now) (C.ActsFor c.args.m.now) (C.cpu_of c.args.part.now) c.args.buffer e seen own under
     (tells c.poll.result) c.current.result after (ap tells c.in-None.is) c.current.ensures (sym c.is_some.ensures ∙ c.if-is_some.false) other

@@ -11,13 +11,13 @@ use Rattle.plain_layers.specs.LockSections.{MayPollLockSection, call_alone}
 use Rattle.plain_layers.proofs.LockSectionLemmas.{after_alone, ended_after, goes_after, sleeps_after}
 use Rattle.plain_layers.proofs.lock_sections.one_section_poll.Goals as goal
 
--- the call that is meant is the one with no message
+-- the call that is meant is the one with no parcel
 pub poll-requires-clause-call : goal.poll-requires-clause-call
 poll-requires-clause-call g c =
     let rules = g.F.Locked.rules in
     let Q = g.Q.ThreadLayer in
-    subst (λ message. MayCallLock rules (lock_kernel rules (Q.opening c.args.m.now)) (Q.cpu_of c.args.part.now) (Q.seen c.args.m.now) (Q.own c.args.part.now)
-    (Q.under_way c.args.part.now) c.args.buffer (lock_meant g.F.Locked.meant c.args.call message)) (sym c.new.ensures.message) c.requires.poll_section.may
+    subst (λ parcel. MayCallLock rules (lock_kernel rules (Q.opening c.args.m.now)) (Q.cpu_of c.args.part.now) (Q.seen c.args.m.now) (Q.own c.args.part.now)
+    (Q.under_way c.args.part.now) c.args.buffer (lock_meant g.F.Locked.meant c.args.call parcel)) (sym c.new.ensures.parcel) c.requires.poll_section.may
 
 pub returns-then-is_some-clause-goes : goal.returns-then-is_some-clause-goes
 returns-then-is_some-clause-goes g c =
@@ -30,9 +30,9 @@ returns-then-is_some-clause-goes g c =
     let under = Q.under_way c.poll.new.self in
     let seen = Q.seen c.poll.new.m in
     let tells = λ (o : Option (Outcome (QOut g.row.F-Brought.Denot))).
-    told_by (λ o p. outcome_told (lock_told g.F.Locked.told) o p.message) o c.poll.new.payload in
-    let after = after_alone rules opening (Q.ActsFor c.args.m.now) (Q.cpu_of c.args.part.now) b g.F.Locked.meant c.args.call c.new.result.message
-    (Q.seen c.args.m.now) seen (Q.own c.args.part.now) under (record { own = own; answer = tells c.poll.result }) c.new.ensures.message
+    told_by (λ o p. outcome_told (lock_told g.F.Locked.told) o p.parcel) o c.poll.new.payload in
+    let after = after_alone rules opening (Q.ActsFor c.args.m.now) (Q.cpu_of c.args.part.now) b g.F.Locked.meant c.args.call c.new.result.parcel
+    (Q.seen c.args.m.now) seen (Q.own c.args.part.now) under (record { own = own; answer = tells c.poll.result }) c.new.ensures.parcel
     c.requires.poll_section.may.runs c.requires.poll_section.steady c.poll.ensures.seen (λ some. ap Q.seen (c.poll.ensures.still some)) in
     λ same. subst (λ o. MayPollLockSection rules (lock_kernel rules o) (Q.cpu_of c.poll.new.self) seen own under b e) (sym c.poll.ensures.framed.stays.opening)
     (subst (λ d. MayPollLockSection rules (lock_kernel rules opening) d seen own under b e) (sym c.poll.ensures.framed.cpu)
@@ -48,12 +48,12 @@ returns-in-Some-clause-ended g c =
     let under = Q.under_way c.poll.new.self in
     let seen = Q.seen c.poll.new.m in
     let tells = λ (o : Option (Outcome (QOut g.row.F-Brought.Denot))).
-    told_by (λ o p. outcome_told (lock_told g.F.Locked.told) o p.message) o c.poll.new.payload in
+    told_by (λ o p. outcome_told (lock_told g.F.Locked.told) o p.parcel) o c.poll.new.payload in
     let after = after_alone rules (Q.opening c.args.m.now) (Q.ActsFor c.args.m.now) (Q.cpu_of c.args.part.now) c.args.buffer g.F.Locked.meant c.args.call
-    c.new.result.message (Q.seen c.args.m.now) seen (Q.own c.args.part.now) under (record { own = own; answer = tells c.poll.result }) c.new.ensures.message
+    c.new.result.parcel (Q.seen c.args.m.now) seen (Q.own c.args.part.now) under (record { own = own; answer = tells c.poll.result }) c.new.ensures.parcel
     c.requires.poll_section.may.runs c.requires.poll_section.steady c.poll.ensures.seen (λ some. ap Q.seen (c.poll.ensures.still some)) in
     λ outcome same. (ended_after rules (Q.opening c.args.m.now) (Q.ActsFor c.args.m.now) (Q.cpu_of c.args.part.now) c.args.buffer e seen own under
-    (tells c.poll.result) (outcome_told (lock_told g.F.Locked.told) c.in-Some.outcome c.poll.new.payload.message) after (ap tells c.in-Some.is)).0
+    (tells c.poll.result) (outcome_told (lock_told g.F.Locked.told) c.in-Some.outcome c.poll.new.payload.parcel) after (ap tells c.in-Some.is)).0
 
 pub returns-in-Some-clause-owns : goal.returns-in-Some-clause-owns
 returns-in-Some-clause-owns g c =
@@ -64,14 +64,14 @@ returns-in-Some-clause-owns g c =
     let under = Q.under_way c.poll.new.self in
     let seen = Q.seen c.poll.new.m in
     let tells = λ (o : Option (Outcome (QOut g.row.F-Brought.Denot))).
-    told_by (λ o p. outcome_told (lock_told g.F.Locked.told) o p.message) o c.poll.new.payload in
+    told_by (λ o p. outcome_told (lock_told g.F.Locked.told) o p.parcel) o c.poll.new.payload in
     let after = after_alone rules (Q.opening c.args.m.now) (Q.ActsFor c.args.m.now) (Q.cpu_of c.args.part.now) c.args.buffer g.F.Locked.meant c.args.call
-    c.new.result.message (Q.seen c.args.m.now) seen (Q.own c.args.part.now) under (record { own = own; answer = tells c.poll.result }) c.new.ensures.message
+    c.new.result.parcel (Q.seen c.args.m.now) seen (Q.own c.args.part.now) under (record { own = own; answer = tells c.poll.result }) c.new.ensures.parcel
     c.requires.poll_section.may.runs c.requires.poll_section.steady c.poll.ensures.seen (λ some. ap Q.seen (c.poll.ensures.still some)) in
     λ outcome same asks. subst (λ o. owner_of rules (inner o) (buffer_sections seen) (Buffer c.args.buffer) ≡ Some (lock_caller rules e))
     (sym c.poll.ensures.framed.stays.opening)
     ((ended_after rules (Q.opening c.args.m.now) (Q.ActsFor c.args.m.now) (Q.cpu_of c.args.part.now) c.args.buffer e seen own under
-    (tells c.poll.result) (outcome_told (lock_told g.F.Locked.told) c.in-Some.outcome c.poll.new.payload.message) after (ap tells c.in-Some.is)).1 asks)
+    (tells c.poll.result) (outcome_told (lock_told g.F.Locked.told) c.in-Some.outcome c.poll.new.payload.parcel) after (ap tells c.in-Some.is)).1 asks)
 
 pub returns-else-is_some-clause-sleeps : goal.returns-else-is_some-clause-sleeps
 returns-else-is_some-clause-sleeps g c =
@@ -82,9 +82,9 @@ returns-else-is_some-clause-sleeps g c =
     let under = Q.under_way c.poll.new.self in
     let seen = Q.seen c.poll.new.m in
     let tells = λ (o : Option (Outcome (QOut g.row.F-Brought.Denot))).
-    told_by (λ o p. outcome_told (lock_told g.F.Locked.told) o p.message) o c.poll.new.payload in
+    told_by (λ o p. outcome_told (lock_told g.F.Locked.told) o p.parcel) o c.poll.new.payload in
     let after = after_alone rules (Q.opening c.args.m.now) (Q.ActsFor c.args.m.now) (Q.cpu_of c.args.part.now) c.args.buffer g.F.Locked.meant c.args.call
-    c.new.result.message (Q.seen c.args.m.now) seen (Q.own c.args.part.now) under (record { own = own; answer = tells c.poll.result }) c.new.ensures.message
+    c.new.result.parcel (Q.seen c.args.m.now) seen (Q.own c.args.part.now) under (record { own = own; answer = tells c.poll.result }) c.new.ensures.parcel
     c.requires.poll_section.may.runs c.requires.poll_section.steady c.poll.ensures.seen (λ some. ap Q.seen (c.poll.ensures.still some)) in
     λ same. sleeps_after rules (Q.opening c.args.m.now) (Q.ActsFor c.args.m.now) (Q.cpu_of c.args.part.now) c.args.buffer e seen own under
     (tells c.poll.result) c.current.result after (ap tells c.in-None.is) c.current.ensures (sym c.is_some.ensures ∙ c.if-is_some.false)

@@ -19,8 +19,8 @@ section_polls-requires-clause-poll_section g c =
     let runs : (Q.own part).sleep.threads.current ≡ Some (lock_rules.last_caller c.args.last) = search rules in
     let empty : (Q.own part).sleep.threads.hand ≡ None = search rules in
     let owned : c.in-Some.owner ≡ Some (lock_rules.last_caller c.args.last) = search rules in
-    let shown = g.met.Q.OwnedQLocks.shown m (Q.cpu_of part) c.args.buffer (g.met.Q.ThreadLayer.own_cpu part m c.requires.fits) c.requires.buffer in
-    let told = owner_told (g.Q.OwnedQLocks.lock_at m c.args.buffer)
+    let shown = g.met.Q.OwnedThreadLayer.shown m (Q.cpu_of part) c.args.buffer (g.met.Q.ThreadLayer.own_cpu part m c.requires.fits) c.requires.buffer in
+    let told = owner_told (g.Q.OwnedThreadLayer.block_at m c.args.buffer)
     (lock_after lock_rules (inner (Q.opening m)) (Buffer c.args.buffer) (buffer_sections (Q.seen m))) c.in-Some.owner shown.by_machine
     (sym c.owner_in.ensures ∙ c.in-Some.is) in
     may_begin lock_rules (lock_kernel lock_rules (Q.opening m)) (Q.cpu_of part) (Q.seen m) (Q.own part) (Q.under_way part) c.args.buffer

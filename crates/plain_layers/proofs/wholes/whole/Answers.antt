@@ -15,9 +15,9 @@ returns-in-Some-clause-done g c =
     let n = c.poll.new.m in
     let said = c.in-Some.ensures in
     let known = g.met.S.ThreadLayer.known n (S.cpu_of part) (said.framed.stays.acts (S.cpu_of part) (g.met.S.ThreadLayer.own_cpu part m c.requires.fits)) in
-    let edit = g.E.Sleeps.meant c.args.edit c.args.payload.now.message in
+    let edit = g.E.Sleeps.meant c.args.edit c.args.payload.now.parcel in
     inl (first_answers (asked (sleep_kernel g.E.Sleeps.rules (S.opening m)) (S.cpu_of part) c.args.buffer edit) (λ d. S.ActsFor m d) c.requires.all
-    (S.seen m) (S.seen n) (S.own part) (S.own c.poll.new.self) (outcome_told g.E.Sleeps.told c.in-Some.outcome c.poll.new.payload.message)
+    (S.seen m) (S.seen n) (S.own part) (S.own c.poll.new.self) (outcome_told g.E.Sleeps.told c.in-Some.outcome c.poll.new.payload.parcel)
     c.requires.deferred known said.seen)
 
 -- the second sent the woken thread home
@@ -31,7 +31,7 @@ returns-in-None-clause-done g c =
     let said = c.in-None.ensures in
     let more = c.poll-in-None.ensures in
     let k = sleep_kernel g.E.Sleeps.rules (S.opening m) in
-    let edit = g.E.Sleeps.meant c.args.edit c.args.payload.now.message in
+    let edit = g.E.Sleeps.meant c.args.edit c.args.payload.now.parcel in
     let section = asked k (S.cpu_of part) c.args.buffer edit in
     let acts = said.framed.stays.acts (S.cpu_of part) (g.met.S.ThreadLayer.own_cpu part m c.requires.fits) in
     let known = g.met.S.ThreadLayer.known n (S.cpu_of part) acts in
@@ -41,14 +41,14 @@ returns-in-None-clause-done g c =
     let n' = c.poll-in-None.new.m in
     let p' = c.poll-in-None.new.self in
     let now_known = g.met.S.ThreadLayer.known n' (S.cpu_of part) (more.framed.stays.acts (S.cpu_of part) acts) in
-    let tells = λ (r : Option (Outcome g.row.E-Brought.Denot)). told_by (λ o p. outcome_told g.E.Sleeps.told o p.message) r c.poll-in-None.new.payload in
+    let tells = λ (r : Option (Outcome g.row.E-Brought.Denot)). told_by (λ o p. outcome_told g.E.Sleeps.told o p.parcel) r c.poll-in-None.new.payload in
     let kernels = subst (λ o. SleepPolled (sleep_kernel g.E.Sleeps.rules o) (λ d. S.ActsFor n d) (S.cpu_of p) c.args.buffer edit (S.seen n) (S.seen n')
     (S.own p) (record { own = S.own p'; answer = tells c.poll-in-None.result })) said.framed.stays.opening more.seen in
     let cpus = subst (λ d. SleepPolled k (λ d. S.ActsFor n d) d c.args.buffer edit (S.seen n) (S.seen n') (S.own p)
     (record { own = S.own p'; answer = tells c.poll-in-None.result })) said.framed.cpu kernels in
     let polled = subst (λ o. SleepPolled k (λ d. S.ActsFor n d) (S.cpu_of part) c.args.buffer edit (S.seen n) (S.seen n') (S.own p)
     (record { own = S.own p'; answer = tells o })) c.unwrap.ensures cpus in
-    let outcome = outcome_told g.E.Sleeps.told c.unwrap.result c.poll-in-None.new.payload.message in
+    let outcome = outcome_told g.E.Sleeps.told c.unwrap.result c.poll-in-None.new.payload.parcel in
     let sent = second_sends section (λ d. S.ActsFor n d) (λ d small. said.framed.stays.acts d (c.requires.all d small))
     (S.seen n) (S.seen n') (S.own p) (S.own p') begun.0 outcome (ap (λ (s : Sleeping g.row.E-Out.Denot). s.deferred) begun.1.leaves) now_known polled in
     inr (both_polls section (S.seen m) (S.seen n) (S.seen n') (S.own part).threads (S.own p) (S.own p') begun.0

@@ -47,7 +47,7 @@ returns-then-wake-clause-seen g c =
     let rules = cv_rules g.G.Guarded.monitor_rules in
     let k = lock_kernel rules (Q.opening m) in
     let G = g.G.Guarded in
-    let call = lock_meant (cv_meant G.meant) c.args.call.edit c.args.payload.now.message in
+    let call = lock_meant (cv_meant G.meant) c.args.call.edit c.args.payload.now.parcel in
     let t = lock_caller rules call in
     let waits = c.args.self.now.waits.buffers in
     let own : Waiting _ = record { lock = Q.own p; waits = waits } in
@@ -69,20 +69,20 @@ returns-clause-seen g c =
     let rules = cv_rules g.G.Guarded.monitor_rules in
     let k = lock_kernel rules (Q.opening m) in
     let G = g.G.Guarded in
-    let call = lock_meant (cv_meant G.meant) c.args.call.edit c.args.payload.now.message in
+    let call = lock_meant (cv_meant G.meant) c.args.call.edit c.args.payload.now.parcel in
     let t = lock_caller rules call in
     let waits = c.args.self.now.waits.buffers in
     let own : Waiting _ = record { lock = Q.own p; waits = waits } in
     let caller = c.caller_of-t.ensures in
-    let message = c.poll-answer.new.payload.message in
+    let parcel = c.poll-answer.new.payload.parcel in
     let none = wake_told waits c.wake.result false t c.caller_of-t.result c.wake.ensures.was c.if-wake.false caller in
     let kept = wake_kept waits c.wake.new.self.buffers c.wake.result c.caller_of-t.result c.wake.ensures.now c.if-wake.false in
     waits_polled g.G.Guarded.monitor_rules k (λ d. Q.ActsFor m d) cpu c.args.call.buffer call (Q.seen m) (Q.seen c.poll-answer.new.m) own
     (Q.under_way c.poll-answer.new.self) (Q.own c.poll-answer.new.self) c.complete.new.self.buffers
-    (lock_tells G.told message c.poll-answer.result) (lock_tells G.told message c.complete.result) (slept_for waits t) none
+    (lock_tells G.told parcel c.poll-answer.result) (lock_tells G.told parcel c.complete.result) (slept_for waits t) none
     c.poll-answer.ensures.seen
-    (waits_told G.told message c.poll-answer.result t c.args.call.buffer waits c.complete.new.self.buffers (rw (← kept, ← caller) c.complete.ensures.waits))
-    (complete_told G.told message c.poll-answer.result c.complete.result c.complete.ensures.complete)
+    (waits_told G.told parcel c.poll-answer.result t c.args.call.buffer waits c.complete.new.self.buffers (rw (← kept, ← caller) c.complete.ensures.waits))
+    (complete_told G.told parcel c.poll-answer.result c.complete.result c.complete.ensures.complete)
 
 pub returns-clause-follows : goal.returns-clause-follows
 returns-clause-follows g c stepwise =
@@ -93,18 +93,18 @@ returns-clause-follows g c stepwise =
     let rules = cv_rules g.G.Guarded.monitor_rules in
     let k = lock_kernel rules (Q.opening m) in
     let G = g.G.Guarded in
-    let call = lock_meant (cv_meant G.meant) c.args.call.edit c.args.payload.now.message in
+    let call = lock_meant (cv_meant G.meant) c.args.call.edit c.args.payload.now.parcel in
     let t = lock_caller rules call in
     let waits = c.args.self.now.waits.buffers in
     let own : Waiting _ = record { lock = Q.own p; waits = waits } in
     let caller = c.caller_of-t.ensures in
-    let message = c.poll-answer.new.payload.message in
+    let parcel = c.poll-answer.new.payload.parcel in
     let none = wake_told waits c.wake.result false t c.caller_of-t.result c.wake.ensures.was c.if-wake.false caller in
     let kept = wake_kept waits c.wake.new.self.buffers c.wake.result c.caller_of-t.result c.wake.ensures.now c.if-wake.false in
     waits_follow (λ d. Q.ActsFor m d) (table_of (queue_rules (lock_rules rules) (lock_moves rules))) (Q.opening m) (lock_moves rules)
     (homes_in (Q.opening m)) cpu
     c.args.call.buffer call own (Q.acts m) (Q.acts c.poll-answer.new.m) (Q.own c.poll-answer.new.self) c.complete.new.self.buffers
-    (lock_tells G.told message c.poll-answer.result) (lock_tells G.told message c.complete.result) (slept_for waits t) none
+    (lock_tells G.told parcel c.poll-answer.result) (lock_tells G.told parcel c.complete.result) (slept_for waits t) none
     (c.poll-answer.ensures.follows stepwise)
-    (waits_told G.told message c.poll-answer.result t c.args.call.buffer waits c.complete.new.self.buffers (rw (← kept, ← caller) c.complete.ensures.waits))
-    (complete_told G.told message c.poll-answer.result c.complete.result c.complete.ensures.complete)
+    (waits_told G.told parcel c.poll-answer.result t c.args.call.buffer waits c.complete.new.self.buffers (rw (← kept, ← caller) c.complete.ensures.waits))
+    (complete_told G.told parcel c.poll-answer.result c.complete.result c.complete.ensures.complete)

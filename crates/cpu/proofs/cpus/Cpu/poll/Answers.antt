@@ -1,8 +1,8 @@
 use Rattle.std.proofs.Common.{◌++◌, Option, refl, ap, sym, ◌∙◌, subst, arith, vec_capacity}
 use Rattle.event_log.specs.declared.ids.CpuId.{CpuId}
 use Rattle.layer_traits.specs.declared.calls.Effect.{Effect}
-use Rattle.layer_traits.specs.BufferLaw.{buffer_of, call_state_of}
-use Rattle.cpu.specs.Guests.{entries_of, polled}
+use Rattle.layer_traits.specs.BufferLaw.{answer_in, buffer_of, call_state_of}
+use Rattle.cpu.specs.Guests.{answer_with, entries_of, polled}
 use Rattle.cpu.specs.Cpus.{ActsGrow, programs_of, fresh_at, guest_at, with_guest}
 use Rattle.cpu.proofs.GuestLists.{programs_with}
 use Rattle.cpu.proofs.Passing.{called_grows, follows_grow}
@@ -14,8 +14,8 @@ use Rattle.cpu.proofs.Layered.{acts_for, laws_of, layered, runs_home, observed_c
 use Rattle.cpu.proofs.cpus.Cpu.poll.Given.{Over}
 use Rattle.cpu.proofs.cpus.Cpu.poll.Goals as goal
 
-pub poll-answer-requires-clause-same : goal.poll-answer-requires-clause-same
-poll-answer-requires-clause-same g c = poll_call_states (valid_cpu c.requires.is) c.args.thread c.args.call.now c.requires.chosen
+pub poll_kind-answer-requires-clause-same : goal.poll_kind-answer-requires-clause-same
+poll_kind-answer-requires-clause-same g c = poll_call_states (valid_cpu c.requires.is) c.args.thread c.args.call.now c.requires.chosen
 
 pub effect_here-effect-requires : goal.effect_here-effect-requires
 effect_here-effect-requires g c = poll_number (valid_cpu c.requires.is) c.args.thread c.args.call.now c.requires.chosen
@@ -34,23 +34,23 @@ note_effect-requires g c = λ f some.
     let less = poll_buffer (valid_cpu c.requires.is) t c.args.call.now c.requires.chosen in
     let effect = c.effect_here-effect.ensures in
     let after : PolledCpu (λ d. I.ActsFor m d) (valid_cpu c.requires.is) t c.args.call.now = record {
-      call_states = I.call_states c.poll-answer.new.self;
-      seen = I.seen c.poll-answer.new.m;
-      own = I.threads c.poll-answer.new.self;
-      under_way = I.under_way c.poll-answer.new.self;
+      call_states = I.call_states c.poll_kind-answer.new.self;
+      seen = I.seen c.poll_kind-answer.new.m;
+      own = I.threads c.poll_kind-answer.new.self;
+      under_way = I.under_way c.poll_kind-answer.new.self;
       guests = c.note_poll-fresh.new.self.items;
       trace = p.trace.items
           ++ entries_of p.number t (buffer_of c.args.call.now)
-          (fresh_at (guest_at p.guests.items t.0) ((call_state_of (I.call_states c.poll-answer.new.self) t).effect));
+          (fresh_at (guest_at p.guests.items t.0) ((call_state_of (I.call_states c.poll_kind-answer.new.self) t).effect));
       capacity = vec_capacity p.trace;
-      answer = c.poll-answer.result;
+      answer = answer_in (I.call_states c.poll_kind-answer.new.self) t c.poll_kind-answer.result;
       acts = acts_for cpu;
       home = runs_home cpu t runs;
-      called = rw c.requires.number at (c.poll-answer.ensures.called less);
-      runs_on = c.poll-answer.ensures.runs less;
-      under_way_is = c.poll-answer.ensures.under_way less;
+      called = rw c.requires.number at (c.poll_kind-answer.ensures.called less);
+      runs_on = c.poll_kind-answer.ensures.runs less;
+      under_way_is = c.poll_kind-answer.ensures.under_way less;
       guests_is = c.note_poll-fresh.ensures.guests
-          ∙ ap (λ (f : Option Effect). with_guest p.guests.items t.0 (λ x. polled x f c.poll-answer.result)) effect;
+          ∙ ap (λ (f : Option Effect). with_guest p.guests.items t.0 (λ x. polled x f (answer_with f c.poll_kind-answer.result))) effect;
       trace_is = refl;
       strict = c.requires.not_full;
       capacity_is = omega arith;
@@ -69,35 +69,35 @@ returns-clause-is g c =
     let less = poll_buffer (valid_cpu c.requires.is) t c.args.call.now c.requires.chosen in
     let effect = c.effect_here-effect.ensures in
     let after : PolledCpu (λ d. I.ActsFor m d) (valid_cpu c.requires.is) t c.args.call.now = record {
-      call_states = I.call_states c.poll-answer.new.self;
-      seen = I.seen c.poll-answer.new.m;
-      own = I.threads c.poll-answer.new.self;
-      under_way = I.under_way c.poll-answer.new.self;
+      call_states = I.call_states c.poll_kind-answer.new.self;
+      seen = I.seen c.poll_kind-answer.new.m;
+      own = I.threads c.poll_kind-answer.new.self;
+      under_way = I.under_way c.poll_kind-answer.new.self;
       guests = c.note_poll-fresh.new.self.items;
       trace = c.note_effect.new.trace.items;
       capacity = vec_capacity c.note_effect.new.trace;
-      answer = c.poll-answer.result;
+      answer = answer_in (I.call_states c.poll_kind-answer.new.self) t c.poll_kind-answer.result;
       acts = acts_for cpu;
       home = runs_home cpu t runs;
-      called = rw c.requires.number at (c.poll-answer.ensures.called less);
-      runs_on = c.poll-answer.ensures.runs less;
-      under_way_is = c.poll-answer.ensures.under_way less;
+      called = rw c.requires.number at (c.poll_kind-answer.ensures.called less);
+      runs_on = c.poll_kind-answer.ensures.runs less;
+      under_way_is = c.poll_kind-answer.ensures.under_way less;
       guests_is = c.note_poll-fresh.ensures.guests
-          ∙ ap (λ (f : Option Effect). with_guest p.guests.items t.0 (λ x. polled x f c.poll-answer.result)) effect;
+          ∙ ap (λ (f : Option Effect). with_guest p.guests.items t.0 (λ x. polled x f (answer_with f c.poll_kind-answer.result))) effect;
       trace_is = c.note_effect.ensures.items
           ∙ ap (λ (f : Option Effect). p.trace.items ++ entries_of p.number t (buffer_of c.args.call.now) f)
           (c.note_poll-fresh.ensures.fresh ∙ ap (λ (f : Option Effect). fresh_at (guest_at p.guests.items t.0) f) effect);
       strict = c.requires.not_full;
       capacity_is = c.note_effect.ensures.capacity;
     } in
-    rw (c.poll-answer.ensures.homes, c.poll-answer.ensures.caps)
+    rw (c.poll_kind-answer.ensures.homes, c.poll_kind-answer.ensures.caps)
     (noted_call (valid_cpu c.requires.is) t c.args.call.now c.requires.chosen _ after)
 
 pub returns-clause-leaves : goal.returns-clause-leaves
 returns-clause-leaves g c =
     let I = g.I.CallLayer in
     let m = c.args.m.now in
-    let e = c.poll-answer.ensures in
+    let e = c.poll_kind-answer.ensures in
     let less = poll_buffer (valid_cpu c.requires.is) c.args.thread c.args.call.now c.requires.chosen in
     record {
       number = refl;
@@ -106,7 +106,7 @@ returns-clause-leaves g c =
       programs = ap programs_of c.note_poll-fresh.ensures.guests ∙ programs_with c.args.self.now.guests.items c.args.thread.0 _ (λ x. refl);
       seen = called_grows _ _ _ _ _ _ _ _ _ (rw c.requires.number at (e.called less));
       moves = rw c.requires.number at e.moves;
-      grows = λ step. subst (λ (d : CpuId). ActsGrow (λ e. I.ActsFor m e) d (I.acts m) (I.acts c.poll-answer.new.m)) c.requires.number
+      grows = λ step. subst (λ (d : CpuId). ActsGrow (λ e. I.ActsFor m e) d (I.acts m) (I.acts c.poll_kind-answer.new.m)) c.requires.number
           (follows_grow _ _ _ _ _ _ _ _ (e.follows step));
       opening = e.framed.stays.opening;
       caps = e.caps;
@@ -127,8 +127,8 @@ observed_poll g c step =
     let law = g.met.I.CallLayer in
     let m = c.args.m.now in
     let p = c.args.self.now in
-    let q = c.poll-answer.new.self in
-    let n = c.poll-answer.new.m in
+    let q = c.poll_kind-answer.new.self in
+    let n = c.poll_kind-answer.new.m in
     let less = poll_buffer (valid_cpu c.requires.is) c.args.thread c.args.call.now c.requires.chosen in
     let effect = c.effect_here-effect.ensures in
     record {
@@ -142,14 +142,14 @@ observed_poll g c step =
       guests = c.note_poll-fresh.new.self.items;
       trace = c.note_effect.new.trace.items;
       new = I.acts n;
-      result = c.poll-answer.result;
-      known = hand_preserved (I.homes_of m) (I.homes_of n) (I.cpu_of q) (I.moves n) (I.threads q) c.poll-answer.ensures.homes
-          (law.stands q n c.poll-answer.ensures.framed.fits) (law.moves_legal n (I.cpu_of q) (law.own_cpu q n c.poll-answer.ensures.framed.fits));
-      follows = c.poll-answer.ensures.follows step;
-      ended_is = (c.poll-answer.ensures.runs less).ended;
-      under_way_is = c.poll-answer.ensures.under_way less;
+      result = answer_in (I.call_states q) c.args.thread c.poll_kind-answer.result;
+      known = hand_preserved (I.homes_of m) (I.homes_of n) (I.cpu_of q) (I.moves n) (I.threads q) c.poll_kind-answer.ensures.homes
+          (law.stands q n c.poll_kind-answer.ensures.framed.fits) (law.moves_legal n (I.cpu_of q) (law.own_cpu q n c.poll_kind-answer.ensures.framed.fits));
+      follows = c.poll_kind-answer.ensures.follows step;
+      ended_is = (c.poll_kind-answer.ensures.runs less).ended;
+      under_way_is = c.poll_kind-answer.ensures.under_way less;
       guests_is = c.note_poll-fresh.ensures.guests
-          ∙ ap (λ (f : Option Effect). with_guest p.guests.items c.args.thread.0 (λ x. polled x f c.poll-answer.result)) effect;
+          ∙ ap (λ (f : Option Effect). with_guest p.guests.items c.args.thread.0 (λ x. polled x f (answer_with f c.poll_kind-answer.result))) effect;
       trace_is = c.note_effect.ensures.items
           ∙ ap (λ (f : Option Effect). p.trace.items ++ entries_of p.number c.args.thread (buffer_of c.args.call.now) f)
           (c.note_poll-fresh.ensures.fresh ∙ ap (λ (f : Option Effect). fresh_at (guest_at p.guests.items c.args.thread.0) f) effect);
@@ -158,7 +158,7 @@ observed_poll g c step =
 pub returns-clause-table : goal.returns-clause-table
 returns-clause-table g c = λ step.
     let cpu = layered (laws_of g.met.I.CallLayer) c.args.m.now c.args.self.now c.requires.fits c.requires.number c.requires.is c.requires.table in
-    rw (c.poll-answer.ensures.homes, c.poll-answer.ensures.caps, c.poll-answer.ensures.framed.stays.opening)
+    rw (c.poll_kind-answer.ensures.homes, c.poll_kind-answer.ensures.caps, c.poll_kind-answer.ensures.framed.stays.opening)
     (call_tabled (observed_cpu cpu step) _ _ (observed_outset cpu step) c.args.thread c.args.call.now c.requires.chosen c.requires.live
     (observed_poll g c step))
 

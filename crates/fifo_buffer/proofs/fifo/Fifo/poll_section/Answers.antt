@@ -56,7 +56,7 @@ returns-clause-section_polled g c =
     let lawful = rw c.poll-answer.ensures.framed.stays.opening at (law.lawful c.poll-answer.new.m cpu (c.poll-answer.ensures.framed.stays.acts cpu acts)) in
     let small = c.requires.known in
     let size = c.requires.sizes.call_states_are in
-    let told = told_by outcome_of c.poll-answer.result c.poll-answer.new.payload.message in
+    let told = told_by outcome_of c.poll-answer.result c.poll-answer.new.payload.parcel in
     let later : call_state_of c.record_answer.new.self.call_states t ≡ recorded_if call_state call_state.stage told
     = ap (λ call_states. call_state_of call_states t) c.record_answer.ensures.call_states ∙ get_or-set_same c.args.self.now.call_states.call_states t.0
     (recorded_if call_state call_state.stage told) no_call (omega (arith, small, size)) in
@@ -83,7 +83,7 @@ returns-clause-section_polled g c =
     lawful awake (lock_caller (cv_rules buffer_monitor_rules) (section_at t call call_state.stage)) (caller_is t call call_state.stage)
     (record { own = C.own c.poll-answer.new.self; answer = told }) seen (λ some. ap C.seen (still (inl some)))
     (λ some. ap C.seen (still (inr some))) in
-    rw (c.record_answer.ensures.done, ← told_some outcome_of c.poll-answer.result c.poll-answer.new.payload.message, later) poll_section
+    rw (c.record_answer.ensures.done, ← told_some outcome_of c.poll-answer.result c.poll-answer.new.payload.parcel, later) poll_section
 
 pub returns-clause-follows : goal.returns-clause-follows
 returns-clause-follows g c stepwise =
@@ -97,10 +97,10 @@ returns-clause-follows g c stepwise =
     let call_states = c.args.self.now.call_states.call_states in
     let edit_is = c.section-edit.ensures ∙ ap (section_at t call) c.requires.stage in
     let follows = rw (edit_is, c.buffer_in-buffer.ensures) at (c.poll-answer.ensures.follows stepwise) in
-    let told = told_by outcome_of c.poll-answer.result c.poll-answer.new.payload.message in
+    let told = told_by outcome_of c.poll-answer.result c.poll-answer.new.payload.parcel in
     rw (← recorded_left t call call_state call_states c.record_answer.new.self.call_states call_state.stage
     (C.own c.poll-answer.new.self) told c.record_answer.result
-    (c.record_answer.ensures.done ∙ sym (told_some outcome_of c.poll-answer.result c.poll-answer.new.payload.message)) c.record_answer.ensures.call_states)
+    (c.record_answer.ensures.done ∙ sym (told_some outcome_of c.poll-answer.result c.poll-answer.new.payload.parcel)) c.record_answer.ensures.call_states)
     (follows_raised (λ d. C.ActsFor m d) (table_of (queue_rules (lock_rules buffer_rules) (lock_moves buffer_rules))) (C.opening m) cpu
     (left_recorded t call call_state call_states call_state.stage) (plan_beneath (homes_in (C.opening m)) cpu t call call_state.stage (C.own p)) (C.acts m)
     (C.acts c.poll-answer.new.m)

@@ -20,8 +20,8 @@ use Rattle.plain_layers.proofs.scheds.PlainSchedLayerSchedLaw.poll.Goals as goal
 less : (n k : ℕ) → n ≡ k + 1 → n ≤ k + 1
 less n k is = omega (arith, is)
 
-pub local-requires : goal.local-requires
-local-requires g c =
+pub pass_locally-requires : goal.pass_locally-requires
+pass_locally-requires g c =
     let rules = g.E.SplitEdit.rules in
     let mv = g.E.Moves.moves in
     let wakes = g.met.E.Moves.wakes_sleepers in
@@ -66,8 +66,8 @@ done-answer-requires-clause-call g c =
     call_may rules mv opening wakes fits.1.starts self.cpu self.cpu self.homes.items None (calls_in m) self.own fits.1.lawful fits.2
     call c.requires.call step is [] tt fits.1.lawful
 
-pub answered-requires : goal.answered-requires
-answered-requires g c =
+pub take_answer-requires : goal.take_answer-requires
+take_answer-requires g c =
     let rules = g.E.SplitEdit.rules in
     let mv = g.E.Moves.moves in
     let wakes = g.met.E.Moves.wakes_sleepers in
@@ -106,7 +106,7 @@ returns-in-Err-clause-framed g c =
     let told = c.in-Err.ensures.local payload in
     let is : queue_call (homes_in opening) self.cpu call ≡ None
     = ap (λ h. queue_call h self.cpu call) (fits.2.homes ∙ sym c.as_slice-homes.ensures.value) ∙ told.1 in
-    let own : c.local.new.self ≡ local_after call self.own = c.local.ensures ∙ ap (λ s. local_after s self.own) (sym told.0) in
+    let own : c.pass_locally.new.own ≡ local_after call self.own = c.pass_locally.ensures ∙ ap (λ s. local_after s self.own) (sym told.0) in
     let kept = local_fits rules mv opening wakes fits.1.starts self.cpu self.cpu self.homes.items None (calls_in m) self.own fits.1.lawful fits.2
     call c.requires.call is in
     record {
@@ -131,7 +131,7 @@ returns-in-Err-clause-seen g c =
     let told = c.in-Err.ensures.local payload in
     let is : queue_call (homes_in opening) self.cpu call ≡ None
     = ap (λ h. queue_call h self.cpu call) (fits.2.homes ∙ sym c.as_slice-homes.ensures.value) ∙ told.1 in
-    let own : c.local.new.self ≡ local_after call self.own = c.local.ensures ∙ ap (λ s. local_after s self.own) (sym told.0) in
+    let own : c.pass_locally.new.own ≡ local_after call self.own = c.pass_locally.ensures ∙ ap (λ s. local_after s self.own) (sym told.0) in
     let Acts = λ (d : CpuId). (d.0 < CPUS) × IsKernel rules mv m.opening (calls_in m) m.lists in
     subst (λ o. SchedPolled (kernel rules mv opening) Acts self.cpu call (Some Done) (calls_in m) (calls_in m) self.own o) (sym own)
     (local_polled rules mv opening wakes fits.1.starts self.cpu self.cpu self.homes.items None (calls_in m) self.own fits.1.lawful fits.2
@@ -160,8 +160,8 @@ returns-in-Ok-clause-framed g c =
     let legal = subst (λ o. IsLawful (QueueAllowed (kernel rules mv (opening_of o))) (calls_in n)) said.opening said.sound.lawful in
     let polled : QueuePolled (kernel rules mv opening) Acts (event self.cpu step) (Some answer) (calls_in m) (calls_in n) =
     record { others = []; foreign = λ d acts. tt; is = said.seen; answers = said.answer } in
-    let own : c.answered.new.self ≡ own_by mv (homes_in opening) self.cpu answer self.own
-    = c.answered.ensures.own ∙ ap (λ h. own_by mv h self.cpu answer self.own) (sym (fits.2.homes ∙ sym c.as_slice-homes.ensures.value)) in
+    let own : c.take_answer.new.own ≡ own_by mv (homes_in opening) self.cpu answer self.own
+    = c.take_answer.ensures.own ∙ ap (λ h. own_by mv h self.cpu answer self.own) (sym (fits.2.homes ∙ sym c.as_slice-homes.ensures.value)) in
     record {
       fits = (
         fits.0,
@@ -209,9 +209,9 @@ returns-in-Ok-clause-seen g c =
     let legal = subst (λ o. IsLawful (QueueAllowed (kernel rules mv (opening_of o))) (calls_in n)) said.opening said.sound.lawful in
     let polled : QueuePolled (kernel rules mv opening) Acts (event self.cpu step) (Some answer) (calls_in m) (calls_in n) =
     record { others = []; foreign = λ d acts. tt; is = said.seen; answers = said.answer } in
-    let own : c.answered.new.self ≡ own_by mv (homes_in opening) self.cpu answer self.own
-    = c.answered.ensures.own ∙ ap (λ h. own_by mv h self.cpu answer self.own) (sym (fits.2.homes ∙ sym c.as_slice-homes.ensures.value)) in
+    let own : c.take_answer.new.own ≡ own_by mv (homes_in opening) self.cpu answer self.own
+    = c.take_answer.ensures.own ∙ ap (λ h. own_by mv h self.cpu answer self.own) (sym (fits.2.homes ∙ sym c.as_slice-homes.ensures.value)) in
     subst₂ (λ a x. SchedPolled (kernel rules mv opening) Acts self.cpu call (Some a) (calls_in m) (calls_in n) self.own x)
-    (sym c.answered.ensures.answer) (sym own)
+    (sym c.take_answer.ensures.answer) (sym own)
     (done_polled rules mv opening wakes fits.1.starts self.cpu self.cpu self.homes.items None (calls_in m) self.own fits.1.lawful fits.2
     call c.requires.call step is Acts (fits.0, fits.1) (calls_in n) answer polled legal)

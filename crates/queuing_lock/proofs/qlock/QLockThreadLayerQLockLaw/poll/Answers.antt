@@ -61,8 +61,8 @@ returns-then-has-clause-seen g c =
     let m = c.args.m.now in
     let cpu = S.cpu_of self.lower in
     let b = c.args.call.buffer in
-    let message = c.args.payload.now.message in
-    let e = lock_meant g.F.Locked.meant c.args.call.edit message in
+    let parcel = c.args.payload.now.parcel in
+    let e = lock_meant g.F.Locked.meant c.args.call.edit parcel in
     let slept = self.slept.buffers in
     let own = S.own self.lower in
     let under = S.under_way self.lower in
@@ -85,9 +85,9 @@ returns-then-has-clause-seen g c =
       may = c.requires.call.may;
     } in
     let some : is_some (slept_for slept (lock_caller rules e)) ≡ true
-    = ap (λ t. is_some (slept_for slept t)) (sym (c.caller-t.ensures message)) ∙ (sym c.has.ensures ∙ c.if-has.true) in
+    = ap (λ t. is_some (slept_for slept t)) (sym (c.caller-t.ensures parcel)) ∙ (sym c.has.ensures ∙ c.if-has.true) in
     let over : c.over.new.self.buffers ≡ slice_set slept (lock_caller rules e).0 None = c.over.ensures
-    ∙ ap (λ t. slice_set slept t.0 None) (c.caller-t.ensures message) in
+    ∙ ap (λ t. slice_set slept t.0 None) (c.caller-t.ensures parcel) in
     subst (λ l. LockPolled rules (here rules (S.opening m)) (λ d. S.ActsFor m d) cpu b e (slept_for slept (lock_caller rules e))
     (renamed_events edit_in (S.seen m)) (renamed_events edit_in (S.seen m))
     (record { sleep = own; slept = slept }) (option_map (renamed_sched edit_in) under)
@@ -105,8 +105,8 @@ poll-requires-clause-call g c =
     let m = c.args.m.now in
     let cpu = S.cpu_of self.lower in
     let b = c.args.call.buffer in
-    let message = c.args.payload.now.message in
-    let e = lock_meant g.F.Locked.meant c.args.call.edit message in
+    let parcel = c.args.payload.now.parcel in
+    let e = lock_meant g.F.Locked.meant c.args.call.edit parcel in
     let slept = self.slept.buffers in
     let own = S.own self.lower in
     let under = S.under_way self.lower in
@@ -129,7 +129,7 @@ poll-requires-clause-call g c =
       may = c.requires.call.may;
     } in
     let awake : is_some (slept_for slept (lock_caller rules e)) ≡ false
-    = ap (λ t. is_some (slept_for slept t)) (sym (c.caller-t.ensures message)) ∙ (sym c.has.ensures ∙ c.if-has.false) in
+    = ap (λ t. is_some (slept_for slept t)) (sym (c.caller-t.ensures parcel)) ∙ (sym c.has.ensures ∙ c.if-has.false) in
     owed rules (S.opening m) before awake
 
 pub complete-requires : goal.complete-requires
@@ -141,8 +141,8 @@ complete-requires g c =
     let m = c.args.m.now in
     let cpu = S.cpu_of self.lower in
     let b = c.args.call.buffer in
-    let message = c.args.payload.now.message in
-    let e = lock_meant g.F.Locked.meant c.args.call.edit message in
+    let parcel = c.args.payload.now.parcel in
+    let e = lock_meant g.F.Locked.meant c.args.call.edit parcel in
     let slept = self.slept.buffers in
     let own = S.own self.lower in
     let under = S.under_way self.lower in
@@ -164,7 +164,7 @@ complete-requires g c =
       caller = c.requires.call.runs;
       may = c.requires.call.may;
     } in
-    subst (λ t. t.0 < THREADS) (sym (c.caller-t.ensures message)) (caller_small rules (S.opening m) before)
+    subst (λ t. t.0 < THREADS) (sym (c.caller-t.ensures parcel)) (caller_small rules (S.opening m) before)
 
 -- the call goes on
 
@@ -177,8 +177,8 @@ returns-in-None-clause-framed g c =
     let m = c.args.m.now in
     let cpu = S.cpu_of self.lower in
     let b = c.args.call.buffer in
-    let message = c.args.payload.now.message in
-    let e = lock_meant g.F.Locked.meant c.args.call.edit message in
+    let parcel = c.args.payload.now.parcel in
+    let e = lock_meant g.F.Locked.meant c.args.call.edit parcel in
     let slept = self.slept.buffers in
     let own = S.own self.lower in
     let under = S.under_way self.lower in
@@ -201,11 +201,11 @@ returns-in-None-clause-framed g c =
       may = c.requires.call.may;
     } in
     let awake : is_some (slept_for slept (lock_caller rules e)) ≡ false
-    = ap (λ t. is_some (slept_for slept t)) (sym (c.caller-t.ensures message)) ∙ (sym c.has.ensures ∙ c.if-has.false) in
+    = ap (λ t. is_some (slept_for slept t)) (sym (c.caller-t.ensures parcel)) ∙ (sym c.has.ensures ∙ c.if-has.false) in
     let said = c.poll.ensures in
     let n = c.poll.new.m in
     let part = c.poll.new.self in
-    let after = c.poll.new.payload.message in
+    let after = c.poll.new.payload.parcel in
     let told = λ (o : Outcome (QOut g.row.F-Brought.Denot)). outcome_told (lock_told g.F.Locked.told) o after in
     let got : Left (Sleeping (QOut g.row.F-Out.Denot)) (Outcome (QOut g.row.F-Out.Denot)) = record { own = S.own part; answer = option_map told c.poll.result } in
     let lawful : IsLawful (QueueAllowed (beneath rules (S.opening m))) (S.seen n)
@@ -241,8 +241,8 @@ returns-in-None-clause-seen g c =
     let m = c.args.m.now in
     let cpu = S.cpu_of self.lower in
     let b = c.args.call.buffer in
-    let message = c.args.payload.now.message in
-    let e = lock_meant g.F.Locked.meant c.args.call.edit message in
+    let parcel = c.args.payload.now.parcel in
+    let e = lock_meant g.F.Locked.meant c.args.call.edit parcel in
     let slept = self.slept.buffers in
     let own = S.own self.lower in
     let under = S.under_way self.lower in
@@ -265,11 +265,11 @@ returns-in-None-clause-seen g c =
       may = c.requires.call.may;
     } in
     let awake : is_some (slept_for slept (lock_caller rules e)) ≡ false
-    = ap (λ t. is_some (slept_for slept t)) (sym (c.caller-t.ensures message)) ∙ (sym c.has.ensures ∙ c.if-has.false) in
+    = ap (λ t. is_some (slept_for slept t)) (sym (c.caller-t.ensures parcel)) ∙ (sym c.has.ensures ∙ c.if-has.false) in
     let said = c.poll.ensures in
     let n = c.poll.new.m in
     let part = c.poll.new.self in
-    let after = c.poll.new.payload.message in
+    let after = c.poll.new.payload.parcel in
     let told = λ (o : Outcome (QOut g.row.F-Brought.Denot)). outcome_told (lock_told g.F.Locked.told) o after in
     let got : Left (Sleeping (QOut g.row.F-Out.Denot)) (Outcome (QOut g.row.F-Out.Denot)) = record { own = S.own part; answer = option_map told c.poll.result } in
     let lawful : IsLawful (QueueAllowed (beneath rules (S.opening m))) (S.seen n)
@@ -290,8 +290,8 @@ returns-in-None-clause-follows g c = λ step.
     let m = c.args.m.now in
     let cpu = S.cpu_of self.lower in
     let b = c.args.call.buffer in
-    let message = c.args.payload.now.message in
-    let e = lock_meant g.F.Locked.meant c.args.call.edit message in
+    let parcel = c.args.payload.now.parcel in
+    let e = lock_meant g.F.Locked.meant c.args.call.edit parcel in
     let slept = self.slept.buffers in
     let own = S.own self.lower in
     let under = S.under_way self.lower in
@@ -314,11 +314,11 @@ returns-in-None-clause-follows g c = λ step.
       may = c.requires.call.may;
     } in
     let awake : is_some (slept_for slept (lock_caller rules e)) ≡ false
-    = ap (λ t. is_some (slept_for slept t)) (sym (c.caller-t.ensures message)) ∙ (sym c.has.ensures ∙ c.if-has.false) in
+    = ap (λ t. is_some (slept_for slept t)) (sym (c.caller-t.ensures parcel)) ∙ (sym c.has.ensures ∙ c.if-has.false) in
     let said = c.poll.ensures in
     let n = c.poll.new.m in
     let part = c.poll.new.self in
-    let after = c.poll.new.payload.message in
+    let after = c.poll.new.payload.parcel in
     let told = λ (o : Outcome (QOut g.row.F-Brought.Denot)). outcome_told (lock_told g.F.Locked.told) o after in
     let got : Left (Sleeping (QOut g.row.F-Out.Denot)) (Outcome (QOut g.row.F-Out.Denot)) = record { own = S.own part; answer = option_map told c.poll.result } in
     let lawful : IsLawful (QueueAllowed (beneath rules (S.opening m))) (S.seen n)
@@ -343,8 +343,8 @@ returns-in-Some-clause-framed g c =
     let m = c.args.m.now in
     let cpu = S.cpu_of self.lower in
     let b = c.args.call.buffer in
-    let message = c.args.payload.now.message in
-    let e = lock_meant g.F.Locked.meant c.args.call.edit message in
+    let parcel = c.args.payload.now.parcel in
+    let e = lock_meant g.F.Locked.meant c.args.call.edit parcel in
     let slept = self.slept.buffers in
     let own = S.own self.lower in
     let under = S.under_way self.lower in
@@ -367,11 +367,11 @@ returns-in-Some-clause-framed g c =
       may = c.requires.call.may;
     } in
     let awake : is_some (slept_for slept (lock_caller rules e)) ≡ false
-    = ap (λ t. is_some (slept_for slept t)) (sym (c.caller-t.ensures message)) ∙ (sym c.has.ensures ∙ c.if-has.false) in
+    = ap (λ t. is_some (slept_for slept t)) (sym (c.caller-t.ensures parcel)) ∙ (sym c.has.ensures ∙ c.if-has.false) in
     let said = c.poll.ensures in
     let n = c.poll.new.m in
     let part = c.poll.new.self in
-    let after = c.poll.new.payload.message in
+    let after = c.poll.new.payload.parcel in
     let told = λ (o : Outcome (QOut g.row.F-Brought.Denot)). outcome_told (lock_told g.F.Locked.told) o after in
     let got : Left (Sleeping (QOut g.row.F-Out.Denot)) (Outcome (QOut g.row.F-Out.Denot)) = record { own = S.own part; answer = option_map told c.poll.result } in
     let lawful : IsLawful (QueueAllowed (beneath rules (S.opening m))) (S.seen n)
@@ -379,7 +379,7 @@ returns-in-Some-clause-framed g c =
     (met.lawful n cpu (said.framed.stays.acts cpu acts)) in
     let outcome = c.in-Some.outcome in
     let keeps : c.complete.new.self.buffers ≡ slept_left_by (lock_caller rules e) b slept (told outcome)
-    = c.complete.ensures.slept ∙ (ap (λ t. slept_left_by t b slept outcome) (c.caller-t.ensures message)
+    = c.complete.ensures.slept ∙ (ap (λ t. slept_left_by t b slept outcome) (c.caller-t.ensures parcel)
     ∙ slept_told g.F.Locked.told after (lock_caller rules e) b slept outcome.out) in
     record {
       fits = (
@@ -413,8 +413,8 @@ returns-in-Some-clause-seen g c =
     let m = c.args.m.now in
     let cpu = S.cpu_of self.lower in
     let b = c.args.call.buffer in
-    let message = c.args.payload.now.message in
-    let e = lock_meant g.F.Locked.meant c.args.call.edit message in
+    let parcel = c.args.payload.now.parcel in
+    let e = lock_meant g.F.Locked.meant c.args.call.edit parcel in
     let slept = self.slept.buffers in
     let own = S.own self.lower in
     let under = S.under_way self.lower in
@@ -437,11 +437,11 @@ returns-in-Some-clause-seen g c =
       may = c.requires.call.may;
     } in
     let awake : is_some (slept_for slept (lock_caller rules e)) ≡ false
-    = ap (λ t. is_some (slept_for slept t)) (sym (c.caller-t.ensures message)) ∙ (sym c.has.ensures ∙ c.if-has.false) in
+    = ap (λ t. is_some (slept_for slept t)) (sym (c.caller-t.ensures parcel)) ∙ (sym c.has.ensures ∙ c.if-has.false) in
     let said = c.poll.ensures in
     let n = c.poll.new.m in
     let part = c.poll.new.self in
-    let after = c.poll.new.payload.message in
+    let after = c.poll.new.payload.parcel in
     let told = λ (o : Outcome (QOut g.row.F-Brought.Denot)). outcome_told (lock_told g.F.Locked.told) o after in
     let got : Left (Sleeping (QOut g.row.F-Out.Denot)) (Outcome (QOut g.row.F-Out.Denot)) = record { own = S.own part; answer = option_map told c.poll.result } in
     let lawful : IsLawful (QueueAllowed (beneath rules (S.opening m))) (S.seen n)
@@ -449,7 +449,7 @@ returns-in-Some-clause-seen g c =
     (met.lawful n cpu (said.framed.stays.acts cpu acts)) in
     let outcome = c.in-Some.outcome in
     let keeps : c.complete.new.self.buffers ≡ slept_left_by (lock_caller rules e) b slept (told outcome)
-    = c.complete.ensures.slept ∙ (ap (λ t. slept_left_by t b slept outcome) (c.caller-t.ensures message)
+    = c.complete.ensures.slept ∙ (ap (λ t. slept_left_by t b slept outcome) (c.caller-t.ensures parcel)
     ∙ slept_told g.F.Locked.told after (lock_caller rules e) b slept outcome.out) in
     let gives : option_map told c.complete.result ≡ reported_by (told outcome)
     = ap (option_map told) c.complete.ensures.complete ∙ reported_told g.F.Locked.told after outcome.out outcome in
@@ -470,8 +470,8 @@ returns-in-Some-clause-follows g c = λ step.
     let m = c.args.m.now in
     let cpu = S.cpu_of self.lower in
     let b = c.args.call.buffer in
-    let message = c.args.payload.now.message in
-    let e = lock_meant g.F.Locked.meant c.args.call.edit message in
+    let parcel = c.args.payload.now.parcel in
+    let e = lock_meant g.F.Locked.meant c.args.call.edit parcel in
     let slept = self.slept.buffers in
     let own = S.own self.lower in
     let under = S.under_way self.lower in
@@ -494,11 +494,11 @@ returns-in-Some-clause-follows g c = λ step.
       may = c.requires.call.may;
     } in
     let awake : is_some (slept_for slept (lock_caller rules e)) ≡ false
-    = ap (λ t. is_some (slept_for slept t)) (sym (c.caller-t.ensures message)) ∙ (sym c.has.ensures ∙ c.if-has.false) in
+    = ap (λ t. is_some (slept_for slept t)) (sym (c.caller-t.ensures parcel)) ∙ (sym c.has.ensures ∙ c.if-has.false) in
     let said = c.poll.ensures in
     let n = c.poll.new.m in
     let part = c.poll.new.self in
-    let after = c.poll.new.payload.message in
+    let after = c.poll.new.payload.parcel in
     let told = λ (o : Outcome (QOut g.row.F-Brought.Denot)). outcome_told (lock_told g.F.Locked.told) o after in
     let got : Left (Sleeping (QOut g.row.F-Out.Denot)) (Outcome (QOut g.row.F-Out.Denot)) = record { own = S.own part; answer = option_map told c.poll.result } in
     let lawful : IsLawful (QueueAllowed (beneath rules (S.opening m))) (S.seen n)
@@ -506,7 +506,7 @@ returns-in-Some-clause-follows g c = λ step.
     (met.lawful n cpu (said.framed.stays.acts cpu acts)) in
     let outcome = c.in-Some.outcome in
     let keeps : c.complete.new.self.buffers ≡ slept_left_by (lock_caller rules e) b slept (told outcome)
-    = c.complete.ensures.slept ∙ (ap (λ t. slept_left_by t b slept outcome) (c.caller-t.ensures message)
+    = c.complete.ensures.slept ∙ (ap (λ t. slept_left_by t b slept outcome) (c.caller-t.ensures parcel)
     ∙ slept_told g.F.Locked.told after (lock_caller rules e) b slept outcome.out) in
     let gives : option_map told c.complete.result ≡ reported_by (told outcome)
     = ap (option_map told) c.complete.ensures.complete ∙ reported_told g.F.Locked.told after outcome.out outcome in

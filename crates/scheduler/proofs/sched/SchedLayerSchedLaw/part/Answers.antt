@@ -17,8 +17,8 @@ returns-clause-fits g c = λ m acts outside boots.
         cpu = c.part.ensures.cpu;
         homes = boots.1 ∙ sym c.kept_homes.ensures;
         queue = boots.2;
-        stands = subst₂ (λ own past. Stands H c.args.cpu (moves_in K past) own) (sym (c.at_boot.ensures ∙ ap (λ h. at_boot h c.args.cpu) (sym boots.1)))
+        stands = subst₂ (λ own past. Stands H c.args.cpu (moves_in K past) own) (sym (c.threads_at_boot.ensures ∙ ap (λ h. at_boot h c.args.cpu) (sym boots.1)))
             (sym boots.0) (stands_boot H c.args.cpu);
-        calls = subst (λ o. UnderFits mv H c.args.cpu o c.at_boot.result) (sym c.part.ensures.call) tt;
+        calls = subst (λ o. UnderFits mv H c.args.cpu o c.threads_at_boot.result) (sym c.part.ensures.call) tt;
       },
     )

@@ -13,8 +13,8 @@ use Rattle.layer_traits.proofs.FrameLemmas.{untouched}
 use Rattle.scheduler.proofs.StepLemmas.{call_may, done_fits, finish_ok, local_fits, local_polled, may_take, other_fits, waiting_fits}
 use Rattle.scheduler.proofs.sched.SchedLayerSchedLaw.poll.Goals as goal
 
-pub local-requires : goal.local-requires
-local-requires g c =
+pub pass_locally-requires : goal.pass_locally-requires
+pass_locally-requires g c =
     let Q = g.Q.Layer in
     let rules = g.E.SplitEdit.rules in
     let mv = g.E.Moves.moves in
@@ -47,8 +47,8 @@ poll-requires-clause-call g c =
     call_may rules mv (Q.opening m) wakes opens self.cpu (Q.cpu_of self.lower) self.homes.items (Q.under_way self.lower) (Q.seen m) self.own lawful fits.1
     call c.requires.call step is
 
-pub answered-requires : goal.answered-requires
-answered-requires g c =
+pub take_answer-requires : goal.take_answer-requires
+take_answer-requires g c =
     let Q = g.Q.Layer in
     let rules = g.E.SplitEdit.rules in
     let mv = g.E.Moves.moves in
@@ -90,7 +90,7 @@ returns-in-Err-clause-framed g c =
     let lawful = g.met.Q.Layer.lawful m self.cpu acts in
     let is : queue_call (homes_in (Q.opening m)) self.cpu call ≡ None
     = ap (λ h. queue_call h self.cpu call) (fits.1.homes ∙ sym c.as_slice-homes.ensures.value) ∙ (c.in-Err.ensures.local payload).1 in
-    let after : c.local.new.self ≡ local_after call self.own = c.local.ensures ∙ ap (λ s. local_after s self.own) (sym (c.in-Err.ensures.local payload).0) in
+    let after : c.pass_locally.new.own ≡ local_after call self.own = c.pass_locally.ensures ∙ ap (λ s. local_after s self.own) (sym (c.in-Err.ensures.local payload).0) in
     record {
       fits = (
         fits.0,
@@ -122,7 +122,7 @@ returns-in-Err-clause-seen g c =
     let lawful = g.met.Q.Layer.lawful m self.cpu acts in
     let is : queue_call (homes_in (Q.opening m)) self.cpu call ≡ None
     = ap (λ h. queue_call h self.cpu call) (fits.1.homes ∙ sym c.as_slice-homes.ensures.value) ∙ (c.in-Err.ensures.local payload).1 in
-    let after : c.local.new.self ≡ local_after call self.own = c.local.ensures ∙ ap (λ s. local_after s self.own) (sym (c.in-Err.ensures.local payload).0) in
+    let after : c.pass_locally.new.own ≡ local_after call self.own = c.pass_locally.ensures ∙ ap (λ s. local_after s self.own) (sym (c.in-Err.ensures.local payload).0) in
     subst (λ o. SchedPolled (kernel rules mv (Q.opening m)) (λ d. Q.ActsFor m d) self.cpu call (Some Done) (Q.seen m) (Q.seen m) self.own o)
     (sym after)
     (local_polled rules mv (Q.opening m) wakes opens self.cpu (Q.cpu_of self.lower) self.homes.items (Q.under_way self.lower) (Q.seen m) self.own lawful fits.1
@@ -201,8 +201,8 @@ returns-in-Some-clause-framed g c =
           = ap (λ h. queue_call h self.cpu call) (fits.1.homes ∙ sym c.as_slice-homes.ensures.value) ∙ c.in-Ok.ensures.shared payload in
           let legal = subst (λ o. IsLawful (QueueAllowed (kernel rules mv o)) (Q.seen n)) said.framed.stays.opening
           (g.met.Q.Layer.lawful n self.cpu (said.framed.stays.acts self.cpu acts)) in
-          let own : c.answered.new.self ≡ own_by mv (homes_in (Q.opening m)) self.cpu answer self.own
-          = c.answered.ensures.own ∙ ap (λ h. own_by mv h self.cpu answer self.own) (sym (fits.1.homes ∙ sym c.as_slice-homes.ensures.value)) in (
+          let own : c.take_answer.new.own ≡ own_by mv (homes_in (Q.opening m)) self.cpu answer self.own
+          = c.take_answer.ensures.own ∙ ap (λ h. own_by mv h self.cpu answer self.own) (sym (fits.1.homes ∙ sym c.as_slice-homes.ensures.value)) in (
             said.framed.fits,
             subst₂ (λ o x. PartFits rules mv o self.cpu (Q.cpu_of c.poll.new.self) self.homes.items (Q.under_way c.poll.new.self) (Q.seen n) x)
                 (sym said.framed.stays.opening) (sym own)

@@ -2,8 +2,8 @@ use Rattle.std.proofs.Common.{[], ◌∷◌, ◌++◌, ap, sym, ◌∙◌}
 use Rattle.event_log.proofs.Same.{cpu_numbered}
 use Rattle.thread_blocks.proofs.Members.{tid_numbered}
 use Rattle.scheduler.proofs.BootLemmas.{next_new, joins, stays}
-use Rattle.scheduler.proofs.owns.OwnThreads.at_boot.Goals.{then-cpu-homes, else-cpu-homes}
-use Rattle.scheduler.proofs.owns.OwnThreads.at_boot.Goals as goal
+use Rattle.scheduler.proofs.owns.threads_at_boot.Goals.{then-cpu-homes, else-cpu-homes}
+use Rattle.scheduler.proofs.owns.threads_at_boot.Goals as goal
 
 pub push-requires-clause-new : goal.push-requires-clause-new
 push-requires-clause-new c = rw c.loop-i.invariant (next_new c.args.cpu c.args.homes.now c.loop-i.i)

@@ -15,7 +15,7 @@ use Rattle.plain_layers.specs.Attempts.{attempts, effect_in}
 use Rattle.plain_layers.specs.Fifos.{IsOwned, caps_in, entries_in, reply_to, call_state_after, shown}
 use Rattle.plain_layers.proofs.FifoLemmas.{buffer_there, done_called, done_deferred, done_moves, done_refused}
 use Rattle.plain_layers.proofs.FifoLemmas.{done_sleeps, owned_after, reply_none, runs_small, set_waits}
-use Rattle.plain_layers.proofs.fifos.PlainFifoCallLayerBufferLaw.poll.Goals as goal
+use Rattle.plain_layers.proofs.fifos.PlainFifoCallLayerBufferLaw.poll_kind.Goals as goal
 
 half_of_two : (n k : ℕ) → n ≤ k + 2 → n / 2 ≤ k / 2 + 1
 half_of_two n k less = omega (arith, less)

@@ -1,14 +1,14 @@
 use Rattle.std.proofs.Common.{◌≡◌, false, ap, ◌∙◌}
 use Rattle.thread_blocks.specs.Queues.{is_in}
 use Rattle.layer_traits.specs.Places.{Threads}
-use Rattle.scheduler.proofs.owns.OwnThreads.settle.Goals.{then-is_some, else-is_some}
-use Rattle.scheduler.proofs.owns.OwnThreads.settle.Goals as goal
+use Rattle.scheduler.proofs.owns.settle.Goals.{then-is_some, else-is_some}
+use Rattle.scheduler.proofs.owns.settle.Goals as goal
 
 pub push-requires-clause-known : goal.push-requires-clause-known
 push-requires-clause-known c = (c.requires c.in-Some.t c.in-Some.is).0
 
 pub push-requires-clause-new : goal.push-requires-clause-new
 push-requires-clause-new c =
-    let was : is_in c.in-Some.t c.self.inside.ready ≡ false = ap (λ (o : Threads). is_in c.in-Some.t o.ready) c.self.view_is
+    let was : is_in c.in-Some.t c.own.inside.ready ≡ false = ap (λ (o : Threads). is_in c.in-Some.t o.ready) c.own.view_is
     ∙ (c.requires c.in-Some.t c.in-Some.is).1 in
-    elim c.if-is_some.branch [ then-is_some w ↦ rw w.self-inside-is was | else-is_some w ↦ rw w.self-inside-is was ]
+    elim c.if-is_some.branch [ then-is_some w ↦ rw w.own-inside-is was | else-is_some w ↦ rw w.own-inside-is was ]

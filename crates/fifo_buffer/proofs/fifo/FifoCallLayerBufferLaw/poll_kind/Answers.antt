@@ -23,14 +23,14 @@ use Rattle.fifo_buffer.proofs.Parts.{moves_grown, other_part}
 use Rattle.fifo_buffer.proofs.SectionPollTaken.{taken}
 use Rattle.fifo_buffer.proofs.Twice.{apart_call_state, ended_of, next_going, completes_as, exit_free, marks_of, under_way_by}
 use Rattle.fifo_buffer.proofs.Twice.{later_call, later_effect, next_may, other_call_state, runs_by, sizes_of, why, why_slept}
-use Rattle.fifo_buffer.proofs.fifo.FifoCallLayerBufferLaw.poll.Goals as goal
+use Rattle.fifo_buffer.proofs.fifo.FifoCallLayerBufferLaw.poll_kind.Goals as goal
 
 pub poll_section-done-requires-clause-buffer : goal.poll_section-done-requires-clause-buffer
 poll_section-done-requires-clause-buffer g c =
     block_there (g.C.ThreadLayer.opening c.args.m.now) c.requires.fits.1.boots (buffer_of c.args.call.now) c.requires.there
 
-pub poll_section-last-requires-clause-buffer : goal.poll_section-last-requires-clause-buffer
-poll_section-last-requires-clause-buffer g c =
+pub poll_next-requires-clause-buffer : goal.poll_next-requires-clause-buffer
+poll_next-requires-clause-buffer g c =
     rw c.poll_section-done.ensures.framed.stays.opening (block_there (g.C.ThreadLayer.opening c.args.m.now) c.requires.fits.1.boots
     (buffer_of c.args.call.now) c.requires.there)
 
@@ -55,8 +55,8 @@ poll_section-done-requires-clause-may g c =
     let may = first.0 in
     may
 
-pub poll_section-last-requires-clause-may : goal.poll_section-last-requires-clause-may
-poll_section-last-requires-clause-may g c =
+pub poll_next-requires-clause-may : goal.poll_next-requires-clause-may
+poll_next-requires-clause-may g c =
     let C = g.C.ThreadLayer in
     let law = g.met.C.ThreadLayer in
     let m = c.args.m.now in
@@ -101,16 +101,16 @@ pub returns-clause-runs : goal.returns-clause-runs
 returns-clause-runs g c there =
     let one = c.poll_section-done in
     let pace1 = taken one.ensures.section_polled in
-    rw c.complete-2.ensures.lower (runs_by pace1 c.complete-2.result
-    (completes_as pace1 c.next_stage-stage.result c.next_stage-stage.ensures c.complete-2.result c.complete-2.ensures.answer))
+    rw c.complete.ensures.lower (runs_by pace1 c.complete.result
+    (completes_as pace1 c.next_stage-stage.result c.next_stage-stage.ensures c.complete.result c.complete.ensures.answer))
 
 pub returns-clause-under_way : goal.returns-clause-under_way
 returns-clause-under_way g c there =
     let one = c.poll_section-done in
     let pace1 = taken one.ensures.section_polled in
-    rw (c.complete-2.ensures.calling, c.complete-2.ensures.lower)
-    (under_way_by pace1 c.complete-2.result
-    (completes_as pace1 c.next_stage-stage.result c.next_stage-stage.ensures c.complete-2.result c.complete-2.ensures.answer))
+    rw (c.complete.ensures.calling, c.complete.ensures.lower)
+    (under_way_by pace1 c.complete.result
+    (completes_as pace1 c.next_stage-stage.result c.next_stage-stage.ensures c.complete.result c.complete.ensures.answer))
 
 pub returns-clause-moves : goal.returns-clause-moves
 returns-clause-moves g c =
@@ -157,19 +157,19 @@ returns-clause-framed g c =
     let lawful = rw one.ensures.framed.stays.opening at (law.lawful m1 cpu (one.ensures.framed.stays.acts cpu acts)) in
     record {
       fits = (
-        rw c.complete-2.ensures.lower one.ensures.framed.fits,
-        rw (c.complete-2.ensures.lower, c.complete-2.ensures.call_states, c.complete-2.ensures.calling, one.ensures.framed.stays.opening, one.ensures.framed.cpu)
+        rw c.complete.ensures.lower one.ensures.framed.fits,
+        rw (c.complete.ensures.lower, c.complete.ensures.call_states, c.complete.ensures.calling, one.ensures.framed.stays.opening, one.ensures.framed.cpu)
             (record {
               boots = c.requires.fits.1.boots;
               sizes = sizes1;
               calls =
                   finish pace1 home may.called call_states
                   talks1 refl same1 first.1
-                  c.complete-2.result (completes_as pace1
-                  c.next_stage-stage.result c.next_stage-stage.ensures c.complete-2.result c.complete-2.ensures.answer);
+                  c.complete.result (completes_as pace1
+                  c.next_stage-stage.result c.next_stage-stage.ensures c.complete.result c.complete.ensures.answer);
             }),
       );
-      cpu = ap C.cpu_of c.complete-2.ensures.lower ∙ one.ensures.framed.cpu;
+      cpu = ap C.cpu_of c.complete.ensures.lower ∙ one.ensures.framed.cpu;
       stays = record {
         opening = one.ensures.framed.stays.opening;
         site = one.ensures.framed.stays.site;
@@ -212,12 +212,12 @@ returns-clause-called g c there =
     let pace1 = taken one.ensures.section_polled in
     let same1 : (u : Tid) → same_tid t u ≡ false → call_state_of talks1 u ≡ call_state_of call_states u =
     λ u other. other_call_state call_states talks1 t u later1 one.ensures.call_states other in
-    rw (one.ensures.framed.stays.opening, c.complete-2.ensures.call_states)
+    rw (one.ensures.framed.stays.opening, c.complete.ensures.call_states)
     (called_by pace1 home may.called call_states talks1 refl
     same1 _ (λ d both. both.0) call_states
     refl (λ u other. apart_call_state call_states talks1 t u later1 one.ensures.call_states other)
-    (goes_called O (buffer_sections (C.seen m)) t call call_state own (C.under_way p.lower) may.goes) c.complete-2.result
-    (completes_as pace1 c.next_stage-stage.result c.next_stage-stage.ensures c.complete-2.result c.complete-2.ensures.answer))
+    (goes_called O (buffer_sections (C.seen m)) t call call_state own (C.under_way p.lower) may.goes) c.complete.result
+    (completes_as pace1 c.next_stage-stage.result c.next_stage-stage.ensures c.complete.result c.complete.ensures.answer))
 
 pub returns-then-at_once-clause-runs : goal.returns-then-at_once-clause-runs
 returns-then-at_once-clause-runs g c there =
@@ -226,9 +226,9 @@ returns-then-at_once-clause-runs g c there =
     let two = c.poll_section-last in
     let paced2 = rw (one.ensures.framed.stays.opening, one.ensures.framed.cpu) at two.ensures.section_polled in
     let pace2 = taken paced2 in
-    let run = runs_by pace2 c.complete.result
-    (completes_as pace2 c.next_stage-next.result c.next_stage-next.ensures c.complete.result c.complete.ensures.answer) in
-    rw c.complete.ensures.lower (record { current = run.current; hand = run.hand; ended = run.ended ∙ paced1.ended })
+    let run = runs_by pace2 c.NEXT.result
+    (completes_as pace2 c.next_stage-next.result c.next_stage-next.ensures c.NEXT.result c.NEXT.ensures.answer) in
+    rw c.NEXT.ensures.lower (record { current = run.current; hand = run.hand; ended = run.ended ∙ paced1.ended })
 
 pub returns-then-at_once-clause-under_way : goal.returns-then-at_once-clause-under_way
 returns-then-at_once-clause-under_way g c there =
@@ -236,9 +236,9 @@ returns-then-at_once-clause-under_way g c there =
     let two = c.poll_section-last in
     let paced2 = rw (one.ensures.framed.stays.opening, one.ensures.framed.cpu) at two.ensures.section_polled in
     let pace2 = taken paced2 in
-    rw (c.complete.ensures.calling, c.complete.ensures.lower)
-    (under_way_by pace2 c.complete.result
-    (completes_as pace2 c.next_stage-next.result c.next_stage-next.ensures c.complete.result c.complete.ensures.answer))
+    rw (c.NEXT.ensures.calling, c.NEXT.ensures.lower)
+    (under_way_by pace2 c.NEXT.result
+    (completes_as pace2 c.next_stage-next.result c.next_stage-next.ensures c.NEXT.result c.NEXT.ensures.answer))
 
 pub returns-then-at_once-clause-moves : goal.returns-then-at_once-clause-moves
 returns-then-at_once-clause-moves g c =
@@ -324,11 +324,11 @@ returns-then-at_once-clause-framed g c =
     let lawful2 = rw (two.ensures.framed.stays.opening, one.ensures.framed.stays.opening) at (law.lawful m2 cpu (two.ensures.framed.stays.acts cpu (one.ensures.framed.stays.acts cpu acts))) in
     record {
       fits = (
-        rw c.complete.ensures.lower two.ensures.framed.fits,
+        rw c.NEXT.ensures.lower two.ensures.framed.fits,
         rw (
-          c.complete.ensures.lower,
-          c.complete.ensures.call_states,
-          c.complete.ensures.calling,
+          c.NEXT.ensures.lower,
+          c.NEXT.ensures.call_states,
+          c.NEXT.ensures.calling,
           two.ensures.framed.stays.opening,
           two.ensures.framed.cpu,
           one.ensures.framed.stays.opening,
@@ -339,10 +339,10 @@ returns-then-at_once-clause-framed g c =
               sizes = sizes_of pace2 talks1 talks2 two.ensures.call_states sizes1;
               calls =
                   finish pace2 home called2 talks1 talks2 refl same2 others1
-                  c.complete.result (completes_as pace2 c.next_stage-next.result c.next_stage-next.ensures c.complete.result c.complete.ensures.answer);
+                  c.NEXT.result (completes_as pace2 c.next_stage-next.result c.next_stage-next.ensures c.NEXT.result c.NEXT.ensures.answer);
             }),
       );
-      cpu = ap C.cpu_of c.complete.ensures.lower ∙ (two.ensures.framed.cpu ∙ one.ensures.framed.cpu);
+      cpu = ap C.cpu_of c.NEXT.ensures.lower ∙ (two.ensures.framed.cpu ∙ one.ensures.framed.cpu);
       stays = record {
         opening = two.ensures.framed.stays.opening ∙ one.ensures.framed.stays.opening;
         site = two.ensures.framed.stays.site ∙ one.ensures.framed.stays.site;
@@ -412,14 +412,14 @@ returns-then-at_once-clause-called g c there =
     let effect1 = later_effect pace1 c.at_once.result c.if-done.true at_once may.called in
     let may2 = next_may pace1 c.at_once.result c.if-done.true at_once may.called in
     let in_call2 = goes_called O (buffer_sections (C.seen m1)) t call later1 own1 under1 may2.goes in
-    rw (two.ensures.framed.stays.opening, one.ensures.framed.stays.opening, c.complete.ensures.call_states)
+    rw (two.ensures.framed.stays.opening, one.ensures.framed.stays.opening, c.NEXT.ensures.call_states)
     (called_by (taken paced2m) home called2 talks1 talks2 refl
     same2 _ (λ d both. one.ensures.framed.stays.acts d both.0) call_states
     (ap (λ (x : CallState). x.effect) next_is ∙ effect1)
     (λ u other. apart_call_state talks1 talks2 t u later2 two.ensures.call_states other
     ∙ apart_call_state call_states talks1 t u later1 one.ensures.call_states other)
-    (subst (λ (x : CallState). called_at x.stage ≡ true) (sym next_is) in_call2) c.complete.result
-    (completes_as pace2 c.next_stage-next.result c.next_stage-next.ensures c.complete.result c.complete.ensures.answer))
+    (subst (λ (x : CallState). called_at x.stage ≡ true) (sym next_is) in_call2) c.NEXT.result
+    (completes_as pace2 c.next_stage-next.result c.next_stage-next.ensures c.NEXT.result c.NEXT.ensures.answer))
 
 pub returns-clause-follows : goal.returns-clause-follows
 returns-clause-follows g c stepwise =
@@ -457,9 +457,9 @@ returns-clause-follows g c stepwise =
     let done = one_follows Acts0 table (C.opening m) cpu homes t call call_state.stage call_state (buffering own call_states) (C.acts m) (C.acts m1) _
     in_call free.0 free.1 (one.ensures.follows stepwise) in
     rw (
-      c.complete-2.ensures.lower,
-      c.complete-2.ensures.call_states,
-      (completes_as pace1 c.next_stage-stage.result c.next_stage-stage.ensures c.complete-2.result c.complete-2.ensures.answer),
+      c.complete.ensures.lower,
+      c.complete.ensures.call_states,
+      (completes_as pace1 c.next_stage-stage.result c.next_stage-stage.ensures c.complete.result c.complete.ensures.answer),
     )
     (follows_for Acts0 _ (λ d both. both.0) table (C.opening m) cpu (plan_at homes cpu t call call_state.stage call_state (buffering own call_states))
     (C.acts m)
@@ -524,9 +524,9 @@ returns-then-at_once-clause-follows g c stepwise =
     (why_slept t call_state.stage own c.at_once.result at_once marks c.requires.runs c.at_once.ensures)
     end.free.0 end.free.1 (one.ensures.follows stepwise) second0 in
     rw (
-      c.complete.ensures.lower,
-      c.complete.ensures.call_states,
-      (completes_as pace2 c.next_stage-next.result c.next_stage-next.ensures c.complete.result c.complete.ensures.answer),
+      c.NEXT.ensures.lower,
+      c.NEXT.ensures.call_states,
+      (completes_as pace2 c.next_stage-next.result c.next_stage-next.ensures c.NEXT.result c.NEXT.ensures.answer),
     )
     (follows_for Acts0 _ (λ d both. both.0) table (C.opening m) cpu (plan_at homes cpu t call call_state.stage call_state (buffering own call_states))
     (C.acts m)
