@@ -24,8 +24,9 @@ use layer_traits::{
 };
 
 /// One CPU's part of first-in first-out blocking bounded buffers (Anderson and Dahlin), over a part
-/// `C` of conditions: it keeps of each thread how far its message call has come, and whose call is
-/// under way. It owns the payload in which its CPU's layers hand messages and taken threads on.
+/// `C` of conditions: it keeps of each thread how far its message call has come, and for clauses alone
+/// whose call is under way. It owns the payload in which its CPU's layers hand messages and taken
+/// threads on.
 #[derive(Drop)]
 pub struct Fifo<C> {
     lower: C,

@@ -1,10 +1,10 @@
-use Rattle.std.proofs.Common.{ℕ, ◌<◌, arith, ◌≡◌, ◌∙◌, ap, sym, subst, refl, true, false, Some, inl, inr, ◌≤◌, ◌+◌, ◌++◌, None, if◌then◌else◌}
+use Rattle.std.proofs.Common.{arith, ◌≡◌, ◌∙◌, ap, sym, subst, refl, true, false, Some, inl, inr, ◌≤◌, ◌+◌, ◌++◌, None, if◌then◌else◌}
 use Rattle.event_log.specs.declared.ids.CpuId.{CpuId}
 use Rattle.event_log.specs.declared.ids.Tid.{Tid}
 use Rattle.layer_traits.specs.declared.calls.Reply.{Reply}
 use Rattle.layer_traits.specs.declared.call_states.Stage.{Stage}
 use Rattle.layer_traits.specs.declared.call_states.CallState.{CallState}
-use Rattle.layer_traits.specs.BufferLaw.{Buffering, buffer_of, buffering, going, plan_at, plan_of, replied, call_state_of}
+use Rattle.layer_traits.specs.BufferLaw.{Buffering, answer_in, buffer_of, buffering, going, plan_at, plan_of, replied, call_state_of}
 use Rattle.layer_traits.specs.BufferProtocol.{buffer_rules}
 use Rattle.layer_traits.specs.Locking.{lock_moves, lock_rules}
 use Rattle.layer_traits.specs.Plans.{Follows, Left, table_of}
@@ -101,16 +101,18 @@ pub returns-clause-runs : goal.returns-clause-runs
 returns-clause-runs g c there =
     let one = c.poll_section-done in
     let pace1 = taken one.ensures.section_polled in
-    rw c.complete.ensures.lower (runs_by pace1 c.complete.result
-    (completes_as pace1 c.next_stage-stage.result c.next_stage-stage.ensures c.complete.result c.complete.ensures.answer))
+    let answer = answer_in one.new.self.call_states.call_states c.args.t c.complete.result in
+    rw (c.complete.ensures.lower, c.complete.ensures.call_states) (runs_by pace1 answer
+    (completes_as pace1 c.next_stage-stage.result c.next_stage-stage.ensures answer c.complete.ensures.answer))
 
 pub returns-clause-under_way : goal.returns-clause-under_way
 returns-clause-under_way g c there =
     let one = c.poll_section-done in
     let pace1 = taken one.ensures.section_polled in
-    rw (c.complete.ensures.calling, c.complete.ensures.lower)
-    (under_way_by pace1 c.complete.result
-    (completes_as pace1 c.next_stage-stage.result c.next_stage-stage.ensures c.complete.result c.complete.ensures.answer))
+    let answer = answer_in one.new.self.call_states.call_states c.args.t c.complete.result in
+    rw (c.complete.ensures.calling, c.complete.ensures.lower, c.complete.ensures.call_states)
+    (under_way_by pace1 answer
+    (completes_as pace1 c.next_stage-stage.result c.next_stage-stage.ensures answer c.complete.ensures.answer))
 
 pub returns-clause-moves : goal.returns-clause-moves
 returns-clause-moves g c =
@@ -155,6 +157,7 @@ returns-clause-framed g c =
     let m1 = one.new.m in
     let paced1 = one.ensures.section_polled in
     let lawful = rw one.ensures.framed.stays.opening at (law.lawful m1 cpu (one.ensures.framed.stays.acts cpu acts)) in
+    let answer = answer_in talks1 t c.complete.result in
     record {
       fits = (
         rw c.complete.ensures.lower one.ensures.framed.fits,
@@ -165,8 +168,7 @@ returns-clause-framed g c =
               calls =
                   finish pace1 home may.called call_states
                   talks1 refl same1 first.1
-                  c.complete.result (completes_as pace1
-                  c.next_stage-stage.result c.next_stage-stage.ensures c.complete.result c.complete.ensures.answer);
+                  answer (completes_as pace1 c.next_stage-stage.result c.next_stage-stage.ensures answer c.complete.ensures.answer);
             }),
       );
       cpu = ap C.cpu_of c.complete.ensures.lower ∙ one.ensures.framed.cpu;
@@ -212,33 +214,32 @@ returns-clause-called g c there =
     let pace1 = taken one.ensures.section_polled in
     let same1 : (u : Tid) → same_tid t u ≡ false → call_state_of talks1 u ≡ call_state_of call_states u =
     λ u other. other_call_state call_states talks1 t u later1 one.ensures.call_states other in
+    let answer = answer_in talks1 t c.complete.result in
     rw (one.ensures.framed.stays.opening, c.complete.ensures.call_states)
     (called_by pace1 home may.called call_states talks1 refl
     same1 _ (λ d both. both.0) call_states
     refl (λ u other. apart_call_state call_states talks1 t u later1 one.ensures.call_states other)
-    (goes_called O (buffer_sections (C.seen m)) t call call_state own (C.under_way p.lower) may.goes) c.complete.result
-    (completes_as pace1 c.next_stage-stage.result c.next_stage-stage.ensures c.complete.result c.complete.ensures.answer))
+    (goes_called O (buffer_sections (C.seen m)) t call call_state own (C.under_way p.lower) may.goes) answer
+    (completes_as pace1 c.next_stage-stage.result c.next_stage-stage.ensures answer c.complete.ensures.answer))
 
 pub returns-then-at_once-clause-runs : goal.returns-then-at_once-clause-runs
 returns-then-at_once-clause-runs g c there =
     let one = c.poll_section-done in
     let paced1 = one.ensures.section_polled in
-    let two = c.poll_section-last in
-    let paced2 = rw (one.ensures.framed.stays.opening, one.ensures.framed.cpu) at two.ensures.section_polled in
+    let two = c.poll_next in
+    let paced2 = rw (one.ensures.framed.stays.opening, one.ensures.framed.cpu) at two.ensures.section_polled.1 in
     let pace2 = taken paced2 in
-    let run = runs_by pace2 c.NEXT.result
-    (completes_as pace2 c.next_stage-next.result c.next_stage-next.ensures c.NEXT.result c.NEXT.ensures.answer) in
-    rw c.NEXT.ensures.lower (record { current = run.current; hand = run.hand; ended = run.ended ∙ paced1.ended })
+    let run = runs_by pace2 (answer_in two.new.self.call_states.call_states c.args.t two.result) two.ensures.section_polled.2 in
+    record { current = run.current; hand = run.hand; ended = run.ended ∙ paced1.ended }
 
 pub returns-then-at_once-clause-under_way : goal.returns-then-at_once-clause-under_way
 returns-then-at_once-clause-under_way g c there =
     let one = c.poll_section-done in
-    let two = c.poll_section-last in
-    let paced2 = rw (one.ensures.framed.stays.opening, one.ensures.framed.cpu) at two.ensures.section_polled in
+    let two = c.poll_next in
+    let paced2 = rw (one.ensures.framed.stays.opening, one.ensures.framed.cpu) at two.ensures.section_polled.1 in
     let pace2 = taken paced2 in
-    rw (c.NEXT.ensures.calling, c.NEXT.ensures.lower)
-    (under_way_by pace2 c.NEXT.result
-    (completes_as pace2 c.next_stage-next.result c.next_stage-next.ensures c.NEXT.result c.NEXT.ensures.answer))
+    rw two.ensures.calling
+    (under_way_by pace2 (answer_in two.new.self.call_states.call_states c.args.t two.result) two.ensures.section_polled.2)
 
 pub returns-then-at_once-clause-moves : goal.returns-then-at_once-clause-moves
 returns-then-at_once-clause-moves g c =
@@ -264,10 +265,10 @@ returns-then-at_once-clause-moves g c =
     let pace1 = taken one.ensures.section_polled in
     let at_once = (ap (λ (s : Stage). is_at_once s c.at_once.result) (sym c.next_stage-stage.ensures) ∙ sym c.answers_at_once-at_once.ensures)
     ∙ c.if-at_once.true in
-    let two = c.poll_section-last in
+    let two = c.poll_next in
     let m2 = two.new.m in
     let Acts1 : CpuId → Type 0 = λ d. C.ActsFor m1 d in
-    let paced2 = rw (one.ensures.framed.stays.opening, one.ensures.framed.cpu) at two.ensures.section_polled in
+    let paced2 = rw (one.ensures.framed.stays.opening, one.ensures.framed.cpu) at two.ensures.section_polled.1 in
     let sm : m1 ≡ m = elim (why pace1 c.at_once.result c.if-done.true at_once may.called c.requires.runs c.at_once.ensures)
     [ inl some ↦ one.ensures.woken some | inr some ↦ one.ensures.handed some ] in
     let is : C.seen m2 ≡ paced2.mine ++ (paced2.others ++ C.seen m) = paced2.is ∙ ap (λ l. paced2.mine ++ (paced2.others ++ l)) (ap C.seen sm) in
@@ -305,14 +306,14 @@ returns-then-at_once-clause-framed g c =
     let others1 = others_after pace1 home may.called call_states talks1 refl same1 first.1 in
     let at_once = (ap (λ (s : Stage). is_at_once s c.at_once.result) (sym c.next_stage-stage.ensures) ∙ sym c.answers_at_once-at_once.ensures)
     ∙ c.if-at_once.true in
-    let two = c.poll_section-last in
+    let two = c.poll_next in
     let talks2 = two.new.self.call_states.call_states in
     let later2 = call_state_of talks2 t in
     let next = going later1 call in
     let next_is : going later1 call ≡ later1 = next_going pace1 c.at_once.result c.if-done.true at_once may.called in
     let called1 = later_call pace1 c.at_once.result c.if-done.true at_once may.called in
     let called2 : next.call ≡ Some call = ap (λ (x : CallState). x.call) next_is ∙ called1 in
-    let paced2 = rw (one.ensures.framed.stays.opening, one.ensures.framed.cpu) at two.ensures.section_polled in
+    let paced2 = rw (one.ensures.framed.stays.opening, one.ensures.framed.cpu) at two.ensures.section_polled.1 in
     let pace2 = taken paced2 in
     let same2 : (u : Tid) → same_tid t u ≡ false → call_state_of talks2 u ≡ call_state_of talks1 u
     = λ u other. other_call_state talks1 talks2 t u later2 two.ensures.call_states other in
@@ -324,11 +325,9 @@ returns-then-at_once-clause-framed g c =
     let lawful2 = rw (two.ensures.framed.stays.opening, one.ensures.framed.stays.opening) at (law.lawful m2 cpu (two.ensures.framed.stays.acts cpu (one.ensures.framed.stays.acts cpu acts))) in
     record {
       fits = (
-        rw c.NEXT.ensures.lower two.ensures.framed.fits,
+        two.ensures.framed.fits,
         rw (
-          c.NEXT.ensures.lower,
-          c.NEXT.ensures.call_states,
-          c.NEXT.ensures.calling,
+          two.ensures.calling,
           two.ensures.framed.stays.opening,
           two.ensures.framed.cpu,
           one.ensures.framed.stays.opening,
@@ -339,10 +338,10 @@ returns-then-at_once-clause-framed g c =
               sizes = sizes_of pace2 talks1 talks2 two.ensures.call_states sizes1;
               calls =
                   finish pace2 home called2 talks1 talks2 refl same2 others1
-                  c.NEXT.result (completes_as pace2 c.next_stage-next.result c.next_stage-next.ensures c.NEXT.result c.NEXT.ensures.answer);
+                  (answer_in talks2 t two.result) two.ensures.section_polled.2;
             }),
       );
-      cpu = ap C.cpu_of c.NEXT.ensures.lower ∙ (two.ensures.framed.cpu ∙ one.ensures.framed.cpu);
+      cpu = two.ensures.framed.cpu ∙ one.ensures.framed.cpu;
       stays = record {
         opening = two.ensures.framed.stays.opening ∙ one.ensures.framed.stays.opening;
         site = two.ensures.framed.stays.site ∙ one.ensures.framed.stays.site;
@@ -391,7 +390,7 @@ returns-then-at_once-clause-called g c there =
     let pace1 = taken one.ensures.section_polled in
     let at_once = (ap (λ (s : Stage). is_at_once s c.at_once.result) (sym c.next_stage-stage.ensures) ∙ sym c.answers_at_once-at_once.ensures)
     ∙ c.if-at_once.true in
-    let two = c.poll_section-last in
+    let two = c.poll_next in
     let m2 = two.new.m in
     let own2 = C.own two.new.self.lower in
     let under2 = C.under_way two.new.self.lower in
@@ -402,24 +401,23 @@ returns-then-at_once-clause-called g c there =
     let called1 = later_call pace1 c.at_once.result c.if-done.true at_once may.called in
     let called2 : next.call ≡ Some call = ap (λ (x : CallState). x.call) next_is ∙ called1 in
     let Acts1 : CpuId → Type 0 = λ d. C.ActsFor m1 d in
-    let paced2 = rw (one.ensures.framed.stays.opening, one.ensures.framed.cpu) at two.ensures.section_polled in
+    let paced2 = rw (one.ensures.framed.stays.opening, one.ensures.framed.cpu) at two.ensures.section_polled.1 in
     let pace2 = taken paced2 in
     let same2 : (u : Tid) → same_tid t u ≡ false → call_state_of talks2 u ≡ call_state_of talks1 u
     = λ u other. other_call_state talks1 talks2 t u later2 two.ensures.call_states other in
     let sm : m1 ≡ m = elim (why pace1 c.at_once.result c.if-done.true at_once may.called c.requires.runs c.at_once.ensures)
     [ inl some ↦ one.ensures.woken some | inr some ↦ one.ensures.handed some ] in
-    let paced2m = subst (λ log. SectionPolled homes Acts1 O cpu t call next log (C.seen m2) own1 own2 under2 two.result later2) (ap C.seen sm) paced2 in
+    let paced2m = subst (λ log. SectionPolled homes Acts1 O cpu t call next log (C.seen m2) own1 own2 under2 two.ensures.section_polled.0 later2) (ap C.seen sm) paced2 in
     let effect1 = later_effect pace1 c.at_once.result c.if-done.true at_once may.called in
     let may2 = next_may pace1 c.at_once.result c.if-done.true at_once may.called in
     let in_call2 = goes_called O (buffer_sections (C.seen m1)) t call later1 own1 under1 may2.goes in
-    rw (two.ensures.framed.stays.opening, one.ensures.framed.stays.opening, c.NEXT.ensures.call_states)
+    rw (two.ensures.framed.stays.opening, one.ensures.framed.stays.opening)
     (called_by (taken paced2m) home called2 talks1 talks2 refl
     same2 _ (λ d both. one.ensures.framed.stays.acts d both.0) call_states
     (ap (λ (x : CallState). x.effect) next_is ∙ effect1)
     (λ u other. apart_call_state talks1 talks2 t u later2 two.ensures.call_states other
     ∙ apart_call_state call_states talks1 t u later1 one.ensures.call_states other)
-    (subst (λ (x : CallState). called_at x.stage ≡ true) (sym next_is) in_call2) c.NEXT.result
-    (completes_as pace2 c.next_stage-next.result c.next_stage-next.ensures c.NEXT.result c.NEXT.ensures.answer))
+    (subst (λ (x : CallState). called_at x.stage ≡ true) (sym next_is) in_call2) (answer_in talks2 t two.result) two.ensures.section_polled.2)
 
 pub returns-clause-follows : goal.returns-clause-follows
 returns-clause-follows g c stepwise =
@@ -456,10 +454,11 @@ returns-clause-follows g c stepwise =
     ]) c.requires.runs c.at_once.ensures in
     let done = one_follows Acts0 table (C.opening m) cpu homes t call call_state.stage call_state (buffering own call_states) (C.acts m) (C.acts m1) _
     in_call free.0 free.1 (one.ensures.follows stepwise) in
+    let answer = answer_in one.new.self.call_states.call_states t c.complete.result in
     rw (
       c.complete.ensures.lower,
       c.complete.ensures.call_states,
-      (completes_as pace1 c.next_stage-stage.result c.next_stage-stage.ensures c.complete.result c.complete.ensures.answer),
+      (completes_as pace1 c.next_stage-stage.result c.next_stage-stage.ensures answer c.complete.ensures.answer),
     )
     (follows_for Acts0 _ (λ d both. both.0) table (C.opening m) cpu (plan_at homes cpu t call call_state.stage call_state (buffering own call_states))
     (C.acts m)
@@ -497,7 +496,7 @@ returns-then-at_once-clause-follows g c stepwise =
     let marks = marks_of O (buffer_sections (C.seen m)) t call call_state own (C.under_way p.lower) may.goes in
     let at_once = (ap (λ (s : Stage). is_at_once s c.at_once.result) (sym c.next_stage-stage.ensures) ∙ sym c.answers_at_once-at_once.ensures)
     ∙ c.if-at_once.true in
-    let two = c.poll_section-last in
+    let two = c.poll_next in
     let m2 = two.new.m in
     let own2 = C.own two.new.self.lower in
     let talks2 = two.new.self.call_states.call_states in
@@ -506,9 +505,7 @@ returns-then-at_once-clause-follows g c stepwise =
     let next = going later1 call in
     let next_is : going later1 call ≡ later1 = next_going pace1 c.at_once.result c.if-done.true at_once may.called in
     let cpu1 = C.cpu_of one.new.self.lower in
-    let paced2 = rw (one.ensures.framed.stays.opening, one.ensures.framed.cpu) at two.ensures.section_polled in
-    let pace2 = taken paced2 in
-    let got2n : Left Buffering Reply = record { own = buffering own2 talks2; answer = if two.result then replied call next next.stage else None } in
+    let got2n : Left Buffering Reply = record { own = buffering own2 talks2; answer = answer_in talks2 t two.result } in
     let second = follows_for (λ d. C.ActsFor m1 d) Acts0 (λ d a. one.ensures.framed.stays.acts d a) table (C.opening m1) cpu1
     (plan_of (homes_in (C.opening m1)) cpu1 t call next.stage next (buffering own1 talks1)) (C.acts m1) (C.acts m2) got2n (two.ensures.follows stepwise) in
     let second1 = subst (λ (x : CallState). Follows Acts0 table (C.opening m1) cpu1
@@ -523,11 +520,6 @@ returns-then-at_once-clause-follows g c stepwise =
     at_once end.recorded_is.1 (λ w. sym (paced1.over w) ∙ c.if-done.true)
     (why_slept t call_state.stage own c.at_once.result at_once marks c.requires.runs c.at_once.ensures)
     end.free.0 end.free.1 (one.ensures.follows stepwise) second0 in
-    rw (
-      c.NEXT.ensures.lower,
-      c.NEXT.ensures.call_states,
-      (completes_as pace2 c.next_stage-next.result c.next_stage-next.ensures c.NEXT.result c.NEXT.ensures.answer),
-    )
-    (follows_for Acts0 _ (λ d both. both.0) table (C.opening m) cpu (plan_at homes cpu t call call_state.stage call_state (buffering own call_states))
+    follows_for Acts0 _ (λ d both. both.0) table (C.opening m) cpu (plan_at homes cpu t call call_state.stage call_state (buffering own call_states))
     (C.acts m)
-    (C.acts m2) got2n both)
+    (C.acts m2) got2n both
