@@ -88,6 +88,7 @@ impl<M: FairLock<LockProtocol>, LockProtocol> Layer<LockLaw<M::Edit>>
         !matches!(self.stage, TicketPhase::Out)
     }
 
+    #[inline(always)]
     fn own_here(&self) -> &() {
         &()
     }
