@@ -1,5 +1,5 @@
 -- What a poll of a lock with conditions leaves, and why whoever was woken out of a wait stands on no waiting list.
-use Rattle.std.proofs.Common.{◌≡◌, ◌<◌, ◌≤◌, Bool, true, false, List, length, slice_set, Option, Some, None, is_some, if◌then◌else◌, refl, ap, ◌∙◌, sym, arith}
+use Rattle.std.proofs.Common.{◌≡◌, ◌<◌, ◌≤◌, Bool, true, false, ◌&&◌, List, length, slice_set, Option, Some, None, is_some, if◌then◌else◌, refl, ap, ◌∙◌, sym, arith}
 use Rattle.std.proofs.lemmas.Option.{slice_get_within}
 use Rattle.event_log.specs.declared.ids.BufId.{BufId}
 use Rattle.event_log.specs.declared.ids.CpuId.{CpuId}
@@ -8,8 +8,10 @@ use Rattle.event_log.specs.declared.ids.LockId.TheVariants.{Buffer}
 use Rattle.event_log.specs.declared.ids.Tid.{Tid}
 use Rattle.event_log.specs.declared.ids.TheConstants.{THREADS}
 use Rattle.event_log.specs.Actions.{Action}
+use Rattle.layer_traits.specs.declared.conditions.CvLeave.TheVariants.{Leave, Wait}
 use Rattle.layer_traits.specs.declared.conditions.CvOut.{CvOut}
 use Rattle.layer_traits.specs.declared.conditions.CvOut.TheVariants as answer
+use Rattle.layer_traits.specs.declared.locked.QEdit.TheVariants.{Acquire, Inside, Release}
 use Rattle.layer_traits.specs.declared.locked.QOut.{QOut}
 use Rattle.layer_traits.specs.declared.locked.QOut.TheVariants.{Acquired, Queued, Did, Released}
 use Rattle.layer_traits.specs.declared.locked.Side.{Side}
@@ -25,9 +27,9 @@ use Rattle.layer_traits.specs.Conditions.{MonitorRules, CvCall, cv_rules}
 use Rattle.layer_traits.specs.CvLaw.{CvPolled, MayCallCond, MayWait, Waiting, cv_plan_for, left_reported, left_waiting, waited, waiting_with}
 use Rattle.layer_traits.specs.ListsAgree.{is_at}
 use Rattle.layer_traits.specs.Locking.{LockState, lock_after, lock_caller, wait_list_in}
-use Rattle.layer_traits.specs.LockLaw.{Locking, LockPolled, LocksAgree, lock_kernel, lock_plan, slept_for}
+use Rattle.layer_traits.specs.LockLaw.{Locking, LockPolled, LocksAgree, MayGo, MayLock, lock_kernel, lock_plan, slept_for}
 use Rattle.layer_traits.specs.MoveRules.{MoveRules}
-use Rattle.layer_traits.specs.Payloads.{cv_told, lock_told, outcome_told, told_by}
+use Rattle.layer_traits.specs.Payloads.{cv_meant, cv_told, lock_meant, lock_told, outcome_told, told_by}
 use Rattle.layer_traits.specs.Places.{AreMoves, Stands, Threads, home_of, one_if, wait_channel_of}
 use Rattle.layer_traits.specs.Plans.{Follows, Table}
 use Rattle.layer_traits.specs.QueueBlocks.{homes_in, inner}
@@ -36,7 +38,7 @@ use Rattle.layer_traits.proofs.CallLemmas.{follows_raised}
 use Rattle.layer_traits.proofs.CountLemmas.{not_counted}
 use Rattle.layer_traits.proofs.PlaceLemmas.{current_at}
 use Rattle.thread_blocks.specs.Queues.{is_in}
-use Rattle.condvar.specs.Waiting.{is_wait, is_waited, is_waiting, side_in}
+use Rattle.condvar.specs.Waiting.{calls_wait, is_wait, is_waited, is_waiting, side_in}
 
 -- a thread that runs is one that a machine may have
 pub current_small : (homes : List CpuId) (c : CpuId) (moves : _) (own : Threads) (t : Tid) → AreMoves homes moves → Stands homes c moves own
@@ -60,10 +62,32 @@ current_awake monitor_rules opening seen c own t legal stands agree runs lock li
     not_counted t (wait_list_in line (lock_after (cv_rules monitor_rules) (inner opening) lock (buffer_sections seen)))
     (agree lock line t ∙ ap (λ w. one_if (is_at lock line (wait_channel_of w))) at)
 
+-- who waits calls its wait alone
+wait_alone : {H G E : Type 0} (meant : H → Parcel → G) (parcel : Parcel) (call : CvCall H) (at : Option BufId) (under_way : Option (SchedCall E)) (b : BufId)
+    (t : Tid) (may : Type 0) → MayWait at under_way b (lock_meant (cv_meant meant) call parcel) t may → (calls_wait call && is_some at) ≡ is_some at
+wait_alone meant parcel (Release (Wait u side)) at under_way b t may duty = refl
+wait_alone meant parcel (Acquire u) None under_way b t may duty = refl
+wait_alone meant parcel (Inside e) None under_way b t may duty = refl
+wait_alone meant parcel (Release (Leave u)) None under_way b t may duty = refl
+wait_alone meant parcel (Acquire u) (Some at) under_way b t may duty = let is = duty.2.1 in absurd cc
+wait_alone meant parcel (Inside e) (Some at) under_way b t may duty = let is = duty.2.1 in absurd cc
+wait_alone meant parcel (Release (Leave u)) (Some at) under_way b t may duty = let is = duty.2.1 in absurd cc
+
 -- whether the caller waited, as the wake tells
-pub wake_told : (waits : List (Option BufId)) (woke is : Bool) (t u : Tid) → woke ≡ is_some (slept_for waits u) → woke ≡ is → u ≡ t
-    → is_some (slept_for waits t) ≡ is
-wake_told waits woke is t u was told caller = rw (← caller) (sym was ∙ told)
+pub wake_told : {H G B O : Type 0} (monitor_rules : MonitorRules G B O) (k : Kernel (CvCall G) (LockState B) (Outcome (QOut (CvOut O))))
+    (meant : H → Parcel → G) (parcel : Parcel) (c : CpuId) (b : BufId) (call : CvCall H) (past : List (QueueEvent (CvCall G))) (own : Waiting O)
+    (under_way : Option (SchedCall (CvCall G))) (woke is : Bool) (u : Tid)
+    → MayCallCond monitor_rules k c past own under_way b (lock_meant (cv_meant meant) call parcel)
+    → woke ≡ (calls_wait call && is_some (slept_for own.waits u)) → woke ≡ is
+    → u ≡ lock_caller (cv_rules monitor_rules) (lock_meant (cv_meant meant) call parcel)
+    → is_some (slept_for own.waits (lock_caller (cv_rules monitor_rules) (lock_meant (cv_meant meant) call parcel))) ≡ is
+wake_told monitor_rules k meant parcel c b call past own under_way woke is u duty was told caller =
+    let t = lock_caller (cv_rules monitor_rules) (lock_meant (cv_meant meant) call parcel) in
+    let wakes : (calls_wait call && is_some (slept_for own.waits t)) ≡ is = rw (← caller) (sym was ∙ told) in
+    sym (wait_alone meant parcel call (slept_for own.waits t) under_way b t
+    (MayGo (slept_for own.lock.slept t) under_way b (lock_meant (cv_meant meant) call parcel) t
+    (MayLock (cv_rules monitor_rules) k c past own.lock.sleep.threads.hand b (lock_meant (cv_meant meant) call parcel))) duty.may)
+    ∙ wakes
 
 -- a wake of a thread that waited ends its wait
 pub wake_ended : (waits now : List (Option BufId)) (woke : Bool) (t u : Tid) → now ≡ (if woke then slice_set waits u.0 None else waits) → woke ≡ true

@@ -21,6 +21,13 @@ side_in (Inside e) = Receivers
 side_in (Release (Leave t)) = Receivers
 side_in (Release (Wait t side)) = side
 
+-- whether a call waits
+abbrev pub calls_wait : {G : Type 0} → CvCall G → Bool
+calls_wait (Acquire t) = false
+calls_wait (Inside e) = false
+calls_wait (Release (Leave t)) = false
+calls_wait (Release (Wait t side)) = true
+
 -- whether an inner answer is that of a wait
 abbrev pub is_waited : {O : Type 0} → CvOut O → Bool
 is_waited (answer.Did out) = false

@@ -4,8 +4,8 @@ use crate::calls::{caller_of, side_of};
 use crate::waits::Waits;
 use event_log::{BufId, CpuId, Tid};
 use layer_traits::{
-    BufferCall, CvEdit, CvLaw, CvLeave, CvOut, Guarded, Outcome, OwnThreads, OwnedThreadLayer, Pass,
-    Payload, QEdit, QLockLaw, QOut, ThreadLayer, WaitList,
+    BufferCall, CvEdit, CvLaw, CvLeave, CvOut, Guarded, Outcome, OwnThreads, OwnedThreadLayer,
+    Pass, Payload, QEdit, QLockLaw, QOut, ThreadLayer, WaitList,
 };
 
 /// One CPU's part of queuing locks with Mesa conditions (Anderson and Dahlin), over a part `Q` of
@@ -86,7 +86,7 @@ impl<G: Guarded, Q: ThreadLayer<QLockLaw<CvEdit<G>>>> ThreadLayer<CvLaw<G>> for 
         payload: &mut Payload,
     ) -> Option<Outcome<QOut<CvOut<G::Brought>>>> {
         let t = caller_of::<G>(&call.edit, &payload.parcel);
-        if self.waits.wake(t) {
+        if self.waits.ends_wait(&call.edit, t) {
             return Some(Outcome {
                 out: QOut::Released(CvOut::Waited(side_of::<G>(&call.edit, &payload.parcel))),
                 slept: false,

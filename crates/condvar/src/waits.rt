@@ -1,12 +1,12 @@
 //! Who waits at which buffer.
 
-ghost use Rattle.std.specs.Prelude.{◌≡◌, ◌<◌, Some, None, is_some, replicate, slice_set, if◌then◌else◌};
+ghost use Rattle.std.specs.Prelude.{◌≡◌, ◌<◌, ◌&&◌, Some, None, is_some, replicate, slice_set, if◌then◌else◌};
 ghost use Rattle.event_log.specs.declared.ids.TheConstants.{THREADS};
 ghost use Rattle.layer_traits.specs.LockLaw.{slept_for};
-ghost use Rattle.condvar.specs.Waiting.{is_wait};
+ghost use Rattle.condvar.specs.Waiting.{calls_wait, is_wait};
 
 use event_log::{BufId, THREADS, Tid};
-use layer_traits::{CvOut, Outcome, QOut};
+use layer_traits::{CvEdit, CvLeave, CvOut, Outcome, QEdit, QOut};
 
 /// Of each thread the buffer at which it waits, from the poll in which it began to wait until its
 /// wait answers.
@@ -41,6 +41,22 @@ impl Waits {
         }
         self.buffers[at] = None;
         true
+    }
+
+    /// If this call is a wait, ends the wait of `t`, and tells whether there was one. A thread that
+    /// waits calls nothing else, so no other call asks the table.
+    ///
+    /// Requires: the thread is below `THREADS`.
+    #[inline(always)]
+    pub fn ends_wait<H>(&mut self, call: &QEdit<CvEdit<H>, CvLeave>, t: Tid) -> bool
+        requires { t.0 < THREADS }
+        ensures was { result ≡ (calls_wait call.now && is_some (slept_for self.old.buffers t)) }
+        ensures now { self.new.buffers ≡ (if result then slice_set self.old.buffers t.0 None else self.old.buffers) }
+    {
+        match call {
+            QEdit::Release(CvLeave::Wait(_, _)) => self.wake(t),
+            QEdit::Release(CvLeave::Leave(_)) | QEdit::Acquire(_) | QEdit::Inside(_) => false,
+        }
     }
 
     /// Takes what the lock of `buffer` told `t`: the answer of a wait is held back, and the thread

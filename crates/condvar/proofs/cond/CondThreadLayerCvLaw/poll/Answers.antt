@@ -13,8 +13,8 @@ use Rattle.condvar.proofs.CondLemmas.{complete_told, current_awake, current_smal
 use Rattle.condvar.proofs.CondLemmas.{wake_ended, wake_kept, wake_told}
 use Rattle.condvar.proofs.cond.CondThreadLayerCvLaw.poll.Goals as goal
 
-pub wake-requires : goal.wake-requires
-wake-requires g c =
+pub ends_wait-requires : goal.ends_wait-requires
+ends_wait-requires g c =
     let Q = g.Q.ThreadLayer in
     let law = g.met.Q.ThreadLayer in
     let m = c.args.m.now in
@@ -37,8 +37,8 @@ complete-requires g c =
     c.caller_of-t.result (law.moves_legal m (Q.cpu_of p) acts) (law.stands p m c.requires.fits).stands (law.opens m (Q.cpu_of p) acts).room
     (c.requires.call.runs ∙ ap Some (sym c.caller_of-t.ensures))
 
-pub returns-then-wake-clause-seen : goal.returns-then-wake-clause-seen
-returns-then-wake-clause-seen g c =
+pub returns-then-ends_wait-clause-seen : goal.returns-then-ends_wait-clause-seen
+returns-then-ends_wait-clause-seen g c =
     let Q = g.Q.ThreadLayer in
     let law = g.met.Q.ThreadLayer in
     let m = c.args.m.now in
@@ -55,10 +55,11 @@ returns-then-wake-clause-seen g c =
     let acts = law.own_cpu p m c.requires.fits in
     let awake = current_awake g.G.Guarded.monitor_rules (Q.opening m) (Q.seen m) cpu (Q.own p).sleep.threads t (law.moves_legal m cpu acts)
     (law.stands p m c.requires.fits).stands (law.stands p m c.requires.fits).lists c.requires.call.runs (Buffer c.args.call.buffer) in
-    let some = wake_told waits c.wake.result true t c.caller_of-t.result c.wake.ensures.was c.if-wake.true caller in
-    let now = wake_ended waits c.wake.new.self.buffers c.wake.result t c.caller_of-t.result c.wake.ensures.now c.if-wake.true caller in
+    let some = wake_told G.monitor_rules k G.meant c.args.payload.now.parcel cpu c.args.call.buffer c.args.call.edit (Q.seen m) own (Q.under_way p)
+    c.ends_wait.result true c.caller_of-t.result c.requires.call c.ends_wait.ensures.was c.if-ends_wait.true caller in
+    let now = wake_ended waits c.ends_wait.new.self.buffers c.ends_wait.result t c.caller_of-t.result c.ends_wait.ensures.now c.if-ends_wait.true caller in
     over_polled g.G.Guarded.monitor_rules k (λ d. Q.ActsFor m d) cpu c.args.call.buffer call (Q.seen m) own (Q.under_way p) c.side_of.result
-    c.wake.new.self.buffers some c.requires.call awake c.side_of.ensures now
+    c.ends_wait.new.self.buffers some c.requires.call awake c.side_of.ensures now
 
 pub returns-clause-seen : goal.returns-clause-seen
 returns-clause-seen g c =
@@ -75,8 +76,9 @@ returns-clause-seen g c =
     let own : Waiting _ = record { lock = Q.own p; waits = waits } in
     let caller = c.caller_of-t.ensures in
     let parcel = c.poll-answer.new.payload.parcel in
-    let none = wake_told waits c.wake.result false t c.caller_of-t.result c.wake.ensures.was c.if-wake.false caller in
-    let kept = wake_kept waits c.wake.new.self.buffers c.wake.result c.caller_of-t.result c.wake.ensures.now c.if-wake.false in
+    let none = wake_told G.monitor_rules k G.meant c.args.payload.now.parcel cpu c.args.call.buffer c.args.call.edit (Q.seen m) own (Q.under_way p)
+    c.ends_wait.result false c.caller_of-t.result c.requires.call c.ends_wait.ensures.was c.if-ends_wait.false caller in
+    let kept = wake_kept waits c.ends_wait.new.self.buffers c.ends_wait.result c.caller_of-t.result c.ends_wait.ensures.now c.if-ends_wait.false in
     waits_polled g.G.Guarded.monitor_rules k (λ d. Q.ActsFor m d) cpu c.args.call.buffer call (Q.seen m) (Q.seen c.poll-answer.new.m) own
     (Q.under_way c.poll-answer.new.self) (Q.own c.poll-answer.new.self) c.complete.new.self.buffers
     (lock_tells G.told parcel c.poll-answer.result) (lock_tells G.told parcel c.complete.result) (slept_for waits t) none
@@ -99,8 +101,9 @@ returns-clause-follows g c stepwise =
     let own : Waiting _ = record { lock = Q.own p; waits = waits } in
     let caller = c.caller_of-t.ensures in
     let parcel = c.poll-answer.new.payload.parcel in
-    let none = wake_told waits c.wake.result false t c.caller_of-t.result c.wake.ensures.was c.if-wake.false caller in
-    let kept = wake_kept waits c.wake.new.self.buffers c.wake.result c.caller_of-t.result c.wake.ensures.now c.if-wake.false in
+    let none = wake_told G.monitor_rules k G.meant c.args.payload.now.parcel cpu c.args.call.buffer c.args.call.edit (Q.seen m) own (Q.under_way p)
+    c.ends_wait.result false c.caller_of-t.result c.requires.call c.ends_wait.ensures.was c.if-ends_wait.false caller in
+    let kept = wake_kept waits c.ends_wait.new.self.buffers c.ends_wait.result c.caller_of-t.result c.ends_wait.ensures.now c.if-ends_wait.false in
     waits_follow (λ d. Q.ActsFor m d) (table_of (queue_rules (lock_rules rules) (lock_moves rules))) (Q.opening m) (lock_moves rules)
     (homes_in (Q.opening m)) cpu
     c.args.call.buffer call own (Q.acts m) (Q.acts c.poll-answer.new.m) (Q.own c.poll-answer.new.self) c.complete.new.self.buffers
