@@ -7,12 +7,15 @@ use Rattle.event_log.specs.declared.ids.CpuId.{CpuId}
 use Rattle.event_log.specs.declared.ids.LockId.{LockId}
 use Rattle.event_log.specs.declared.ids.LockId.TheVariants.{Buffer}
 use Rattle.event_log.specs.declared.ids.TheConstants.{THREADS}
+use Rattle.event_log.specs.declared.ids.Tid.{Tid}
 use Rattle.event_log.specs.Actions.{Action, renamed}
 use Rattle.event_log.specs.History.{IsLawful}
 use Rattle.event_log.proofs.BoolLemmas.{none_of}
 use Rattle.layer_traits.specs.declared.locked.QEdit.{QEdit}
+use Rattle.layer_traits.specs.declared.locked.QEdit.TheVariants.{Acquire, Inside, Release}
 use Rattle.layer_traits.specs.declared.locked.QOut.{QOut}
 use Rattle.layer_traits.specs.declared.passes.Pass.{Pass}
+use Rattle.layer_traits.specs.declared.payloads.Parcel.{Parcel}
 use Rattle.layer_traits.specs.declared.queue_edits.QueueBlock.{QueueBlock}
 use Rattle.layer_traits.specs.declared.queue_edits.QueueEdit.{QueueEdit}
 use Rattle.layer_traits.specs.declared.queues.QueueEvent.{QueueEvent}
@@ -24,6 +27,7 @@ use Rattle.layer_traits.specs.ListsAgree.{ListsAgree}
 use Rattle.layer_traits.specs.Locking.{LockRules, lock_after, lock_caller, lock_moves, lock_rules}
 use Rattle.layer_traits.specs.LockLaw.{LockPolled, Locking, MayGo, MayLock, left_after, left_handed, lock_pass_plan, lock_plan, locks_passed, HasOrAwaits}
 use Rattle.layer_traits.specs.LockLaw.{plan_for, slept_for}
+use Rattle.layer_traits.specs.Payloads.{lock_meant}
 use Rattle.layer_traits.specs.Places.{AreMoves, Home, Stands, Threads, home_of, where_is}
 use Rattle.layer_traits.specs.Plans.{Follows, Left, table_of}
 use Rattle.layer_traits.specs.QueueBlocks.{StartsWell, homes_in, inner}
@@ -41,7 +45,7 @@ use Rattle.queuing_lock.specs.declared.edits.QBlock.{QBlock}
 use Rattle.queuing_lock.specs.declared.edits.QLockEdit.{QLockEdit}
 use Rattle.queuing_lock.specs.Laws.NestedLaws.{beneath, here, locks_lawful, locks_lists, locks_moves_legal, locks_stand, locks_wrap}
 use Rattle.queuing_lock.specs.Nested.{as_section, busy_rules, edit_in, nested_lock_of}
-use Rattle.queuing_lock.specs.Parts.{DeferredFits, SleptFits, slept_left_by}
+use Rattle.queuing_lock.specs.Parts.{DeferredFits, SleptFits, asks_again, slept_left_by}
 use Rattle.queuing_lock.proofs.DeferredLemmas.{DeferredIn, asks_none, deferred_result, deferred_goes, may_beneath}
 use Rattle.queuing_lock.proofs.OwnerLemmas.{locks_may, runs_awake}
 use Rattle.queuing_lock.proofs.PollLemmas.{SectionPoll, awaits_owner, slept_of_others, slept_polled, slept_queued}
@@ -69,6 +73,24 @@ pub pass_here : {F R B O : Type 0} (rules : LockRules F R B O) (opening : LockId
 pass_here rules opening ActsFor c p answer old new own own' polled =
     polled_renamed (beneath rules opening) (here rules opening) edit_in nested_lock_of (locks_wrap rules opening) ActsFor c (call.Pass p) answer old new own own'
     polled
+
+-- who calls something else than its Acquire did not sleep for a lock
+nobody_slept : {F R : Type 0} (x : Option BufId) (under : Option (SchedCall (QEdit F R))) (b : BufId) (e : QEdit F R) (t : Tid) (duty : Type 0)
+    → (e ≡ Acquire t → ⊥) → MayGo x under b e t duty → is_some x ≡ false
+nobody_slept None under b e t duty apart may = refl
+nobody_slept (Some at) under b e t duty apart may = absurd (apart may.2)
+
+-- a caller that slept for a lock calls its Acquire alone
+slept_alone : {H F R B O : Type 0} (rules : LockRules F R B O) (meant : H → Parcel → F) (parcel : Parcel) (call : QEdit H R) (slept : List (Option BufId))
+    (under : Option (SchedCall (QEdit F R))) (b : BufId) (duty : Type 0)
+    → MayGo (slept_for slept (lock_caller rules (lock_meant meant call parcel))) under b (lock_meant meant call parcel)
+    (lock_caller rules (lock_meant meant call parcel)) duty
+    → is_some (slept_for slept (lock_caller rules (lock_meant meant call parcel))) ≡ asks_again slept call
+slept_alone rules meant parcel (Acquire t) slept under b duty may = refl
+slept_alone rules meant parcel (Inside f) slept under b duty may =
+    nobody_slept (slept_for slept (rules.caller (meant f parcel))) under b (Inside (meant f parcel)) (rules.caller (meant f parcel)) duty (λ is. absurd cc) may
+slept_alone rules meant parcel (Release r) slept under b duty may =
+    nobody_slept (slept_for slept (rules.last_caller r)) under b (Release r) (rules.last_caller r) duty (λ is. absurd cc) may
 
 -- what a part knows before a poll
 pub record Before {F R B O : Type 0} (rules : LockRules F R B O) (opening : LockId → Option (QueueBlock (SleepState (QBlock B)))) : Type 0 where
@@ -112,6 +134,15 @@ module _ {F R B O : Type 0} (rules : LockRules F R B O) (opening : LockId → Op
   caller_small = let within = slice_get_within (homes_in opening) (lock_caller rules e).0 c
       (subst (λ h. home_of h (lock_caller rules e) ≡ Some c) (homes_viewed nested_lock_of opening) at_home) in
       let room = before.starts.room in omega (arith, within, room)
+
+  -- so its call tells whether it slept
+  pub slept_asks : {H : Type 0} (meant : H → Parcel → F) (parcel : Parcel) (call : QEdit H R) → lock_meant meant call parcel ≡ e
+      → is_some (slept_for slept (lock_caller rules e)) ≡ asks_again slept call
+  slept_asks meant parcel call is =
+      let duty = MayLock rules (here rules opening) c (renamed_events edit_in past) own.threads.hand b e in
+      subst (λ (d : QEdit F R). MayGo (slept_for slept (lock_caller rules d)) (option_map (renamed_sched edit_in) under) b d (lock_caller rules d) duty
+      → is_some (slept_for slept (lock_caller rules d)) ≡ asks_again slept call) is
+      (slept_alone rules meant parcel call slept (option_map (renamed_sched edit_in) under) b duty) before.may
 
   handed_by : (ActsFor : CpuId → Type 0) (x : Option BufId) → slept_for slept (lock_caller rules e) ≡ x → is_some x ≡ true
       → MayGo x (option_map (renamed_sched edit_in) under) b e (lock_caller rules e)

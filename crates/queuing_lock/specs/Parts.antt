@@ -1,11 +1,12 @@
 -- What a part of queuing locks keeps of its own: who slept for which lock, and why that agrees with the locks.
-use Rattle.std.specs.Prelude.{◌≡◌, Bool, true, false, List, Option, Some, None, slice_set}
+use Rattle.std.specs.Prelude.{◌≡◌, Bool, true, false, List, Option, Some, None, is_some, slice_set}
 use Rattle.event_log.specs.declared.ids.BufId.{BufId}
 use Rattle.event_log.specs.declared.ids.CpuId.{CpuId}
 use Rattle.event_log.specs.declared.ids.LockId.{LockId}
 use Rattle.event_log.specs.declared.ids.LockId.TheVariants.{Buffer}
 use Rattle.event_log.specs.declared.ids.Tid.{Tid}
 use Rattle.layer_traits.specs.declared.locked.QEdit.{QEdit}
+use Rattle.layer_traits.specs.declared.locked.QEdit.TheVariants.{Acquire, Inside, Release}
 use Rattle.layer_traits.specs.declared.locked.QOut.{QOut}
 use Rattle.layer_traits.specs.declared.locked.QOut.TheVariants.{Acquired, Queued, Did, Released}
 use Rattle.layer_traits.specs.declared.queue_edits.QueueBlock.{QueueBlock}
@@ -40,6 +41,12 @@ reported_with (Released out) outcome = Some outcome
 -- what is handed on of an outcome
 abbrev pub reported_by : {O : Type 0} → Outcome (QOut O) → Option (Outcome (QOut O))
 reported_by outcome = reported_with outcome.out outcome
+
+-- whether a call is the Acquire of a thread that slept for a lock
+abbrev pub asks_again : {F R : Type 0} → List (Option BufId) → QEdit F R → Bool
+asks_again slept (Acquire t) = is_some (slept_for slept t)
+asks_again slept (Inside f) = false
+asks_again slept (Release r) = false
 
 -- whether a call was told that it is queued
 abbrev pub is_queued : {O : Type 0} → QOut O → Bool

@@ -4,8 +4,8 @@ use crate::edits::QLockEdit;
 use crate::slept::Slept;
 use event_log::{BufId, CpuId, Tid};
 use layer_traits::{
-    BufferCall, Locked, Outcome, OwnThreads, OwnedThreadLayer, Pass, Payload, QEdit, QLockLaw, QOut,
-    SleepLaw, Sleeps, ThreadLayer, WaitList,
+    BufferCall, Locked, Outcome, OwnThreads, OwnedThreadLayer, Pass, Payload, QEdit, QLockLaw,
+    QOut, SleepLaw, Sleeps, ThreadLayer, WaitList,
 };
 
 /// One CPU's part of queuing locks over a part `S` of a layer that lets threads sleep: it keeps of
@@ -101,7 +101,7 @@ impl<F: Locked, S: ThreadLayer<SleepLaw<QLockEdit<F, F::Release>>>> ThreadLayer<
         let BufferCall { buffer, edit } = call;
         let section = QLockEdit { edit };
         let t = <QLockEdit<F, F::Release> as Sleeps>::caller(&section);
-        if self.slept.has(t) {
+        if self.slept.asks_again(&section.edit) {
             self.slept.over(t);
             return Some(Outcome {
                 out: QOut::Acquired,
@@ -153,8 +153,9 @@ impl<F: Locked, S: ThreadLayer<SleepLaw<QLockEdit<F, F::Release>>>> ThreadLayer<
     ghost idle = { λ p m fits none. S.idle p.lower m fits.0 (none_beneath (S.under_way p.lower) none) };
 }
 
-impl<F: Locked, S: OwnedThreadLayer<SleepLaw<QLockEdit<F, F::Release>>>>
-    OwnedThreadLayer<QLockLaw<F>> for QLock<S> {
+impl<F: Locked, S: OwnedThreadLayer<SleepLaw<QLockEdit<F, F::Release>>>> OwnedThreadLayer<
+    QLockLaw<F>,
+> for QLock<S> {
     ghost use Rattle.std.specs.Prelude.{option_map};
     ghost use Rattle.event_log.specs.declared.ids.LockId.TheVariants.{Buffer, Pending};
     ghost use Rattle.layer_traits.proofs.KernelRenaming.{there_viewed};

@@ -3,10 +3,10 @@
 ghost use Rattle.std.specs.Prelude.{◌≡◌, ◌<◌, Some, None, is_some, replicate, slice_set, if◌then◌else◌};
 ghost use Rattle.event_log.specs.declared.ids.TheConstants.{THREADS};
 ghost use Rattle.layer_traits.specs.LockLaw.{slept_for};
-ghost use Rattle.queuing_lock.specs.Parts.{slept_left_by, reported_by};
+ghost use Rattle.queuing_lock.specs.Parts.{asks_again, slept_left_by, reported_by};
 
 use event_log::{BufId, THREADS, Tid};
-use layer_traits::{Outcome, QOut};
+use layer_traits::{Outcome, QEdit, QOut};
 
 /// Of each thread the buffer for whose lock it slept, from the poll in which it fell asleep until
 /// its call answers.
@@ -36,6 +36,18 @@ impl Slept {
             self.buffers[at].is_some()
         } else {
             false
+        }
+    }
+
+    /// Whether the call asks again for a lock for which its thread slept. Such a thread calls nothing
+    /// else, so no other call asks the table.
+    #[inline(always)]
+    pub fn asks_again<F, R>(&self, call: &QEdit<F, R>) -> bool
+        ensures { result ≡ asks_again self.now.buffers call.now }
+    {
+        match call {
+            QEdit::Acquire(t) => self.has(*t),
+            QEdit::Inside(_) | QEdit::Release(_) => false,
         }
     }
 

@@ -24,7 +24,7 @@ use Rattle.queuing_lock.specs.Laws.NestedLaws.{beneath, here}
 use Rattle.queuing_lock.specs.Nested.{edit_in, nested_lock_of}
 use Rattle.queuing_lock.specs.Parts.{DeferredFits, SleptFits, reported_by, slept_left_by}
 use Rattle.queuing_lock.proofs.PartLemmas.{Before, caller_small, handed, deferred_after, locks}
-use Rattle.queuing_lock.proofs.PartLemmas.{locks_follow, none, others_after, owed, slept_after, slept_reported}
+use Rattle.queuing_lock.proofs.PartLemmas.{locks_follow, none, others_after, owed, slept_after, slept_asks, slept_reported}
 use Rattle.queuing_lock.proofs.PartLemmas.{under_is}
 use Rattle.queuing_lock.proofs.PollLemmas.{reported_is, reported_told, slept_told}
 use Rattle.queuing_lock.proofs.SleptLemmas.{slept_less}
@@ -32,8 +32,8 @@ use Rattle.queuing_lock.proofs.qlock.QLockThreadLayerQLockLaw.poll.Goals as goal
 
 -- the caller slept for the lock
 
-pub returns-then-has-clause-framed : goal.returns-then-has-clause-framed
-returns-then-has-clause-framed g c =
+pub returns-then-asks_again-clause-framed : goal.returns-then-asks_again-clause-framed
+returns-then-asks_again-clause-framed g c =
     let S = g.S.ThreadLayer in
     let rules = g.F.Locked.rules in
     let self = c.args.self.now in
@@ -52,8 +52,8 @@ returns-then-has-clause-framed g c =
       holders = λ d other acts held. held;
     }
 
-pub returns-then-has-clause-seen : goal.returns-then-has-clause-seen
-returns-then-has-clause-seen g c =
+pub returns-then-asks_again-clause-seen : goal.returns-then-asks_again-clause-seen
+returns-then-asks_again-clause-seen g c =
     let S = g.S.ThreadLayer in
     let met = g.met.S.ThreadLayer in
     let rules = g.F.Locked.rules in
@@ -85,7 +85,7 @@ returns-then-has-clause-seen g c =
       may = c.requires.call.may;
     } in
     let some : is_some (slept_for slept (lock_caller rules e)) ≡ true
-    = ap (λ t. is_some (slept_for slept t)) (sym (c.caller-t.ensures parcel)) ∙ (sym c.has.ensures ∙ c.if-has.true) in
+    = slept_asks rules (S.opening m) before g.F.Locked.meant parcel c.args.call.edit refl ∙ (sym c.asks_again.ensures ∙ c.if-asks_again.true) in
     let over : c.over.new.self.buffers ≡ slice_set slept (lock_caller rules e).0 None = c.over.ensures
     ∙ ap (λ t. slice_set slept t.0 None) (c.caller-t.ensures parcel) in
     subst (λ l. LockPolled rules (here rules (S.opening m)) (λ d. S.ActsFor m d) cpu b e (slept_for slept (lock_caller rules e))
@@ -129,7 +129,7 @@ poll-requires-clause-call g c =
       may = c.requires.call.may;
     } in
     let awake : is_some (slept_for slept (lock_caller rules e)) ≡ false
-    = ap (λ t. is_some (slept_for slept t)) (sym (c.caller-t.ensures parcel)) ∙ (sym c.has.ensures ∙ c.if-has.false) in
+    = slept_asks rules (S.opening m) before g.F.Locked.meant parcel c.args.call.edit refl ∙ (sym c.asks_again.ensures ∙ c.if-asks_again.false) in
     owed rules (S.opening m) before awake
 
 pub complete-requires : goal.complete-requires
@@ -201,7 +201,7 @@ returns-in-None-clause-framed g c =
       may = c.requires.call.may;
     } in
     let awake : is_some (slept_for slept (lock_caller rules e)) ≡ false
-    = ap (λ t. is_some (slept_for slept t)) (sym (c.caller-t.ensures parcel)) ∙ (sym c.has.ensures ∙ c.if-has.false) in
+    = slept_asks rules (S.opening m) before g.F.Locked.meant parcel c.args.call.edit refl ∙ (sym c.asks_again.ensures ∙ c.if-asks_again.false) in
     let said = c.poll.ensures in
     let n = c.poll.new.m in
     let part = c.poll.new.self in
@@ -265,7 +265,7 @@ returns-in-None-clause-seen g c =
       may = c.requires.call.may;
     } in
     let awake : is_some (slept_for slept (lock_caller rules e)) ≡ false
-    = ap (λ t. is_some (slept_for slept t)) (sym (c.caller-t.ensures parcel)) ∙ (sym c.has.ensures ∙ c.if-has.false) in
+    = slept_asks rules (S.opening m) before g.F.Locked.meant parcel c.args.call.edit refl ∙ (sym c.asks_again.ensures ∙ c.if-asks_again.false) in
     let said = c.poll.ensures in
     let n = c.poll.new.m in
     let part = c.poll.new.self in
@@ -314,7 +314,7 @@ returns-in-None-clause-follows g c = λ step.
       may = c.requires.call.may;
     } in
     let awake : is_some (slept_for slept (lock_caller rules e)) ≡ false
-    = ap (λ t. is_some (slept_for slept t)) (sym (c.caller-t.ensures parcel)) ∙ (sym c.has.ensures ∙ c.if-has.false) in
+    = slept_asks rules (S.opening m) before g.F.Locked.meant parcel c.args.call.edit refl ∙ (sym c.asks_again.ensures ∙ c.if-asks_again.false) in
     let said = c.poll.ensures in
     let n = c.poll.new.m in
     let part = c.poll.new.self in
@@ -367,7 +367,7 @@ returns-in-Some-clause-framed g c =
       may = c.requires.call.may;
     } in
     let awake : is_some (slept_for slept (lock_caller rules e)) ≡ false
-    = ap (λ t. is_some (slept_for slept t)) (sym (c.caller-t.ensures parcel)) ∙ (sym c.has.ensures ∙ c.if-has.false) in
+    = slept_asks rules (S.opening m) before g.F.Locked.meant parcel c.args.call.edit refl ∙ (sym c.asks_again.ensures ∙ c.if-asks_again.false) in
     let said = c.poll.ensures in
     let n = c.poll.new.m in
     let part = c.poll.new.self in
@@ -437,7 +437,7 @@ returns-in-Some-clause-seen g c =
       may = c.requires.call.may;
     } in
     let awake : is_some (slept_for slept (lock_caller rules e)) ≡ false
-    = ap (λ t. is_some (slept_for slept t)) (sym (c.caller-t.ensures parcel)) ∙ (sym c.has.ensures ∙ c.if-has.false) in
+    = slept_asks rules (S.opening m) before g.F.Locked.meant parcel c.args.call.edit refl ∙ (sym c.asks_again.ensures ∙ c.if-asks_again.false) in
     let said = c.poll.ensures in
     let n = c.poll.new.m in
     let part = c.poll.new.self in
@@ -494,7 +494,7 @@ returns-in-Some-clause-follows g c = λ step.
       may = c.requires.call.may;
     } in
     let awake : is_some (slept_for slept (lock_caller rules e)) ≡ false
-    = ap (λ t. is_some (slept_for slept t)) (sym (c.caller-t.ensures parcel)) ∙ (sym c.has.ensures ∙ c.if-has.false) in
+    = slept_asks rules (S.opening m) before g.F.Locked.meant parcel c.args.call.edit refl ∙ (sym c.asks_again.ensures ∙ c.if-asks_again.false) in
     let said = c.poll.ensures in
     let n = c.poll.new.m in
     let part = c.poll.new.self in
