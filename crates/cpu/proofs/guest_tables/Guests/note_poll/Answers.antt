@@ -12,7 +12,7 @@ invariant_of-self-else-is_some c =
     let within : t < length table = rw (← c.self.view_is) at c.requires in
     let at : guest_at table t ≡ Some c.in-Some.guest =
     get_or_default table t None c.index_mut.result.now within ∙ (sym (rw c.from.ensures at c.index_mut.ensures.value) ∙ c.in-Some.is) in
-    let none : c.args.answer.now ≡ None = search rules in
+    let none : c.args.answer ≡ None = search rules in
     let begun = rw at at (count_with table t (Some c.note.new.self) within) in
     let live = rw at at (live_with table t (Some c.note.new.self) within) in
     let more = c.recount.ensures in
