@@ -38,19 +38,21 @@ pub fn number_to(text: &[u8], most: u64) -> Option<u64>
     if text[0] == b'0' && text.len() > 1 {
         return None;
     }
+    let tenth = most / 10;
     let mut number: u64 = 0;
     for byte in text {
         if !byte.is_ascii_digit() {
             return None;
         }
+        if number > tenth {
+            return None;
+        }
+        let tens = number * 10;
         let digit = u64::from(*byte - b'0');
-        if most < digit {
+        if digit > most - tens {
             return None;
         }
-        if number > (most - digit) / 10 {
-            return None;
-        }
-        number = number * 10 + digit;
+        number = tens + digit;
     }
     Some(number)
 }

@@ -1,6 +1,6 @@
 -- A message is spelled and read again, and what is read as a message is spelled so.
 use Rattle.std.proofs.Common.{◌≡◌, ℕ, ◌<◌, ◌≤◌, ◌^◌, ◌==◌, Bool, true, false, not, ◌&&◌, List, [], ◌∷◌, length, map, drop}
-use Rattle.std.proofs.Common.{Result, Ok, Err, refl, sym, ap, subst, ◌∙◌, lt-ltb, lit<, arith}
+use Rattle.std.proofs.Common.{Result, Ok, Err, Some, refl, sym, ap, subst, ◌∙◌, lt-ltb, lit<, arith}
 use Rattle.std.specs.Prelude.{decimal, nat_lt, nat_le, slice_index_or}
 use Rattle.std.specs.Str.{bytes_eq}
 use Rattle.std.specs.List.{AllByRecursion, list_all, join_with_byte}
@@ -10,19 +10,19 @@ use Rattle.std.proofs.lemmas.List.Splits.{length-slice_split, join_with_byte-sli
 use Rattle.std.proofs.lemmas.Slice.Eq.{bytes_eq-Decides}
 use Rattle.event_log.specs.declared.messages.TheConstants.{WORDS}
 use Rattle.event_log.specs.Messages.{Message, IsMessage, padded}
-use Rattle.event_log.specs.Digits.{is_number}
+use Rattle.event_log.specs.Digits.{is_number, number_to}
 use Rattle.event_log.specs.Reading.{◌>>=◌}
-use Rattle.event_log.proofs.DigitsLemmas.{number_to-decimal}
+use Rattle.event_log.proofs.DigitsLemmas.{IsSpelled, number_to-Some, number_to-decimal, spelled_number}
 use Rattle.event_log.proofs.MessageLemmas.{padded_eq}
 use Rattle.tracer.specs.declared.verdicts.Reason.{Reason}
 use Rattle.tracer.specs.declared.verdicts.Reason.TheVariants.{Range}
 use Rattle.tracer.specs.declared.versions.Version.{Version}
-use Rattle.tracer.specs.declared.versions.Version.TheVariants.{Three}
+use Rattle.tracer.specs.declared.versions.Version.TheVariants.{One, Two, Three}
 use Rattle.tracer.specs.Versions.{covers, version_of_count}
 use Rattle.tracer.specs.TraceText.{message_text, IsItemOf}
 use Rattle.tracer.specs.Judging.{take_first, in_range, words_of, spells_message, numbers_in, message_in, is_same, is_message, is_within}
 use Rattle.tracer.proofs.ReadLemmas.{bind_ok, wanted_ok, same_ok, in_range_taken, decimal_is_number}
-use Rattle.tracer.proofs.SplitLemmas.{Lacks, split_join, join_lacks, decimal_lacks}
+use Rattle.tracer.proofs.SplitLemmas.{Lacks, digits_alone, split_join, join_lacks, decimal_lacks}
 
 -- words of 64 bits
 abbrev pub AreWords : List ℕ → Type 0
@@ -50,6 +50,23 @@ takes_first x m (y ∷ ys) differs some is test equal =
 pub is_read : (read : Result Message Reason) (x m : Message) (same : Bool) → read ≡ Ok x
     → same ≡ (bytes_eq (padded x) (padded m) && (length x == length m)) → same ≡ is_same read m
 is_read read x m same is test = rw is (test ∙ padded_eq x m)
+
+-- ---- one word
+
+-- a number is one word
+first_covered : (v : Version) → covers v One ≡ true
+first_covered One = refl
+first_covered Two = refl
+first_covered Three = refl
+
+alone : (piece : List ℕ) → IsSpelled piece → words_of piece ≡ piece ∷ []
+alone piece spelled = digits_alone 44 piece (lit< tt) spelled.digits
+
+pub spells_number : (v : Version) (piece : List ℕ) → is_number piece ≡ true → spells_message v piece ≡ true
+spells_number v piece is = rw (alone piece (spelled_number piece is), is, first_covered v) refl
+
+pub reads_number : (piece : List ℕ) (n : ℕ) → number_to 18446744073709551615 piece ≡ Some n → message_in piece ≡ Ok (n ∷ [])
+reads_number piece n is = rw (alone piece (number_to-Some 18446744073709551615 piece n is).spelled, is) refl
 
 -- ---- several words
 

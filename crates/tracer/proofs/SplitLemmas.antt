@@ -49,6 +49,10 @@ digits_lack at (c ∷ cs) lt digits =
 pub decimal_lacks : (at n : ℕ) → at < 48 → n < 2 ^ 64 → Lacks at (decimal n)
 decimal_lacks at n lt small = digits_lack at (decimal n) lt (decimal-spelled n small).digits
 
+-- a text of digits is not cut at another byte
+pub digits_alone : (at : ℕ) (cs : List ℕ) → at < 48 → all_ascii_digits cs ≡ true → slice_split (λ b. b == at) cs ≡ cs ∷ []
+digits_alone at cs lt digits = split_alone at cs (digits_lack at cs lt digits)
+
 -- no piece has a space or a line feed
 pub record IsLine (ps : List (List ℕ)) : Type 0 where
   pub spaces : AllByRecursion (Lacks 32) ps

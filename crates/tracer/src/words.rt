@@ -10,7 +10,7 @@ use crate::pieces::{Pieces, cut, in_range, piece};
 use crate::verdicts::Reason;
 use crate::versions::Version;
 use arrayvec::ArrayVec;
-use event_log::{Msg, WORDS, is_number};
+use event_log::{Msg, WORDS, is_number, number_to};
 
 /// How many words a piece has: one more than commas.
 fn word_count(piece: &[u8]) -> usize
@@ -43,9 +43,13 @@ fn are_numbers(piece: &[u8]) -> bool
 pub fn spells_message(version: Version, piece: &[u8]) -> bool
     ensures { result ≡ spells_message version piece.now }
 {
+    // most often it is one word, and nobody looks for a comma
+    if is_number(piece) {
+        return true;
+    }
     match cut(piece, b',') {
         Some((_, _)) => version.covers(Version::Three) && are_numbers(piece),
-        None => is_number(piece),
+        None => false,
     }
 }
 
@@ -74,9 +78,9 @@ fn words_in(piece: &[u8]) -> Result<Msg, Reason>
 pub fn message_in(piece: &[u8]) -> Result<Msg, Reason>
     ensures { result ≡ message_in piece.now }
 {
-    match cut(piece, b',') {
-        Some((_, _)) => words_in(piece),
-        None => Ok(Msg::one(in_range(u64::MAX, piece)?)),
+    match number_to(piece, u64::MAX) {
+        Some(word) => Ok(Msg::one(word)),
+        None => words_in(piece),
     }
 }
 

@@ -1,16 +1,9 @@
 -- Each early return has a text that spells no number of at most `most`.
-use Rattle.std.proofs.Common.{◌≡◌, ◌+◌, ◌*◌, ◌-◌, ◌/◌, ◌<◌, ◌≤◌, length, get_or, arith, sym, ◌∙◌, ℕ}
+use Rattle.std.proofs.Common.{◌≡◌, ◌+◌, ◌*◌, ◌-◌, ◌<◌, ◌≤◌, length, get_or, arith, sym, ◌∙◌}
 use Rattle.std.proofs.lemmas.Bool.Decides.{nat_tests}
 use Rattle.event_log.proofs.DigitsLemmas.{number_to-empty, number_to-leading_zero, number_to-not_a_digit, number_to-too_large, reads_one_more, reads_all}
 use Rattle.event_log.proofs.digits.number_to.Goals.{else-text-eq48-via-then-text-eq48+else-text-gt1, else-text-eq48-via-else-text-eq48}
 use Rattle.event_log.proofs.digits.number_to.Goals as goal
-
--- the test before the product: where the number is above, so is the next one
-above : (most digit number : ℕ) → (most - digit) / 10 < number → most < number * 10 + digit
-above most digit number h = omega arith
-
-within : (most digit number : ℕ) → digit ≤ most → number ≤ (most - digit) / 10 → number * 10 + digit ≤ most
-within most digit number small h = omega arith
 
 pub returns-then-is_empty-clause-number : goal.returns-then-is_empty-clause-number
 returns-then-is_empty-clause-number c = sym (number_to-empty c.args.most c.args.text.now (grind (arith, nat_tests)))
@@ -23,23 +16,24 @@ returns-then-not-is_ascii_digit-clause-number c =
     sym (number_to-not_a_digit c.args.most c.args.text.now c.loop-byte.byte-index c.loop-byte-test.true
     (sym c.is_ascii_digit.ensures.value ∙ c.if-not-is_ascii_digit.true))
 
-pub returns-then-most-digit-clause-number : goal.returns-then-most-digit-clause-number
-returns-then-most-digit-clause-number c =
-    let large : c.args.most < c.loop-byte.number * 10 + (get_or c.args.text.now c.loop-byte.byte-index 0 - 48) = omega arith in
+pub returns-then-number-tenth-clause-number : goal.returns-then-number-tenth-clause-number
+returns-then-number-tenth-clause-number c =
+    let large : c.args.most < c.loop-byte.number * 10 + (get_or c.args.text.now c.loop-byte.byte-index 0 - 48) =
+    omega (arith, c.if-number-tenth.true) in
     sym (number_to-too_large c.args.most c.args.text.now c.loop-byte.byte-index c.loop-byte.number c.loop-byte.invariant c.loop-byte-test.true
     (sym c.is_ascii_digit.ensures.value ∙ c.if-not-is_ascii_digit.false) large)
 
-pub returns-then-number-most-clause-number : goal.returns-then-number-most-clause-number
-returns-then-number-most-clause-number c =
+pub returns-then-digit-most-clause-number : goal.returns-then-digit-most-clause-number
+returns-then-digit-most-clause-number c =
     let large : c.args.most < c.loop-byte.number * 10 + (get_or c.args.text.now c.loop-byte.byte-index 0 - 48) =
-    omega (arith, above c.args.most c.from-digit.result c.loop-byte.number c.if-number-most.true) in
+    omega (arith, c.if-digit-most.true) in
     sym (number_to-too_large c.args.most c.args.text.now c.loop-byte.byte-index c.loop-byte.number c.loop-byte.invariant c.loop-byte-test.true
     (sym c.is_ascii_digit.ensures.value ∙ c.if-not-is_ascii_digit.false) large)
 
 pub loop-byte-preserved : goal.loop-byte-preserved
 loop-byte-preserved c =
     let fits : c.loop-byte.number * 10 + (get_or c.args.text.now c.loop-byte.byte-index 0 - 48) ≤ c.args.most =
-    omega (arith, within c.args.most c.from-digit.result c.loop-byte.number c.if-most-digit.false c.if-number-most.false) in
+    omega (arith, c.if-number-tenth.false, c.if-digit-most.false) in
     rw c.from-digit.ensures (reads_one_more c.args.most c.args.text.now c.loop-byte.byte-index c.loop-byte.number c.loop-byte.invariant c.loop-byte-test.true
     (sym c.is_ascii_digit.ensures.value ∙ c.if-not-is_ascii_digit.false) fits)
 
