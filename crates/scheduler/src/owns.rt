@@ -2,10 +2,8 @@
 //!
 //! No call takes memory, and none waits.
 
-ghost use Rattle.std.specs.Prelude.{◌≡◌, ◌≢◌, ◌≤◌, ◌<◌, ◌++◌, [], Option, Some, true, false, length};
+ghost use Rattle.std.specs.Prelude.{◌≡◌, ◌≤◌, length};
 ghost use Rattle.event_log.specs.declared.ids.TheConstants.{THREADS};
-ghost use Rattle.event_log.specs.declared.ids.Tid.{Tid};
-ghost use Rattle.thread_blocks.specs.Queues.{is_in, AreApart};
 ghost use Rattle.layer_traits.specs.Places.{at_boot, home_of, is_cpu};
 ghost use Rattle.layer_traits.specs.Passes.{switched, took, passed_on, finished, own_slept, own_woken};
 ghost use Rattle.layer_traits.specs.Scheds.{own_by, answer_by};
