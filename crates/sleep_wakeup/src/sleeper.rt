@@ -160,8 +160,7 @@ impl<E: Sleeps, S: Layer<SchedLaw<SleepEdit<E>>>> ThreadLayer<SleepLaw<E>> for S
 }
 
 impl<E: Sleeps, S: OwnedLayer<SchedLaw<SleepEdit<E>>>> OwnedThreadLayer<SleepLaw<E>>
-    for Sleeper<E, S>
-{
+    for Sleeper<E, S> {
     ghost use Rattle.std.specs.Prelude.{option_map};
     ghost use Rattle.event_log.specs.declared.ids.LockId.TheVariants.{Buffer, Pending};
     ghost use Rattle.layer_traits.proofs.KernelRenaming.{there_viewed};

@@ -132,7 +132,7 @@ returns-in-None-clause-seen g c =
     = transport (λ i. SchedPolled (beneath rules (S.opening m)) (λ d. S.ActsFor m d) cpu (sched_meant meant (c.section.ensures i) payload) (told_by (sched_told told) (c.in-Some-poll.is i) c.poll.new.payload) (S.seen m)
     (S.seen n) threads after) c.poll.ensures.seen in
     let left = reported_is g.E.Sleeps.told self.deferred after buffer c.kept_edit-kept.result c.in-Some-poll.answer c.poll.new.payload c.complete.new.payload
-    c.hand-hand.result c.complete.new.deferred c.complete.result (c.hand-hand.ensures ∙ ap in_hand c.own_here-hand.ensures) c.complete.ensures.deferred c.complete.ensures.answer
+    c.hand-hand.result c.complete.new.deferred c.complete.result (c.hand-hand.ensures ∙ ap in_hand c.own_here-in-Some-poll.ensures) c.complete.ensures.deferred c.complete.ensures.answer
     c.complete.ensures.parcel in
     subst (λ l. SleepPolled (here rules (S.opening m)) (λ d. S.ActsFor m d) cpu buffer edit (renamed_events edit_in (S.seen m))
     (renamed_events edit_in (S.seen n)) (own_of deferred threads) l) left
@@ -164,7 +164,7 @@ returns-in-None-clause-follows g c = λ step.
     (sched_plan (nested_moves rules) (homes_in (S.opening m)) cpu (sched_meant meant (c.section.ensures i) payload) threads) (S.acts m) (S.acts n) (sched_left after (told_by (sched_told told) (c.in-Some-poll.is i) c.poll.new.payload)))
     (c.poll.ensures.follows step) in
     let left = reported_is g.E.Sleeps.told self.deferred after buffer c.kept_edit-kept.result c.in-Some-poll.answer c.poll.new.payload c.complete.new.payload
-    c.hand-hand.result c.complete.new.deferred c.complete.result (c.hand-hand.ensures ∙ ap in_hand c.own_here-hand.ensures) c.complete.ensures.deferred c.complete.ensures.answer
+    c.hand-hand.result c.complete.new.deferred c.complete.result (c.hand-hand.ensures ∙ ap in_hand c.own_here-in-Some-poll.ensures) c.complete.ensures.deferred c.complete.ensures.answer
     c.complete.ensures.parcel in
     subst (λ l. Follows (λ d. S.ActsFor m d) (table_of (queue_rules (sleep_rules rules) (sleep_moves rules))) (viewed state_of (S.opening m)) cpu
     (sleep_plan (sleep_moves rules) (homes_in (viewed state_of (S.opening m))) cpu buffer edit (own_of deferred threads))
@@ -283,7 +283,7 @@ returns-clause-seen g c =
     (S.seen n) threads after) c.poll-in-Some.ensures.seen in
     let left = reported_is g.E.Sleeps.told self.deferred after buffer c.kept_edit-kept-in-Some.result c.in-Some-poll-2.answer c.poll-in-Some.new.payload
     c.complete-in-Some-poll-2.new.payload c.hand-hand-in-Some-poll-2.result c.complete-in-Some-poll-2.new.deferred c.complete-in-Some-poll-2.result
-    (c.hand-hand-in-Some-poll-2.ensures ∙ ap in_hand c.own_here-hand-in-Some-poll-2.ensures) c.complete-in-Some-poll-2.ensures.deferred c.complete-in-Some-poll-2.ensures.answer
+    (c.hand-hand-in-Some-poll-2.ensures ∙ ap in_hand c.own_here-in-Some-poll-2.ensures) c.complete-in-Some-poll-2.ensures.deferred c.complete-in-Some-poll-2.ensures.answer
     c.complete-in-Some-poll-2.ensures.parcel in
     subst (λ l. SleepPolled (here rules (S.opening m)) (λ d. S.ActsFor m d) cpu buffer edit (renamed_events edit_in (S.seen m))
     (renamed_events edit_in (S.seen n)) (own_of deferred threads) l) left
@@ -317,7 +317,7 @@ returns-clause-follows g c = λ step.
     (c.poll-in-Some.ensures.follows step) in
     let left = reported_is g.E.Sleeps.told self.deferred after buffer c.kept_edit-kept-in-Some.result c.in-Some-poll-2.answer c.poll-in-Some.new.payload
     c.complete-in-Some-poll-2.new.payload c.hand-hand-in-Some-poll-2.result c.complete-in-Some-poll-2.new.deferred c.complete-in-Some-poll-2.result
-    (c.hand-hand-in-Some-poll-2.ensures ∙ ap in_hand c.own_here-hand-in-Some-poll-2.ensures) c.complete-in-Some-poll-2.ensures.deferred c.complete-in-Some-poll-2.ensures.answer
+    (c.hand-hand-in-Some-poll-2.ensures ∙ ap in_hand c.own_here-in-Some-poll-2.ensures) c.complete-in-Some-poll-2.ensures.deferred c.complete-in-Some-poll-2.ensures.answer
     c.complete-in-Some-poll-2.ensures.parcel in
     subst (λ l. Follows (λ d. S.ActsFor m d) (table_of (queue_rules (sleep_rules rules) (sleep_moves rules))) (viewed state_of (S.opening m)) cpu
     (sleep_plan (sleep_moves rules) (homes_in (viewed state_of (S.opening m))) cpu buffer edit (own_of deferred threads))
