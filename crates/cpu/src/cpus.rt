@@ -8,7 +8,7 @@ ghost use Rattle.cpu.specs.Cpus.{begins_at, begun_count, chosen_for, guest_at};
 
 use crate::guest_tables::Guests;
 use crate::guests::{Guest, Todo};
-use event_log::{CpuId, Entry, Tid};
+use event_log::{BufId, CpuId, Entry, Tid};
 use layer_traits::{Call, CallLayer, Effect, Ghost, IpcLaw, Pass, Reason, Step};
 
 /// What a CPU does next that is not halted.
@@ -108,30 +108,6 @@ impl<I: CallLayer<IpcLaw>> Cpu<I> {
         self.trace.as_slice()
     }
 
-    /// Polls this message call of the thread that runs.
-    #[inline(always)]
-    fn poll(&mut self, m: &mut I::Machine, thread: Tid, call: &Call)
-        requires fits { I.Fits self.old.part m.old }
-        requires room { 0 < I.room m.old }
-        requires number { I.cpu_of self.old.part ≡ self.old.number }
-        requires is { IsCpuAt ⟦<I as CallLayer<IpcLaw>>⟧ m.old self.old }
-        requires live { stops_at ⟦<I as CallLayer<IpcLaw>>⟧ self.old ≡ None }
-        requires chosen { chosen (I.threads self.old.part) self.old.guests.items ≡ Polls thread call.now }
-        requires not_full { begins_at (guest_at self.old.guests.items thread.0) ≡ true
-            → length self.old.trace.items + begun_count self.old.guests.items < self.old.limit }
-        requires table { I.IsStepwise → IsTabledAt ⟦<I as CallLayer<IpcLaw>>⟧ m.old self.old }
-        ensures fits { I.Fits self.new.part m.new }
-        ensures is { IsCpuAt ⟦<I as CallLayer<IpcLaw>>⟧ m.new self.new }
-        ensures leaves { Leaves ⟦<I as CallLayer<IpcLaw>>⟧ m.old self.old m.new self.new }
-        ensures table { I.IsStepwise → IsTabledAt ⟦<I as CallLayer<IpcLaw>>⟧ m.new self.new }
-        ensures steps { I.IsStepwise → WentAt ⟦<I as CallLayer<IpcLaw>>⟧ m.old self.old m.new self.new Stepped }
-    {
-        let answer = self.part.poll_kind(m, thread, call);
-        let effect = self.part.effect_here(thread);
-        let fresh = self.guests.note_poll(thread, effect, answer);
-        note_effect(&mut self.trace, self.number, thread, call, fresh, effect);
-    }
-
     /// Polls the message call at which the thread that runs stands, which is the one asked for.
     #[inline(always)]
     fn call(&mut self, m: &mut I::Machine, thread: Tid, asked: Ghost<Call>)
@@ -151,7 +127,11 @@ impl<I: CallLayer<IpcLaw>> Cpu<I> {
         ensures steps { I.IsStepwise → WentAt ⟦<I as CallLayer<IpcLaw>>⟧ m.old self.old m.new self.new Stepped }
     {
         let call = self.guests.call_of(thread, asked);
-        self.poll(m, thread, &call);
+        let buffer = buffer_of(call);
+        let answer = self.part.poll_kind(m, thread, call);
+        let effect = self.part.effect_here(thread);
+        let fresh = self.guests.note_poll(thread, effect, answer);
+        note_effect(&mut self.trace, self.number, thread, buffer, fresh, effect);
     }
 
     /// Polls this pass from thread to thread.
@@ -337,19 +317,19 @@ fn note_effect(
     trace: &mut Vec<Entry>,
     cpu: CpuId,
     thread: Tid,
-    call: &Call,
+    buffer: BufId,
     fresh: bool,
     effect: &Option<Effect>,
 )
     requires { (f : _) → (if fresh then effect.now else None) ≡ Some f → length trace.old.items < vec_capacity trace.old }
-    ensures items { trace.new.items ≡ trace.old.items ++ entries_of cpu thread (buffer_of call.now) (if fresh then effect.now else None) }
+    ensures items { trace.new.items ≡ trace.old.items ++ entries_of cpu thread buffer (if fresh then effect.now else None) }
     ensures capacity { vec_capacity trace.old ≤ vec_capacity trace.new }
 {
     if !fresh {
         return;
     }
     if let Some(effect) = effect {
-        put_entry(trace, entry(cpu, thread, call, effect));
+        put_entry(trace, entry(cpu, thread, buffer, effect));
     }
 }
 
@@ -363,12 +343,20 @@ fn put_entry(trace: &mut Vec<Entry>, entry: Entry)
     trace.push_reserved(entry);
 }
 
-/// The entry of an effect of a call.
+/// The buffer of a message call.
 #[inline(always)]
-fn entry(cpu: CpuId, thread: Tid, call: &Call, effect: &Effect) -> Entry
-    ensures { result ≡ entry_of cpu thread (buffer_of call.now) effect.now }
+fn buffer_of(call: &Call) -> BufId
+    ensures { result ≡ buffer_of call.now }
 {
     let (Call::Send(buffer, _) | Call::Recv(buffer) | Call::Close(buffer)) = *call;
+    buffer
+}
+
+/// The entry of an effect on this buffer.
+#[inline(always)]
+fn entry(cpu: CpuId, thread: Tid, buffer: BufId, effect: &Effect) -> Entry
+    ensures { result ≡ entry_of cpu thread buffer effect.now }
+{
     Entry {
         cpu,
         thread,

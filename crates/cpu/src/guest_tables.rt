@@ -44,6 +44,10 @@ impl Model for Guests {
 }
 
 impl Guests {
+    ghost use Rattle.std.specs.Borrow.{sem};
+    ghost use Rattle.std.specs.Io.BufRead.{Rests};
+    ghost use Rattle.cpu.specs.contracts.guest_tables.Guests.{the_row};
+
     /// The guests of this table.
     pub(crate) fn new(table: Vec<Option<Guest>>) -> Guests
         ensures { result ≡ table }
@@ -84,21 +88,22 @@ impl Guests {
         self.live == 0
     }
 
-    /// The message call at which this thread's guest stands, which is the one asked for. It is made
-    /// at the first poll, and kept until the guest moves on or another thread calls.
+    /// The message call at which this thread's guest stands, which is the one asked for, where it
+    /// lies: nothing is copied. It is made at the first poll, and kept until the guest moves on or
+    /// another thread calls.
     #[inline(always)]
-    pub(crate) fn call_of(&mut self, thread: Tid, asked: Ghost<Call>) -> Call
+    pub(crate) fn call_of(&mut self, thread: Tid, asked: Ghost<Call>) -> &Call
         requires within { thread.0 < length self.old.items }
         requires asked { stands_at (guest_at self.old.items thread.0) asked }
-        ensures call { result ≡ asked }
-        ensures same { self.new ≡ self.old }
+        ensures call { result.now ≡ asked }
+        ensures* same { sem 𝓛 (Rests the_row self.entry (λ left. left ≡ self.old)) }
     {
         let _ = asked;
         if self.kept_by != Some(thread) {
             self.kept = call_at(&self.table[usize::from(thread.0)]);
             self.kept_by = Some(thread);
         }
-        self.kept
+        &self.kept
     }
 
     /// Notes what a poll of a thread's call answered, and tells whether an effect that the call has

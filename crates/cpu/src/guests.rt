@@ -197,7 +197,7 @@ impl Guest {
         match answer {
             None | Some(ReplyKind::NoBuffer) => {}
             Some(ReplyKind::Sent) => self.thread.after_send(&self.program),
-            Some(ReplyKind::Got) => self.thread.after_recv(&self.program, message_in(effect)),
+            Some(ReplyKind::Got) => self.thread.after_recv(&self.program, message_of(effect)),
             Some(ReplyKind::Shut) => self.thread.after_close(&self.program),
             Some(ReplyKind::Closed) => self.thread.after_closed(&self.program),
         }
@@ -206,7 +206,7 @@ impl Guest {
 
 /// The message of an effect; none where there is no effect.
 #[inline(always)]
-fn message_in(effect: &Option<Effect>) -> Msg
+fn message_of(effect: &Option<Effect>) -> Msg
     ensures { result ≡ message_of effect.now }
 {
     match effect {
