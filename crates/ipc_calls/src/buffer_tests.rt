@@ -474,7 +474,7 @@ fn read_in_hand<B: OwnedBuffers>(part: &mut B, m: &mut B::Machine) -> bool
     if !polls(part, m, Tid(0), &recv, 1) || B::owner_in(m, BufId(0)) != Some(Some(Tid(0))) {
         return false;
     }
-    B::pends_in(m, CpuId(1), Tid(0)) == Some(false) && !part.is_ready(Tid(0))
+    B::pends_in(m, CpuId(1), Tid(0)) == Some(false) && !part.own_threads().is_ready(Tid(0))
 }
 
 /// A thread that ends has ended here.
@@ -483,13 +483,16 @@ fn ends<B: OwnedBuffers>(part: &mut B, m: &mut B::Machine) -> bool
     requires room { 10 ≤ B.room m.old }
     requires start { B.under_way part.old ≡ None }
 {
-    if !part.is_ready(Tid(0)) || part.has_ended(Tid(0)) || !switch(part, m) {
+    if !part.own_threads().is_ready(Tid(0))
+        || part.own_threads().has_ended(Tid(0))
+        || !switch(part, m)
+    {
         return false;
     }
     if part.current().is_none() || part.hand().is_some() {
         return false;
     }
-    part.pass(m, Pass::End).is_some() && part.has_ended(Tid(0))
+    part.pass(m, Pass::End).is_some() && part.own_threads().has_ended(Tid(0))
 }
 
 /// A machine of two CPUs and one buffer with room for one message; thread 0 is at home on CPU 0,

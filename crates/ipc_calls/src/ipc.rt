@@ -15,8 +15,8 @@ use crate::opening::OpensBuffers;
 use arrayvec::ArrayVec;
 use event_log::{BufId, CAPACITY, CpuId, Msg, NoMemory, THREADS, Tid};
 use layer_traits::{
-    BufferLaw, Call, CallLayer, Effect, IpcLaw, Owned, OwnedBuffers, Pass, Place, Reply, WaitList,
-    kept_homes,
+    BufferLaw, Call, CallLayer, Effect, IpcLaw, OwnThreads, Owned, OwnedBuffers, Pass, Place,
+    ReplyKind, WaitList, kept_homes,
 };
 use std::alloc::Global;
 
@@ -134,18 +134,8 @@ impl<B: CallLayer<BufferLaw>> CallLayer<IpcLaw> for Ipc<B> {
     }
 
     #[inline(always)]
-    fn current(&self) -> Option<Tid> {
-        self.lower.current()
-    }
-
-    #[inline(always)]
-    fn hand(&self) -> Option<Tid> {
-        self.lower.hand()
-    }
-
-    #[inline(always)]
-    fn has_ready(&self) -> bool {
-        self.lower.has_ready()
+    fn own_threads(&self) -> &OwnThreads {
+        self.lower.own_threads()
     }
 
     #[inline(always)]
@@ -163,12 +153,12 @@ impl<B: CallLayer<BufferLaw>> CallLayer<IpcLaw> for Ipc<B> {
         self.lower.look(m)
     }
 
-    fn poll(&mut self, m: &mut B::Machine, t: Tid, call: &Call) -> Option<Reply> {
+    fn poll_kind(&mut self, m: &mut B::Machine, t: Tid, call: &Call) -> Option<ReplyKind> {
         let buffer = buffer_in(call);
         if buffer.0 >= self.buffers {
-            return Some(Reply::NoBuffer);
+            return Some(ReplyKind::NoBuffer);
         }
-        self.lower.poll(m, t, call)
+        self.lower.poll_kind(m, t, call)
     }
 
     #[inline(always)]
@@ -215,16 +205,17 @@ impl<B: OwnedBuffers> Ipc<B> {
             → IsOwnPlace (B.cpu_of self.now.lower) (B.threads self.now.lower) t x }
         ensures away { result ≡ None → IsAway t (B.threads self.now.lower) }
     {
-        if is_it(t, self.lower.current()) {
+        let own = self.lower.own_threads();
+        if is_it(t, own.current()) {
             return Some(Place::Running(self.cpu));
         }
-        if is_it(t, self.lower.hand()) {
+        if is_it(t, own.hand()) {
             return Some(Place::Hand(self.cpu));
         }
-        if self.lower.is_ready(t) {
+        if own.is_ready(t) {
             return Some(Place::Ready(self.cpu));
         }
-        if self.lower.has_ended(t) {
+        if own.has_ended(t) {
             return Some(Place::Ended);
         }
         None

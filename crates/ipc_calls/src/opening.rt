@@ -4,7 +4,7 @@ ghost use Rattle.std.specs.Prelude.{◌≡◌, ◌<◌, ◌≤◌, [], IsSome, I
 
 use crate::tower::LockEdit;
 use event_log::{CpuId, NoMemory};
-use layer_traits::{OwnedBuffers, OwnedQueues, OwnedScheds, OwnedSleeps};
+use layer_traits::{OwnedBuffers, OwnedLayer, OwnedThreadLayer, QueueLaw, SchedLaw, SleepLaw};
 use sleep_wakeup::SleepEdit;
 use std::alloc::Global;
 
@@ -43,7 +43,7 @@ pub trait OpensBuffers: OwnedBuffers {
 }
 
 /// Shared queues whose machine is opened with the locks of buffers, and that tell of its blocks.
-pub trait OpensQueues: OwnedQueues<SleepEdit<LockEdit>> {
+pub trait OpensQueues: OwnedLayer<QueueLaw<SleepEdit<LockEdit>>> {
     ghost use Rattle.event_log.specs.declared.ids.CpuId.{CpuId};
     ghost use Rattle.event_log.specs.declared.ids.LockId.TheVariants.{Pending};
     ghost use Rattle.event_log.specs.declared.ids.TheConstants.{CPUS};
@@ -77,7 +77,7 @@ pub trait OpensQueues: OwnedQueues<SleepEdit<LockEdit>> {
 }
 
 /// Schedulers whose machine is opened with the locks of buffers, and that tell of its blocks.
-pub trait OpensScheds: OwnedScheds<SleepEdit<LockEdit>> {
+pub trait OpensScheds: OwnedLayer<SchedLaw<SleepEdit<LockEdit>>> {
     ghost use Rattle.event_log.specs.declared.ids.CpuId.{CpuId};
     ghost use Rattle.event_log.specs.declared.ids.LockId.TheVariants.{Pending};
     ghost use Rattle.event_log.specs.declared.ids.TheConstants.{CPUS};
@@ -112,7 +112,7 @@ pub trait OpensScheds: OwnedScheds<SleepEdit<LockEdit>> {
 
 /// A layer of sections that put threads to sleep, whose machine is opened with the locks of buffers,
 /// and tells of its blocks.
-pub trait OpensLocks: OwnedSleeps<LockEdit> {
+pub trait OpensLocks: OwnedThreadLayer<SleepLaw<LockEdit>> {
     ghost use Rattle.event_log.specs.declared.ids.CpuId.{CpuId};
     ghost use Rattle.event_log.specs.declared.ids.LockId.TheVariants.{Pending};
     ghost use Rattle.event_log.specs.declared.ids.TheConstants.{CPUS};

@@ -20,9 +20,9 @@ use event_log::{CpuId, LockId, NoMemory};
 use fifo_buffer::{Fifo, empty_blocks};
 use layer_traits::{
     BareBufferEdit, BufferBlock, BufferEdit, BufferLaw, BufferOut, CallLayer, CvEdit, CvLaw,
-    CvLeave, CvOut, IpcLaw, Layer, LockLaw, LockStateOf, LockingOf, OwnedLocks, QLockLaw, QOut,
-    QueueBlock, QueueEdit, QueueEvent, QueueLaw, SchedCall, SchedLaw, SectionOf, SleepLaw,
-    SleepStateOf, SleepingOf, ThreadsOf, WaitingOf,
+    CvLeave, CvOut, IpcLaw, Layer, LockLaw, LockStateOf, LockingOf, OwnThreads, OwnedLocks,
+    QLockLaw, QOut, QueueBlock, QueueEdit, QueueEvent, QueueLaw, SchedCall, SchedLaw, SectionOf,
+    SleepLaw, SleepStateOf, SleepingOf, WaitingOf,
 };
 use queuing_lock::{QBlock, QLock, QLockEdit, lock_blocks};
 use scheduler::Sched;
@@ -61,7 +61,7 @@ pub type TowerLaws = PhantomData<
         QueueEvent<SleepEdit<LockEdit>>,
         SchedLaw<SleepEdit<LockEdit>>,
         SchedCall<SleepEdit<LockEdit>>,
-        ThreadsOf,
+        OwnThreads,
         SleepLaw<LockEdit>,
         SleepStateOf<QBlock<BufferBlock>>,
         SleepingOf<QOut<CvOut<BufferOut>>>,

@@ -1,4 +1,4 @@
-use Rattle.std.proofs.Common.{◌≡◌, ◌+◌, ◌≤◌, refl, sym, subst, arith}
+use Rattle.std.proofs.Common.{◌+◌, ◌≤◌, refl, sym, subst, arith}
 use Rattle.layer_traits.specs.BufferLaw.{Calling, MayGoOn}
 use Rattle.ipc_calls.proofs.CallStates.{may_begin}
 use Rattle.ipc_calls.proofs.tests.called.Goals as goal

@@ -1,4 +1,4 @@
-use Rattle.std.proofs.Common.{◌≡◌, true, false, length, Some, inr, refl, ap, sym, ◌∙◌, subst}
+use Rattle.std.proofs.Common.{◌≡◌, false, length, Some, inr, refl, ap, sym, ◌∙◌, subst}
 use Rattle.std.proofs.lemmas.Option.{same_Some}
 use Rattle.layer_traits.specs.Places.{Asleep, At, Pend, home_of, where_is}
 use Rattle.event_log.specs.declared.ids.LockId.TheVariants.{Buffer}
