@@ -17,10 +17,12 @@ use Rattle.layer_traits.proofs.conditions.CvEdit.TheSendSync as cv_edit
 use Rattle.layer_traits.proofs.conditions.CvLeave.TheSendSync as cv_leave
 use Rattle.layer_traits.proofs.buffer_edits.BufferEdit.TheSendSync as buffer_edit
 use Rattle.layer_traits.proofs.buffer_edits.BareBufferOut.TheSendSync as bare_out_crosses
-use Rattle.event_log.proofs.messages.Msg.TheSendSync as message_crosses
 use Rattle.layer_traits.proofs.conditions.CvOut.TheSendSync as cv_out_crosses
 use Rattle.layer_traits.proofs.locked.QOut.TheSendSync as lock_out_crosses
 use Rattle.layer_traits.proofs.sleeps.Outcome.TheSendSync as outcome_crosses
+use Rattle.layer_traits.proofs.payloads.Parcel.TheSendSync as parcel_crosses
+use Rattle.layer_traits.proofs.payloads.Payload.TheSendSync as payload_crosses
+use Rattle.fifo_buffer.proofs.call_state_table.CallStates.TheSendSync as call_states_crosses
 use Rattle.layer_traits.specs.contracts.payloads.Ghost as ghost_of
 use Rattle.layer_traits.specs.contracts.payloads.Ghost.TheInside as ghost_inside
 use Rattle.sleep_wakeup.proofs.edits.SleepBlock.TheSendSync as sleep_block
@@ -50,6 +52,7 @@ use Rattle.layer_traits.specs.contracts.buffer_edits.BufferOut as buffer_out
 use Rattle.layer_traits.specs.contracts.buffer_edits.BareBufferOut as bare_out
 use Rattle.sleep_wakeup.specs.contracts.deferred.DeferredOutcome as deferred
 use Rattle.sleep_wakeup.specs.contracts.sleeper.Sleeper as sleeper
+use Rattle.fifo_buffer.specs.contracts.fifo.Fifo as fifo
 use Rattle.layer_traits.specs.Payloads.{buffer_meant, buffer_told, cv_meant, cv_told, lock_told, queue_meant, queue_told}
 use Rattle.queuing_lock.specs.Nested.{section_meant}
 use Rattle.sleep_wakeup.specs.Nested.{nested_meant, nested_told}
@@ -62,7 +65,7 @@ ghost_send T = view_send _ _ _ _ _ (declared_send (ghost_inside.the_type T) (sea
 
 deferred_send : (E A : RattleType) → IsSend A → IsSend (deferred.the_row E A)
 deferred_send E A s = declared_send (deferred.the_type E A)
-    (search (sendable, crosses), (ghost_send E, (outcome_crosses.the_send A s, (message_crosses.the_send, tt))))
+    (search (sendable, crosses), (ghost_send E, (outcome_crosses.the_send A s, (parcel_crosses.the_send, tt))))
 
 sleeper_send : (E S B O H A : RattleType) → IsSend S → IsSend A → IsSend (sleeper.the_row E S B O H A)
 sleeper_send E S B O H A s answer = declared_send (sleeper.the_type E S B O H A)
@@ -81,6 +84,11 @@ pub tower_sleeper_send : (S : RattleType) → IsSend S
 tower_sleeper_send S s = sleeper_send (lock_edit_of buffer_edit_row.the_row) S (lock_block_row.the_row buffer_block_row.the_row)
     (lock_out_of buffer_out.the_row) (lock_edit_of bare_edit_row.the_row) (lock_out_of bare_out.the_row) s
     (lock_out_crosses.the_send _ (cv_out_crosses.the_send _ bare_out_crosses.the_send))
+
+-- and so does a part of the buffers, over conditions that do: whose call is under way is meant, and has no bytes
+pub fifo_send : (C : RattleType) → IsSend C → IsSend (fifo.the_row C)
+fifo_send C s = declared_send (fifo.the_type C)
+    (search (sendable, crosses), (call_states_crosses.the_send, (search (sendable, crosses, ghost_send) depth 9, (payload_crosses.the_send, tt))))
 
 field_send : (B : RattleType) → IsSend B → IsSend (block.the_field B).row
 field_send B s = enum_send (shape (block.the_type B))

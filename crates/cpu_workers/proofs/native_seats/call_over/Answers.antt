@@ -5,7 +5,6 @@ use Rattle.std.specs.Prelude.{slice_get}
 use Rattle.event_log.specs.Actions.{renamed}
 use Rattle.layer_traits.specs.OnePlace.{cpu_at}
 use Rattle.ipc_calls.proofs.ipc.Ipc.TheSendSync as ipc
-use Rattle.fifo_buffer.proofs.fifo.Fifo.TheSendSync as fifo
 use Rattle.condvar.proofs.cond.Cond.TheSendSync as cond
 use Rattle.queuing_lock.proofs.qlock.QLock.TheSendSync as qlock
 use Rattle.scheduler.proofs.sched.Sched.TheSendSync as sched
@@ -13,7 +12,7 @@ use Rattle.shared_queue.proofs.shared.SharedQueues.TheSendSync as shared
 use Rattle.fifo_buffer.specs.FifoFits.{BootsSo}
 use Rattle.layer_traits.specs.QueueBlocks.{StartsWell}
 use Rattle.cpu_workers.specs.Seating.{tower_acts}
-use Rattle.cpu_workers.proofs.Crossing.{tower_sleeper_send}
+use Rattle.cpu_workers.proofs.Crossing.{fifo_send, tower_sleeper_send}
 use Rattle.cpu_workers.proofs.NativeLists.{ok_so}
 use Rattle.cpu_workers.proofs.Seated.{found_within}
 use Rattle.cpu_workers.proofs.TowerOpening.{opens_tower, seen_from_top}
@@ -51,7 +50,7 @@ call_each-requires-send-I g c κs within = search (
   sendable,
   crosses,
   ipc.the_send,
-  fifo.the_send,
+  fifo_send,
   cond.the_send,
   qlock.the_send,
   tower_sleeper_send,

@@ -6,7 +6,6 @@ use Rattle.event_log.specs.Actions.{renamed}
 use Rattle.cpu.specs.Boots.{homes_for}
 use Rattle.layer_traits.specs.OnePlace.{cpu_at}
 use Rattle.ipc_calls.proofs.ipc.Ipc.TheSendSync as ipc
-use Rattle.fifo_buffer.proofs.fifo.Fifo.TheSendSync as fifo
 use Rattle.condvar.proofs.cond.Cond.TheSendSync as cond
 use Rattle.queuing_lock.proofs.qlock.QLock.TheSendSync as qlock
 use Rattle.scheduler.proofs.sched.Sched.TheSendSync as sched
@@ -14,7 +13,7 @@ use Rattle.shared_queue.proofs.shared.SharedQueues.TheSendSync as shared
 use Rattle.fifo_buffer.specs.FifoFits.{BootsSo}
 use Rattle.layer_traits.specs.QueueBlocks.{StartsWell}
 use Rattle.cpu_workers.specs.Seating.{tower_acts}
-use Rattle.cpu_workers.proofs.Crossing.{tower_sleeper_send}
+use Rattle.cpu_workers.proofs.Crossing.{fifo_send, tower_sleeper_send}
 use Rattle.cpu_workers.proofs.NativeLists.{ok_so}
 use Rattle.cpu_workers.proofs.Seated.{found_within}
 use Rattle.cpu_workers.proofs.TowerOpening.{opens_tower, seen_from_top}
@@ -55,7 +54,7 @@ run_each-requires-send-I g c κs within = search (
   sendable,
   crosses,
   ipc.the_send,
-  fifo.the_send,
+  fifo_send,
   cond.the_send,
   qlock.the_send,
   tower_sleeper_send,
