@@ -71,11 +71,12 @@ pub fn push_in(boxed: &mut BlockBox<ThreadQueue>, t: Tid)
     boxed.content.push(t);
 }
 
-/// Takes all threads of the queue that the box holds, and leaves it empty.
+/// Takes all threads of the queue that the box holds into `taken`, in place of those that lay there, and
+/// leaves the queue empty.
 #[inline(always)]
-pub fn take_from(boxed: &mut BlockBox<ThreadQueue>) -> ThreadList
-    ensures all { result ≡ boxed.old }
+pub fn take_from(boxed: &mut BlockBox<ThreadQueue>, taken: &mut ThreadList)
+    ensures all { taken.new ≡ boxed.old }
     ensures empty { boxed.new ≡ [] }
 {
-    boxed.content.take()
+    boxed.content.take_into(taken);
 }

@@ -78,7 +78,7 @@ impl<E: Moves> SplitEdit for QueueEdit<E> {
             }
             QueueEdit::TakeAll => match block {
                 QueueBlock::Queue(queue, _) => {
-                    payload.taken = take_from(queue);
+                    take_from(queue, &mut payload.taken);
                     BareQueueAnswer::Taken
                 }
                 QueueBlock::Above(_) => BareQueueAnswer::Done,

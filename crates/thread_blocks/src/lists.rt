@@ -47,6 +47,14 @@ impl ThreadList {
         self.threads.len()
     }
 
+    /// Leaves no thread.
+    #[inline(always)]
+    pub(crate) fn clear(&mut self)
+        ensures { self.new ≡ [] }
+    {
+        self.threads.clear();
+    }
+
     /// Puts `t`, which is not there, behind the others.
     #[inline(always)]
     pub(crate) fn push(&mut self, t: Tid)

@@ -189,10 +189,21 @@ impl ThreadQueue {
         ensures empty { self.new ≡ [] }
     {
         let mut taken = ThreadList::new();
-        while let Some(t) = self.pop() {
-            taken.push(t);
-        }
+        self.take_into(&mut taken);
         taken
+    }
+
+    /// Takes all threads into `to`, in place of those that lay there, and leaves the queue empty.
+    /// Nothing is copied but the threads that are taken.
+    #[inline(always)]
+    pub fn take_into(&mut self, to: &mut ThreadList)
+        ensures all { to.new ≡ self.old }
+        ensures empty { self.new ≡ [] }
+    {
+        to.clear();
+        while let Some(t) = self.pop() {
+            to.push(t);
+        }
     }
 
     /// Moves all threads behind those of `to`, and keeps their order.

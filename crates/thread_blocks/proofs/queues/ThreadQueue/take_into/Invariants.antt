@@ -1,10 +1,10 @@
 use Rattle.std.proofs.Common.{◌≡◌, ◌++◌, length}
 use Rattle.thread_blocks.specs.Queues.{AreApart}
-use Rattle.thread_blocks.proofs.queues.ThreadQueue.take.Given as goal
+use Rattle.thread_blocks.proofs.queues.ThreadQueue.take_into.Given as goal
 
 -- what is not taken yet stands behind what was
 abbrev pub invariant-loop-t : goal.invariant-loop-t
-invariant-loop-t l = (l.taken ++ l.self ≡ l.fn.self) × AreApart l.self l.taken
+invariant-loop-t l = (l.to ++ l.self ≡ l.fn.self) × AreApart l.self l.to
 
 abbrev pub decreases-loop-t : goal.decreases-loop-t
 decreases-loop-t l = length l.self

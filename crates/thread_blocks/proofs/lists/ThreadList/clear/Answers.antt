@@ -1,0 +1,7 @@
+use Rattle.std.proofs.Common.{sym, subst}
+use Rattle.thread_blocks.specs.Queues.{IsQueue}
+use Rattle.thread_blocks.proofs.Distinct.{none}
+use Rattle.thread_blocks.proofs.lists.ThreadList.clear.Goals as goal
+
+pub invariant_of-self : goal.invariant_of-self
+invariant_of-self c = subst IsQueue (sym c.clear.ensures) none
