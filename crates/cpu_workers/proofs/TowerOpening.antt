@@ -15,7 +15,6 @@ use Rattle.queuing_lock.specs.Nested.{nested_lock_of}
 use Rattle.sleep_wakeup.specs.Nested.{state_of}
 use Rattle.cpu.specs.Tower.Views.{TowerBlock}
 use Rattle.cpu_workers.specs.Seating.{Block}
-use Rattle.layer_traits.specs.declared.queue_edits.QueueBlock.{QueueBlock}
 
 -- the locks as buffers see them
 abbrev pub seen_from_top : (LockId → Option Block) → LockId → Option TowerBlock

@@ -1,8 +1,7 @@
 use denote.Param.Send.{sendable}
 use Rattle.std.proofs.Crossing.{crosses}
-use Rattle.std.proofs.Common.{◌≡◌, ℕ, map, Some, refl, ap, arith}
+use Rattle.std.proofs.Common.{◌≡◌, ℕ, Some, refl, ap, arith}
 use Rattle.std.specs.Prelude.{slice_get}
-use Rattle.event_log.specs.Actions.{renamed}
 use Rattle.cpu.specs.Boots.{homes_for}
 use Rattle.layer_traits.specs.OnePlace.{cpu_at}
 use Rattle.ipc_calls.proofs.ipc.Ipc.TheSendSync as ipc
