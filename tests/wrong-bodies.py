@@ -152,7 +152,7 @@ class Trial:
         lines = self.check(self.texts, functions)
         for it in self.open():
             said = self.said_of(it, lines)
-            if said is not None and said != "proved":
+            if said is not None and not said.startswith("proved"):
                 it.end(f"its function is not proved as it stands: {said[:160]}", True)
 
     def chosen(self):
