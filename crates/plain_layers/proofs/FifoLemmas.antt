@@ -14,12 +14,13 @@ use Rattle.layer_traits.specs.declared.calls.Call.{Call}
 use Rattle.layer_traits.specs.declared.calls.Call.TheVariants.{Send, Recv, Close}
 use Rattle.layer_traits.specs.declared.calls.Effect.{Effect}
 use Rattle.layer_traits.specs.declared.calls.Reply.{Reply}
+use Rattle.layer_traits.specs.declared.calls.ReplyKind.{ReplyKind}
 use Rattle.layer_traits.specs.declared.locked.Side.TheVariants.{Receivers, Senders}
 use Rattle.layer_traits.specs.declared.queues.QueueCall.TheVariants.{OnBuffer}
 use Rattle.layer_traits.specs.declared.call_states.Stage.{Stage}
 use Rattle.layer_traits.specs.declared.call_states.Stage.TheVariants.{Idle, Acquires, Enters, Tries, Waits, AcquiresAgain, Signals, SignalsOwn, Releases}
 use Rattle.layer_traits.specs.declared.call_states.CallState.{CallState}
-use Rattle.layer_traits.specs.BufferLaw.{Answered, Called, IsEffectOf, IsRefused, MayPollCall, buffer_of, entry_of, going, going_at, no_call, call_state_of}
+use Rattle.layer_traits.specs.BufferLaw.{Answered, Called, IsEffectOf, IsRefused, MayPollCall, answer_in, buffer_of, entry_of, going, going_at, no_call, call_state_of, reply_with}
 use Rattle.layer_traits.specs.Passes.{own_slept, queue_for}
 use Rattle.layer_traits.specs.Places.{AreMoves, Pushed, Stands, Step, step}
 use Rattle.layer_traits.specs.Protocol.{section}
@@ -239,6 +240,18 @@ slept_current (Refused Senders) own none = refl
 pub reply_none : (call : Call) (effect : Option Effect) → reply_to call effect ≡ None → effect ≡ None
 reply_none call None none = refl
 reply_none call (Some f) none = absurd (cc none)
+
+effect_left : (call : Call) (effect : Option Effect) → (call_state_after call effect).effect ≡ effect
+effect_left call None = refl
+effect_left call (Some f) = refl
+
+-- a kind that makes the reply of the call with its effect makes it with the call states that are left
+pub reply_left : (call_states : List CallState) (t : Tid) (call : Call) (effect : Option Effect) (kind : Option ReplyKind) → t.0 < length call_states
+    → option_map (λ k. reply_with k effect) kind ≡ reply_to call effect
+    → answer_in (slice_set call_states t.0 (call_state_after call effect)) t kind ≡ reply_to call effect
+reply_left call_states t call effect kind within told =
+    ap (λ (x : CallState). option_map (λ k. reply_with k x.effect) kind) (call_state_here call_states t.0 (call_state_after call effect) within)
+    ∙ ap (λ f. option_map (λ k. reply_with k f) kind) (effect_left call effect) ∙ told
 
 module _ (opening : LockId → Option (QueueBlock PlainLocked)) (c : CpuId) (b : BufId) (a : Attempt) (old new : List (QueueEvent Attempt)) (own : Threads)
     (left : Sleeping Tried) (outcome : Outcome Tried) (done : IsDoneWhole (asked (sleep_kernel attempts opening) c b a) old new own left outcome) where

@@ -235,7 +235,10 @@ fn is_observed<C: OwnedThreadLayer<CvLaw<Reads>>>(zero: &mut C, m: &mut C::Machi
     let at = BufId(0);
     let reads = QEdit::Inside(CvEdit::Edit(Reads { caller: Tid(0) }));
     let leave = QEdit::Release(CvLeave::Leave(Tid(0)));
-    if !switches::<Reads, C>(zero, m) || zero.own_threads().is_ready(Tid(0)) || zero.own_threads().has_ended(Tid(0)) {
+    if !switches::<Reads, C>(zero, m)
+        || zero.own_threads().is_ready(Tid(0))
+        || zero.own_threads().has_ended(Tid(0))
+    {
         return false;
     }
     let Some(PollSection::Answered(_)) = calls::<Reads, C>(zero, m, at, &QEdit::Acquire(Tid(0)), 3)

@@ -95,7 +95,7 @@ impl<E: Moves> PlainKernel<E> {
         ensures answer { answer_of (kernel E.rules E.moves (opening_of self.old.opening)) (calls_in self.old) (call_meant E.meant call payload.old)
             ≡ Some (queue_told E.told result payload.new) }
     {
-        // What the call leaves in the payload may lie in the place of its message.
+        // What the call leaves in the payload may lie in the place of its parcel.
         let meant = whole_call::<E>(&call, payload);
         let answer = do_call::<E>(&mut self.lists, &call, payload);
         self.log.push(QueueEvent { cpu, call: meant }).unwrap();

@@ -79,7 +79,7 @@ impl<E: SplitEdit> LockTable<E> {
         ensures answer { Answers E.rules (opening_in self.old) (sections_noted self.old) (section cpu lock (E.meant handed payload.old))
             (E.told result payload.new) }
     {
-        // The section may put its answer's message in the place of the edit's.
+        // The section may lay its answer's parcel in the place of the edit's.
         let edit = E::whole(&handed, payload);
         let answer = edit_at::<E>(&mut self.blocks, lock, &handed, payload);
         self.log.push(Noted { cpu, lock, edit }).unwrap();

@@ -244,7 +244,10 @@ fn is_observed<Q: OwnedThreadLayer<QLockLaw<Reads>>>(zero: &mut Q, m: &mut Q::Ma
     requires ended { LockHasEnded ⟦<Reads as Locked>⟧.rules (Q.own zero.old) (Q.under_way zero.old) (record { 0 = 0 }) }
 {
     let at = BufId(0);
-    if !switches::<Reads, Q>(zero, m) || zero.own_threads().is_ready(Tid(0)) || zero.own_threads().has_ended(Tid(0)) {
+    if !switches::<Reads, Q>(zero, m)
+        || zero.own_threads().is_ready(Tid(0))
+        || zero.own_threads().has_ended(Tid(0))
+    {
         return false;
     }
     let Some(PollSection::Answered(_)) = acquires::<Reads, Q>(zero, m, at, Tid(0), 3) else {

@@ -128,12 +128,13 @@ fn machine<S: Opens<Nap>>(alloc: Global, cpus: u8, homes: &[CpuId]) -> Result<S:
 fn may_pass<S: Layer<SchedLaw<Nap>>>(part: &S, pass: Pass) -> bool
     ensures { result ≡ true → MayPass pass (S.own part.now) }
 {
+    let own = part.own_here();
     match pass {
-        Pass::Switch => part.own_here().current().is_none() && part.own_here().hand().is_none() && part.own_here().has_ready(),
-        Pass::YieldNow => part.own_here().current().is_some() && part.own_here().hand().is_none(),
-        Pass::Drain => part.own_here().current().is_none() && part.own_here().hand().is_none() && !part.own_here().has_ready(),
-        Pass::MakeReady(t) => part.own_here().hand() == Some(t),
-        Pass::End => part.own_here().current().is_some() && part.own_here().hand().is_none(),
+        Pass::Switch => own.current().is_none() && own.hand().is_none() && own.has_ready(),
+        Pass::YieldNow => own.current().is_some() && own.hand().is_none(),
+        Pass::Drain => own.current().is_none() && own.hand().is_none() && !own.has_ready(),
+        Pass::MakeReady(t) => own.hand() == Some(t),
+        Pass::End => own.current().is_some() && own.hand().is_none(),
     }
 }
 
@@ -184,7 +185,8 @@ fn napped_at<S: Layer<SchedLaw<Nap>>>(part: &mut S, m: &mut S::Machine, nap: Nap
     ensures cpu { S.cpu_of part.new ≡ S.cpu_of part.old }
     ensures others { (p : S) → S.cpu_of p ≢ S.cpu_of part.old → S.Fits p m.old → S.Fits p m.new }
 {
-    if has_begun(part) || part.own_here().current() != Some(nap.by) || part.own_here().hand().is_some() {
+    let own = part.own_here();
+    if has_begun(part) || own.current() != Some(nap.by) || own.hand().is_some() {
         return 0;
     }
     let mut payload = Payload::new();

@@ -92,13 +92,8 @@ impl<E: Moves> Layer<SchedLaw<E>> for PlainSched<E> {
             }
             Ok(step) => {
                 let answer = m.done(self.cpu, step, payload);
-                Some(take_answer::<E>(
-                    &mut self.own,
-                    homes,
-                    self.cpu,
-                    answer,
-                    payload,
-                ))
+                let own = &mut self.own;
+                Some(take_answer::<E>(own, homes, self.cpu, answer, payload))
             }
         }
     }

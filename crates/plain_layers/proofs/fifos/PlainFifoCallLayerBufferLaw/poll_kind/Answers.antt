@@ -1,10 +1,11 @@
-use Rattle.std.proofs.Common.{◌≡◌, ◌≢◌, ◌<◌, ◌≤◌, ◌+◌, ◌/◌, ℕ, ap, arith, List, Option, None, length, slice_set, subst, sym, ◌∙◌}
+use Rattle.std.proofs.Common.{◌≡◌, ◌≢◌, ◌<◌, ◌≤◌, ◌+◌, ◌/◌, ℕ, ap, arith, List, Option, None, length, option_map, slice_set, subst, sym, ◌∙◌}
 use Rattle.std.proofs.Math.ListN.{length-set}
 use Rattle.event_log.specs.declared.ids.CpuId.{CpuId}
 use Rattle.event_log.specs.declared.ids.Tid.{Tid}
 use Rattle.event_log.specs.declared.ids.TheConstants.{THREADS}
-use Rattle.layer_traits.specs.BufferLaw.{Called, IsRefused, MovesGrow, call_state_of}
+use Rattle.layer_traits.specs.BufferLaw.{Called, IsRefused, MovesGrow, answer_in, call_state_of, reply_with}
 use Rattle.layer_traits.specs.declared.calls.Effect.{Effect}
+use Rattle.layer_traits.specs.declared.calls.ReplyKind.{ReplyKind}
 use Rattle.layer_traits.specs.declared.call_states.Stage.TheVariants.{Idle}
 use Rattle.layer_traits.specs.declared.call_states.CallState.{CallState}
 use Rattle.layer_traits.specs.QueueBlocks.{homes_in, inner}
@@ -14,7 +15,7 @@ use Rattle.layer_traits.specs.SleepLaw.{sleep_kernel}
 use Rattle.plain_layers.specs.Attempts.{attempts, effect_in}
 use Rattle.plain_layers.specs.Fifos.{IsOwned, caps_in, entries_in, reply_to, call_state_after, shown}
 use Rattle.plain_layers.proofs.FifoLemmas.{buffer_there, done_called, done_deferred, done_moves, done_refused}
-use Rattle.plain_layers.proofs.FifoLemmas.{done_sleeps, owned_after, reply_none, runs_small, set_waits}
+use Rattle.plain_layers.proofs.FifoLemmas.{done_sleeps, owned_after, reply_left, reply_none, runs_small, set_waits}
 use Rattle.plain_layers.proofs.fifos.PlainFifoCallLayerBufferLaw.poll_kind.Goals as goal
 
 half_of_two : (n k : ℕ) → n ≤ k + 2 → n / 2 ≤ k / 2 + 1
@@ -67,13 +68,20 @@ returns-clause-called g c there =
     ≡ slice_set c.args.self.now.call_states c.args.t.0 (call_state_after c.args.call.now (effect_in c.whole-outcome.result.out))
     = λ i. slice_set c.args.self.now.call_states (c.from.ensures i) (after i) in
     let within : c.args.t.0 < length c.args.self.now.call_states = subst (λ k. c.args.t.0 < k) (sym fits.3.slots) small in
+    let told = subst (λ (f : Option Effect). option_map (λ kind. reply_with kind f) c.reply.result ≡ reply_to c.args.call.now f)
+    c.effect-effect.ensures c.reply.ensures in
+    let answered : answer_in (slice_set c.args.self.now.call_states c.from.result c.next.result) c.args.t c.reply.result
+    ≡ reply_to c.args.call.now (effect_in c.whole-outcome.result.out)
+    = ap (λ l. answer_in l c.args.t c.reply.result) set ∙ reply_left c.args.self.now.call_states c.args.t c.args.call.now
+    (effect_in c.whole-outcome.result.out) c.reply.result within told in
     subst (λ o. Called Acts (S.cpu_of lower) c.args.t c.args.call.now c.args.self.now.call_states
     (slice_set c.args.self.now.call_states c.from.result c.next.result)
-    (entries_in (inner (S.opening m)) (buffer_sections (S.seen m))) (entries_in (inner o) (buffer_sections (S.seen n))) c.reply.result) (sym said.opening)
+    (entries_in (inner (S.opening m)) (buffer_sections (S.seen m))) (entries_in (inner o) (buffer_sections (S.seen n)))
+    (answer_in (slice_set c.args.self.now.call_states c.from.result c.next.result) c.args.t c.reply.result)) (sym said.opening)
     (done_called (S.opening m) (S.cpu_of lower) c.buffer_in.result c.attempt_in.result (S.seen m) (S.seen n) (S.own lower).threads
     (S.own c.whole-outcome.new.part) c.whole-outcome.result said.done Acts c.args.t c.args.call.now c.args.self.now.call_states
     (slice_set c.args.self.now.call_states c.from.result c.next.result) c.attempt_in.ensures c.buffer_in.ensures within c.requires.same fits.3.waits set
-    c.reply.result (subst (λ (f : Option Effect). c.reply.result ≡ reply_to c.args.call.now f) c.effect-effect.ensures c.reply.ensures))
+    (answer_in (slice_set c.args.self.now.call_states c.from.result c.next.result) c.args.t c.reply.result) answered)
 
 pub returns-clause-moves : goal.returns-clause-moves
 returns-clause-moves g c =
@@ -144,7 +152,8 @@ returns-clause-prompt g c = λ whole none.
     let fits = c.requires.fits in
     let said = c.whole-outcome.ensures in
     let nothing = reply_none c.args.call.now (effect_in c.whole-outcome.result.out)
-    (sym (subst (λ (f : Option Effect). c.reply.result ≡ reply_to c.args.call.now f) c.effect-effect.ensures c.reply.ensures) ∙ none) in (
+    (sym (subst (λ (f : Option Effect). option_map (λ kind. reply_with kind f) c.reply.result ≡ reply_to c.args.call.now f) c.effect-effect.ensures
+    c.reply.ensures) ∙ ap (λ (o : Option ReplyKind). option_map (λ kind. reply_with kind (effect_in c.whole-outcome.result.out)) o) none) in (
       subst (λ o. IsRefused c.args.call.now (caps_in (inner (S.opening m))) (entries_in (inner o) (buffer_sections (S.seen n)))) (sym said.opening)
           (done_refused (S.opening m) (S.cpu_of lower) c.buffer_in.result c.attempt_in.result (S.seen m) (S.seen n) (S.own lower).threads
           (S.own c.whole-outcome.new.part) c.whole-outcome.result said.done c.args.t c.args.call.now
