@@ -14,8 +14,9 @@ Bodies of different functions are tried in ONE check of a copy of the crate. A b
 `no proof: ..`. A failed callee does not count: such a body, and one that got no verdict, is tried again in a later round, at last alone. What is still proved
 then fails by name. So does an edit that cannot be applied, names no function, or ends in no verdict, as for want of memory.
 
-tests/wrong-bodies.sums tells what was refused: for each body a sum of the kit's logic, of the crate's text and of all beneath it, and of the body itself. A
-body whose sum stands there is not tried again; --all tries it all the same. This script alone writes the sums. --after-ci takes the libraries as `rt ci` left them, and takes the crates as proved; without it
+tests/wrong-bodies.sums tells what was refused: for each body a sum of the kit's logic, of the crate's text, of the sources and definitions of all beneath it, and
+of the body itself. Comments do not count, nor how imports are laid out. A body whose sum stands there is not tried again; --all tries it all the same. This
+script alone writes the sums. --after-ci takes the libraries as `rt ci` left them, and takes the crates as proved; without it
 the libraries are built first, and each function has to be proved as it stands. The last line is 'N passed, M failed'.
 """
 import argparse
@@ -41,6 +42,7 @@ REFUSED = re.compile(r"(not proved|no proof)(?!.*(it calls|it passes|a call of))
 STALE_NAME = re.compile(r"(?:note: )?(?:\./)?proofs/\S+:\d+:\d+: .*(has no |is not in scope|was not admitted)")
 OPEN_GOAL = re.compile(r"(?:note: )?(?:\./)?\S+:\d+:\d+: .*(is not proved|may be false|does not prove|error)")
 UNREAD = re.compile(r"(?:\./)?(?:src|specs)/\S+?:\d+:\d+: error: (.*)")
+IMPORT = re.compile(r"(\s*(?:pub )?(?:ghost )?use )(Rattle\.[^{}]*)\.\{([^{}]+)\};?$")
 UNREAD_WORDS = re.compile(r"is not in scope|has no field|is no name|operand is missing|expected the end|cannot continue")
 printing = threading.Lock()
 
@@ -221,8 +223,26 @@ class Trial:
         return bool(told) and all(STALE_NAME.match(it) for it in told)
 
 
+def read_as_proved(path):
+    """Returns what the prover reads of a source file: no comments and no blank lines, and the imports that stand together as a set."""
+    text = open(path, encoding="utf-8").read()
+    if "clap" in text:
+        return text  # its `///` are the words that the program prints
+    comment = "//" if path.endswith(".rt") else "--"
+    kept, imported = [], set()
+    for line in [*(it for it in text.split("\n") if it.strip() and not it.lstrip().startswith(comment)), ""]:
+        found = IMPORT.match(line)
+        if found:
+            imported.update(f"{found[1]}{found[2]}.{name} {{}}" for name in re.split(r", *", found[3]))
+        else:
+            kept += [*sorted(imported), line]
+            imported = set()
+    return "\n".join(kept)
+
+
 def sum_of(lib, crate):
-    """Returns the sum of all but the body that a verdict on a wrong body of the crate rests on."""
+    """Returns the sum of all but the body that a verdict on a wrong body of the crate rests on. Of the crates beneath, no proof: a contract that
+    a body breaks stays broken, however those crates were proved to keep theirs."""
     told = subprocess.run(["rt", "version"], stdout=subprocess.PIPE, text=True, check=True).stdout
     logic = re.search(r"logic \w+", told)
     if not logic:
@@ -230,7 +250,8 @@ def sum_of(lib, crate):
     total = hashlib.sha256(logic[0].encode())  # kits of one logic give one verdict
     for it in sorted([crate, *crate.below()], key=lambda it: it.name):
         for file in sorted(lib.files_of(it.folder)):
-            total.update(os.path.relpath(file, ROOT).encode() + b"\0" + open(file, "rb").read())
+            if it is crate or not file.startswith(f"{it.folder}/proofs/"):
+                total.update(f"{os.path.relpath(file, ROOT)}\0{read_as_proved(file)}".encode())
         total.update(" ".join([it.name, *(dep.name for dep in it.deps), *it.of_kit]).encode())
     return total
 
