@@ -42,7 +42,9 @@ REFUSED = re.compile(r"(not proved|no proof)(?!.*(it calls|it passes|a call of))
 STALE_NAME = re.compile(r"(?:note: )?(?:\./)?proofs/\S+:\d+:\d+: .*(has no |is not in scope|was not admitted)")
 OPEN_GOAL = re.compile(r"(?:note: )?(?:\./)?\S+:\d+:\d+: .*(is not proved|may be false|does not prove|error)")
 UNREAD = re.compile(r"(?:\./)?(?:src|specs)/\S+?:\d+:\d+: error: (.*)")
-IMPORT = re.compile(r"(\s*(?:pub )?(?:ghost )?use )(Rattle\.[^{}]*)\.\{([^{}]+)\};?$")
+# An import of definitions, and one that names them in braces.
+IMPORT = re.compile(r"\s*((unfoldable )?(pub )?use [^{}:]+(\{[^{}]+\})?|(pub )?ghost use [^{}]+(\{[^{}]+\})?;)$")
+NAMES = re.compile(r"(.* )([^{} ]+)\.\{([^{}]+)\};?$")
 UNREAD_WORDS = re.compile(r"is not in scope|has no field|is no name|operand is missing|expected the end|cannot continue")
 printing = threading.Lock()
 
@@ -226,14 +228,12 @@ class Trial:
 def read_as_proved(path):
     """Returns what the prover reads of a source file: no comments and no blank lines, and the imports that stand together as a set."""
     text = open(path, encoding="utf-8").read()
-    if "clap" in text:
-        return text  # its `///` are the words that the program prints
-    comment = "//" if path.endswith(".rt") else "--"
+    comment = "--" if path.endswith(".antt") else "// " if "clap" in text else "//"  # clap's `///` are words that the program prints
     kept, imported = [], set()
     for line in [*(it for it in text.split("\n") if it.strip() and not it.lstrip().startswith(comment)), ""]:
-        found = IMPORT.match(line)
-        if found:
-            imported.update(f"{found[1]}{found[2]}.{name} {{}}" for name in re.split(r", *", found[3]))
+        if IMPORT.match(line):
+            found = NAMES.match(line)
+            imported.update([f"{found[1]}{found[2]}.{name} {{}}" for name in re.split(r", *", found[3])] if found else [line])
         else:
             kept += [*sorted(imported), line]
             imported = set()
