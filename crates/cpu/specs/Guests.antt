@@ -19,12 +19,11 @@ use Rattle.layer_traits.specs.declared.calls.Call.TheVariants.{Send, Recv, Close
 use Rattle.layer_traits.specs.declared.calls.Effect.{Effect}
 use Rattle.layer_traits.specs.declared.calls.Reply.{Reply}
 use Rattle.layer_traits.specs.declared.calls.Reply.TheVariants.{Sent, Got, Shut, Closed, NoBuffer}
-use Rattle.layer_traits.specs.declared.calls.ReplyKind.{ReplyKind}
 use Rattle.layer_traits.specs.declared.passes.Pass.{Pass}
 use Rattle.layer_traits.specs.declared.passes.Pass.TheVariants.{Switch, YieldNow, Drain, MakeReady, End}
 use Rattle.layer_traits.specs.declared.call_states.CallState.{CallState}
 use Rattle.layer_traits.specs.declared.call_states.Stage.TheVariants as call_state_stage
-use Rattle.layer_traits.specs.BufferLaw.{IsEffectOf, begun_of, entry_of, reply_with}
+use Rattle.layer_traits.specs.BufferLaw.{IsEffectOf, begun_of, entry_of}
 use Rattle.cpu.specs.declared.guests.Guest.{Guest}
 use Rattle.cpu.specs.declared.guests.GuestStage.{GuestStage}
 use Rattle.cpu.specs.declared.guests.GuestStage.TheVariants.{Idle, Begun, Done, Ended}
@@ -77,10 +76,6 @@ fresh_effect Idle effect = effect
 fresh_effect Begun effect = effect
 fresh_effect Done effect = None
 fresh_effect Ended effect = effect
-
--- the answer of a poll that told this kind, and after which the call has had this effect
-abbrev pub answer_with : Option Effect → Option ReplyKind → Option Reply
-answer_with effect answer = option_map (λ kind. reply_with kind effect) answer
 
 -- the stage after a poll of the call
 abbrev pub stage_after : Option Effect → Option Reply → GuestStage
