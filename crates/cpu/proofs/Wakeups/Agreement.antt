@@ -16,37 +16,40 @@ use Rattle.layer_traits.specs.declared.locked.Side.TheVariants.{Receivers, Sende
 use Rattle.layer_traits.specs.Places.{is_thread, one_if, count_in}
 use Rattle.layer_traits.proofs.CountLemmas.{same_tid_sym, count_append}
 use Rattle.cpu.specs.Table.Blocks.{side_of}
-use Rattle.cpu.specs.Table.Setups.{Setup, CallStage, Acquires, Enters, Tries, Waits, AcquiresAgain, Signals, SignalsOwn}
-use Rattle.cpu.specs.Table.Setups.{Releases, Returns, Call, Thread, Private, new_thread, thread_at, with_thread, home_of}
+use Rattle.layer_traits.specs.declared.call_states.Stage.{Stage}
+use Rattle.layer_traits.specs.declared.call_states.Stage.TheVariants.{Idle, Acquires, Enters, Tries, Waits, AcquiresAgain, Signals, SignalsOwn, Releases}
+use Rattle.cpu.specs.Table.Setups.{Setup}
+use Rattle.cpu.specs.Table.Setups.{Call, Thread, Private, new_thread, thread_at, with_thread, home_of}
 use Rattle.cpu.specs.Table.Choice.{slept_if, woken}
+use Rattle.cpu.specs.Wakeups.Order.{Progress, Begins, HasEntered, WasRefused, Owes}
 use Rattle.cpu.proofs.Wakeups.Lists.{refuted}
-use Rattle.cpu.proofs.Wakeups.Posts.{Post, Home, InHand, IsPending, AtLock, AtWait, CallPhase, GotIt, Trying, Failed, Waiting, Owing, Visit, Outside, In}
+use Rattle.cpu.proofs.Wakeups.Posts.{Post, Home, InHand, IsPending, AtLock, AtWait, Waiting, Visit, Outside, In}
 use Rattle.cpu.proofs.Wakeups.Posts.{is_home, is_hand, post_by, post_woken, is_local}
 
 -- once the other side is signalled, the own side is owed its signal
-abbrev pub owing_own : Side → CallPhase
-owing_own Senders = Owing false true
-owing_own Receivers = Owing true false
+abbrev pub owing_own : Side → Progress
+owing_own Senders = Owes false true
+owing_own Receivers = Owes true false
 
 -- the visit of a call at each stage
-abbrev pub visit_of_stage : BufId → Side → CallStage → Visit
+abbrev pub visit_of_stage : BufId → Side → Stage → Visit
 visit_of_stage b side Acquires = Outside
-visit_of_stage b side Enters = In b GotIt
-visit_of_stage b side Tries = In b (Trying side)
-visit_of_stage b side Waits = In b (Failed side)
-visit_of_stage b side AcquiresAgain = In b (Waiting side)
-visit_of_stage b side Signals = In b (Owing true true)
+visit_of_stage b side Enters = In b Begins
+visit_of_stage b side Tries = In b (HasEntered side)
+visit_of_stage b side Waits = In b (WasRefused side)
+visit_of_stage b side AcquiresAgain = Waiting b side
+visit_of_stage b side Signals = In b (Owes true true)
 visit_of_stage b side SignalsOwn = In b (owing_own side)
-visit_of_stage b side Releases = In b (Owing false false)
-visit_of_stage b side Returns = Outside
+visit_of_stage b side Releases = In b (Owes false false)
+visit_of_stage b side Idle = Outside
 
 abbrev pub visit_of_call : Option Call → Visit
 visit_of_call None = Outside
 visit_of_call (Some call) = visit_of_stage call.buffer (side_of call.asks) call.stage
 
 -- a call that has done its last section
-abbrev pub is_last : CallStage → Bool
-is_last Returns = true
+abbrev pub is_last : Stage → Bool
+is_last Idle = true
 is_last Acquires = false
 is_last Enters = false
 is_last Tries = false

@@ -13,7 +13,8 @@ use Rattle.thread_blocks.proofs.Members.{same_tid_true}
 use Rattle.layer_traits.specs.declared.steps.Reason.TheVariants.{AllEnded, TraceFull}
 use Rattle.layer_traits.specs.Places.{is_thread, one_if, count_in}
 use Rattle.layer_traits.proofs.CountLemmas.{same_tid_sym}
-use Rattle.cpu.specs.Table.Setups.{Setup, Acquires, Call, Thread, Private, thread_at, stands_at, home_threads, open_calls, have_ended}
+use Rattle.layer_traits.specs.declared.call_states.Stage.TheVariants.{Acquires}
+use Rattle.cpu.specs.Table.Setups.{Setup, Call, Thread, Private, thread_at, stands_at, home_threads, open_calls, have_ended}
 use Rattle.cpu.specs.Table.Choice.{Choice, Halts, Alone, Goes, new_call, with_call, with_guest, begins}
 use Rattle.cpu.specs.Table.Choice.{ends, at_instruction, at_call, at_ready, at_current, at_hand, choice}
 use Rattle.cpu.proofs.Wakeups.Lists.{refuted}

@@ -19,15 +19,17 @@ use Rattle.layer_traits.specs.declared.locked.Side.TheVariants.{Receivers, Sende
 use Rattle.layer_traits.specs.Places.{is_thread, count_in}
 use Rattle.cpu.specs.Table.Blocks.{Block, OfBuffer, OfPending, Name, Pend, TakeAll, side_of}
 use Rattle.cpu.specs.Table.Edits.{edited, answer, answer_of_buffer}
-use Rattle.cpu.specs.Table.Setups.{Setup, CallStage, Acquires, Enters, Tries, Waits, AcquiresAgain, Signals, SignalsOwn}
-use Rattle.cpu.specs.Table.Setups.{Releases, Returns, Call, Private, thread_at, home_of, stands_at, opening_buffer}
+use Rattle.layer_traits.specs.declared.call_states.Stage.{Stage}
+use Rattle.layer_traits.specs.declared.call_states.Stage.TheVariants.{Idle, Acquires, Enters, Tries, Waits, AcquiresAgain, Signals, SignalsOwn, Releases}
+use Rattle.cpu.specs.Table.Setups.{Setup}
+use Rattle.cpu.specs.Table.Setups.{Call, Private, thread_at, home_of, stands_at, opening_buffer}
 use Rattle.cpu.specs.Table.Choice.{Ask, at_pending, at_buffer, section_at, first_section, try_of, first_signal}
 use Rattle.cpu.specs.Table.Choice.{second_signal, asked_by, asked_at, asked_in, asked, with_guest, settled}
 use Rattle.cpu.specs.Table.Choice.{after_call, after_by, after_at, after_in}
 use Rattle.cpu.specs.Table.Steps.{after_reply}
-use Rattle.cpu.specs.Wakeups.Order.{block_of}
+use Rattle.cpu.specs.Wakeups.Order.{block_of, Begins, HasEntered, Owes}
 use Rattle.cpu.proofs.Wakeups.Lists.{refuted}
-use Rattle.cpu.proofs.Wakeups.Posts.{Post, Home, InHand, IsPending, AtLock, AtWait, GotIt, Trying, Owing, In}
+use Rattle.cpu.proofs.Wakeups.Posts.{Post, Home, InHand, IsPending, AtLock, AtWait, In}
 use Rattle.cpu.proofs.Wakeups.Posts.{is_home, is_hand, caller_in, is_caller, post_by, post_drained, post_pending}
 use Rattle.cpu.proofs.Wakeups.Posts.{post_buffer, post, next_visit, visit_moved, visit_buffer, visit}
 use Rattle.cpu.proofs.Wakeups.Posts.{IsDue, is_local, IsCallers, MayComeBy, MayComeTo, MayComeAt, MayCome}
@@ -167,25 +169,25 @@ foreign_step setup past good c p s off may agrees = foreign_at setup past good c
 -- The CPU's own section.
 
 -- what is due to a call at each stage
-pub due_at : (t : Tid) (call : Call) (stage : CallStage) → is_last stage ≡ false
+pub due_at : (t : Tid) (call : Call) (stage : Stage) → is_last stage ≡ false
     → IsDue call.buffer (section_at t call stage) (visit_of_stage call.buffer (side_of call.asks) stage)
 due_at t call stage going = by_stage stage going
   where
-    by_first : (asks : Group) → IsDue call.buffer (first_section t asks) (In call.buffer GotIt)
+    by_first : (asks : Group) → IsDue call.buffer (first_section t asks) (In call.buffer Begins)
     by_first Sends = refl
     by_first Receives = refl
     by_first Closes = refl
 
-    by_try : (side : Side) → IsDue call.buffer (try_of t call side) (In call.buffer (Trying side))
+    by_try : (side : Side) → IsDue call.buffer (try_of t call side) (In call.buffer (HasEntered side))
     by_try Senders = refl
     by_try Receivers = refl
 
-    by_signal : (side : Side) → IsDue call.buffer (first_signal t side) (In call.buffer (Owing true true))
+    by_signal : (side : Side) → IsDue call.buffer (first_signal t side) (In call.buffer (Owes true true))
         × IsDue call.buffer (second_signal t side) (In call.buffer (owing_own side))
     by_signal Senders = (refl, refl)
     by_signal Receivers = (refl, refl)
 
-    by_stage : (stage : CallStage) → is_last stage ≡ false → IsDue call.buffer (section_at t call stage) (visit_of_stage call.buffer (side_of call.asks) stage)
+    by_stage : (stage : Stage) → is_last stage ≡ false → IsDue call.buffer (section_at t call stage) (visit_of_stage call.buffer (side_of call.asks) stage)
     by_stage Acquires going = tt
     by_stage Enters going = by_first call.asks
     by_stage Tries going = by_try (side_of call.asks)
@@ -194,7 +196,7 @@ due_at t call stage going = by_stage stage going
     by_stage Signals going = (by_signal (side_of call.asks)).0
     by_stage SignalsOwn going = (by_signal (side_of call.asks)).1
     by_stage Releases going = (refl, refl, refl)
-    by_stage Returns going = absurd (cc going)
+    by_stage Idle going = absurd (cc going)
 
 -- a section that a CPU ends may come, and leaves the CPU in agreement
 pub record GiveOk (setup : Setup) (past : List (Section Name)) (c : CpuId) (p : Private) (lock : LockId) (name : Name) : Type 0 where

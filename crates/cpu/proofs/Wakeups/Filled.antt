@@ -14,7 +14,9 @@ use Rattle.layer_traits.specs.declared.steps.Reason.TheVariants.{AllEnded, Trace
 use Rattle.layer_traits.specs.Plans.{is_in_section, reply}
 use Rattle.cpu.specs.Table.Blocks.{Name, Reported, Nothing, Position, Done, WasClosed, DidShut, NotYet, Drained, Answer}
 use Rattle.cpu.specs.Table.Edits.{kernel}
-use Rattle.cpu.specs.Table.Setups.{Setup, CallStage, Acquires, Enters, Tries, Waits, AcquiresAgain, Signals, SignalsOwn, Releases, Returns}
+use Rattle.layer_traits.specs.declared.call_states.Stage.{Stage}
+use Rattle.layer_traits.specs.declared.call_states.Stage.TheVariants.{Idle, Acquires, Enters, Tries, Waits, AcquiresAgain, Signals, SignalsOwn, Releases}
+use Rattle.cpu.specs.Table.Setups.{Setup}
 use Rattle.cpu.specs.Table.Setups.{Call, Private, thread_at, home_of, at_boot, opening, stands_at, home_threads, open_calls, have_ended}
 use Rattle.cpu.specs.Table.Choice.{asked, Choice, Halts, Alone, Goes, with_call, at_instruction, at_call, at_ready, at_current, at_hand, choice}
 use Rattle.cpu.specs.Table.Choice.{recorded, recorded_entry, recorded_position, recorded_shut, slept_if, woken, returned_at, returned_by}
@@ -40,8 +42,8 @@ module _ (setup : Setup) (c : CpuId) where
   settled_empty p empty None None = empty
   settled_empty p empty None (Some t) = by_call (thread_at p t).call
     where
-      by_stage : (call : Call) (stage : CallStage) → (returned_at setup p t call stage).hand ≡ None
-      by_stage call Returns = empty
+      by_stage : (call : Call) (stage : Stage) → (returned_at setup p t call stage).hand ≡ None
+      by_stage call Idle = empty
       by_stage call stage = empty
 
       by_call : (call : Option Call) → (returned_by setup p t call).hand ≡ None
@@ -62,7 +64,7 @@ module _ (setup : Setup) (c : CpuId) where
   }
 
   recorded_some : (p : Private) (t : Tid) (call : Call) → t.0 < length p.threads → (thread_at p t).call ≡ Some call
-      → (stage : CallStage) (told : Reported) → RecordedSome p (recorded c p t call stage told) t
+      → (stage : Stage) (told : Reported) → RecordedSome p (recorded c p t call stage told) t
   recorded_some p t call known is Acquires told = called p t _ known
   recorded_some p t call known is Enters told = by_asks call.asks told
     where
@@ -109,7 +111,7 @@ module _ (setup : Setup) (c : CpuId) where
   recorded_some p t call known is Signals told = called p t _ known
   recorded_some p t call known is SignalsOwn told = called p t _ known
   recorded_some p t call known is Releases told = called p t _ known
-  recorded_some p t call known is Returns told = record { hand = refl; current = refl; some = ap is_some is }
+  recorded_some p t call known is Idle told = record { hand = refl; current = refl; some = ap is_some is }
 
   some_inside : (p q : Private) (t : Tid) → p.current ≡ Some t → RecordedSome p q t → (slept : Bool) → (u : Tid)
       → (slept_if slept q).current ≡ Some u → is_some (thread_at (slept_if slept q) u).call ≡ true

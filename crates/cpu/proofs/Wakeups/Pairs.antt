@@ -26,7 +26,7 @@ use Rattle.cpu.specs.Table.Edits.{acquired, line_of, entered, put, taken, shut, 
 use Rattle.cpu.specs.Table.Setups.{Setup, home_of}
 use Rattle.cpu.specs.Wakeups.Order.{Progress, Begins, HasEntered, WasRefused, Owes, progress_after, receivers_signalled, senders_signalled, MayEdit}
 use Rattle.cpu.proofs.Wakeups.Lists.{refuted, none_is_not, first_is}
-use Rattle.cpu.proofs.Wakeups.Posts.{Post, Home, InHand, IsPending, AtLock, AtWait, GotIt, Trying, Failed, Waiting, Owing, Visit, Outside, In}
+use Rattle.cpu.proofs.Wakeups.Posts.{Post, Home, InHand, IsPending, AtLock, AtWait, Waiting, Visit, Outside, In}
 use Rattle.cpu.proofs.Wakeups.Posts.{is_buffer, is_side, is_lock, is_wait, is_asleep, is_inside, is_starting, is_lined, InStep}
 use Rattle.cpu.proofs.Wakeups.Posts.{is_caller, waiters_of, post_by, post_woken, post_moved, next_visit, visit_moved, marked}
 
@@ -263,11 +263,11 @@ module _ (b : BufId) (u : Tid) (k : Buffer) (g : Progress) (visit : Visit) (post
 
 start_inside : (b : BufId) (visit : Visit) → is_starting b visit ≡ true → (is_inside b visit ≡ true) × InStep visit Begins
 start_inside b Outside on = absurd (cc on)
-start_inside b (In d GotIt) on = (on, refl)
-start_inside b (In d (Trying side)) on = (on, tt)
-start_inside b (In d (Failed side)) on = absurd (cc (and_parts (is_buffer b d) false on).1)
-start_inside b (In d (Waiting side)) on = absurd (cc (and_parts (is_buffer b d) false on).1)
-start_inside b (In d (Owing r s)) on = absurd (cc (and_parts (is_buffer b d) false on).1)
+start_inside b (In d Begins) on = (on, refl)
+start_inside b (In d (HasEntered side)) on = (on, tt)
+start_inside b (In d (WasRefused side)) on = absurd (cc (and_parts (is_buffer b d) false on).1)
+start_inside b (Waiting d side) on = absurd (cc (and_parts (is_buffer b d) false on).1)
+start_inside b (In d (Owes r s)) on = absurd (cc (and_parts (is_buffer b d) false on).1)
 
 -- another thread owns the lock
 not_mine : {A : Type 0} (u t : Tid) (o : Option Tid) → o ≡ Some t → same_tid t u ≡ false → o ≡ Some u → A

@@ -28,12 +28,13 @@ IsPlaced setup visit Home = Unit {0}
 IsPlaced setup visit (InHand c) = c.0 < setup.cpus
 IsPlaced setup visit IsPending = Unit {0}
 IsPlaced setup visit (AtLock b) = b.0 < length setup.caps
-IsPlaced setup visit (AtWait b side) = (b.0 < length setup.caps) × (visit ≡ In b (Waiting side))
+IsPlaced setup visit (AtWait b side) = (b.0 < length setup.caps) × (visit ≡ Waiting b side)
 
 -- who is inside a call has a home
 abbrev pub HasHome : Setup → Tid → Visit → Type 0
 HasHome setup u Outside = Unit {0}
-HasHome setup u (In b call_phase) = nat_lt u.0 (length setup.homes) ≡ true
+HasHome setup u (In b progress) = nat_lt u.0 (length setup.homes) ≡ true
+HasHome setup u (Waiting b side) = nat_lt u.0 (length setup.homes) ≡ true
 
 pub record Placed (setup : Setup) (past : List (Section Name)) : Type 0 where
   pub posts : (u : Tid) → IsPlaced setup (visit setup u past) (post setup u past)
@@ -93,7 +94,8 @@ placed_waiters setup d TakeAll k visit within = within
 
 has_home : (setup : Setup) (u : Tid) (visit : Visit) → nat_lt u.0 (length setup.homes) ≡ true → HasHome setup u visit
 has_home setup u Outside known = tt
-has_home setup u (In b call_phase) known = known
+has_home setup u (In b progress) known = known
+has_home setup u (Waiting b side) known = known
 
 module _ (setup : Setup) (past : List (Section Name)) (placed : Placed setup past) (c : CpuId) (within : c.0 < setup.cpus)
     (d : BufId) (name : Name) (callers : CallersAre setup past c d name) where

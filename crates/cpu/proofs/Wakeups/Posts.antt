@@ -14,9 +14,9 @@ use Rattle.layer_traits.specs.declared.locked.Side.{Side}
 use Rattle.layer_traits.specs.declared.locked.Side.TheVariants.{Receivers, Senders}
 use Rattle.layer_traits.specs.Places.{is_thread, one_if}
 use Rattle.cpu.specs.Table.Blocks.{Buffer, Block, OfBuffer, OfPending, Name, AcqQ, Enter, TryPut, TryTake, Shut, WaitOn, SigRecv, SigSend, RelQ, Pend, TakeAll}
-use Rattle.cpu.specs.Table.Edits.{may_put, may_take, answer_of_buffer}
+use Rattle.cpu.specs.Table.Edits.{answer_of_buffer}
 use Rattle.cpu.specs.Table.Setups.{Setup, home_of}
-use Rattle.cpu.specs.Wakeups.Order.{Progress, Begins, WasRefused, Owes, MayTry, block_of}
+use Rattle.cpu.specs.Wakeups.Order.{Progress, Begins, HasEntered, WasRefused, Owes, MayTry, progress_after, block_of}
 
 -- where a thread is: at home (it runs, is ready or has ended), in the hand of a CPU, among the pending, or asleep at a buffer
 pub data Post : Type 0 where
@@ -26,18 +26,12 @@ pub data Post : Type 0 where
   AtLock : (buffer : BufId) → Post
   AtWait : (buffer : BufId) (side : Side) → Post
 
--- what a thread does inside a call: it has the lock and enters or closes next, tries next, tried in vain, waits, or owes these signals
-pub data CallPhase : Type 0 where
-  GotIt : CallPhase
-  Trying : (side : Side) → CallPhase
-  Failed : (side : Side) → CallPhase
-  Waiting : (side : Side) → CallPhase
-  Owing : (receivers senders : Bool) → CallPhase
-
--- whether a thread is inside a call, as its sections tell, at which buffer, and what it does there
+-- where a thread is in its call, as its sections tell: in none, at a buffer with what it has done there as the owner of the lock, or it waits
+-- on a side of the buffer. One that was woken has entered its line, whatever the new owner has done.
 pub data Visit : Type 0 where
   Outside : Visit
-  In : (buffer : BufId) (call_phase : CallPhase) → Visit
+  In : (buffer : BufId) (progress : Progress) → Visit
+  Waiting : (buffer : BufId) (side : Side) → Visit
 
 abbrev pub is_buffer : BufId → BufId → Bool
 is_buffer b d = b.0 == d.0
@@ -104,16 +98,14 @@ is_moved (AtWait d side) = false
 
 abbrev pub names : BufId → Visit → Bool
 names b Outside = false
-names b (In d call_phase) = is_buffer b d
+names b (In d progress) = is_buffer b d
+names b (Waiting d side) = is_buffer b d
 
 -- it owns the lock, or will own it before it does anything else
 abbrev pub goes_on : Visit → Bool
 goes_on Outside = false
-goes_on (In d GotIt) = true
-goes_on (In d (Trying side)) = true
-goes_on (In d (Failed side)) = true
-goes_on (In d (Owing receivers senders)) = true
-goes_on (In d (Waiting side)) = false
+goes_on (In d progress) = true
+goes_on (Waiting d side) = false
 
 abbrev pub is_inside : BufId → Visit → Bool
 is_inside b visit = names b visit && goes_on visit
@@ -121,11 +113,11 @@ is_inside b visit = names b visit && goes_on visit
 -- what it does first once it has the lock
 abbrev pub starts_here : Visit → Bool
 starts_here Outside = false
-starts_here (In d GotIt) = true
-starts_here (In d (Trying side)) = true
-starts_here (In d (Failed side)) = false
-starts_here (In d (Owing receivers senders)) = false
-starts_here (In d (Waiting side)) = false
+starts_here (In d Begins) = true
+starts_here (In d (HasEntered side)) = true
+starts_here (In d (WasRefused side)) = false
+starts_here (In d (Owes receivers senders)) = false
+starts_here (Waiting d side) = false
 
 abbrev pub is_starting : BufId → Visit → Bool
 is_starting b visit = names b visit && starts_here visit
@@ -133,11 +125,11 @@ is_starting b visit = names b visit && starts_here visit
 -- it stands in the line of this side
 abbrev pub stands : Side → Visit → Bool
 stands side Outside = false
-stands side (In d GotIt) = false
-stands side (In d (Trying other)) = is_side side other
-stands side (In d (Failed other)) = is_side side other
-stands side (In d (Waiting other)) = is_side side other
-stands side (In d (Owing receivers senders)) = false
+stands side (In d Begins) = false
+stands side (In d (HasEntered other)) = is_side side other
+stands side (In d (WasRefused other)) = is_side side other
+stands side (Waiting d other) = is_side side other
+stands side (In d (Owes receivers senders)) = false
 
 abbrev pub is_lined : BufId → Side → Visit → Bool
 is_lined b side visit = names b visit && stands side visit
@@ -145,11 +137,9 @@ is_lined b side visit = names b visit && stands side visit
 -- the owner's progress is what its visit says
 abbrev pub InStep : Visit → Progress → Type 0
 InStep Outside g = Unit {0}
-InStep (In d GotIt) g = g ≡ Begins
-InStep (In d (Trying side)) g = MayTry side g
-InStep (In d (Failed side)) g = g ≡ WasRefused side
-InStep (In d (Waiting side)) g = Unit {0}
-InStep (In d (Owing receivers senders)) g = g ≡ Owes receivers senders
+InStep (In d (HasEntered side)) g = MayTry side g
+InStep (In d progress) g = g ≡ progress
+InStep (Waiting d side) g = Unit {0}
 
 -- The folds.
 
@@ -215,27 +205,20 @@ post setup u (s ∷ past) = post_at setup s.cpu s.lock u s.edit (block_of setup 
 
 -- what a caller does after its section
 abbrev pub acquired_visit : BufId → Visit → Visit
-acquired_visit b Outside = In b GotIt
-acquired_visit b (In d (Waiting side)) = In b (Trying side)
+acquired_visit b Outside = In b Begins
+acquired_visit b (Waiting d side) = In b (HasEntered side)
 acquired_visit b (In d other) = In d other
 
-abbrev pub signalled : Side → Visit → Visit
-signalled Receivers (In d (Owing receivers senders)) = In d (Owing false senders)
-signalled Senders (In d (Owing receivers senders)) = In d (Owing receivers false)
-signalled side other = other
+-- a section that keeps the lock is one step of its owner's progress
+abbrev pub owners_visit : BufId → Name → Buffer → Visit → Visit
+owners_visit b name k (In d progress) = In b (progress_after name k progress)
+owners_visit b name k visit = visit
 
 abbrev pub next_visit : BufId → Name → Buffer → Visit → Visit
 next_visit b (AcqQ t) k visit = acquired_visit b visit
-next_visit b (Enter t side) k visit = In b (Trying side)
-next_visit b (TryPut t m) k visit = if may_put t k then In b (Owing true true) else In b (Failed Senders)
-next_visit b (TryTake t) k visit = if may_take t k then In b (Owing true true) else In b (Failed Receivers)
-next_visit b (Shut t) k visit = In b (Owing true true)
-next_visit b (WaitOn t side) k visit = In b (Waiting side)
-next_visit b (SigRecv t) k visit = signalled Receivers visit
-next_visit b (SigSend t) k visit = signalled Senders visit
+next_visit b (WaitOn t side) k visit = Waiting b side
 next_visit b (RelQ t) k visit = Outside
-next_visit b (Pend s) k visit = visit
-next_visit b TakeAll k visit = visit
+next_visit b name k visit = owners_visit b name k visit
 
 abbrev pub visit_moved : BufId → Tid → Name → Buffer → Visit → Visit
 visit_moved b u name k visit = if is_caller u name then next_visit b name k visit else visit
@@ -258,15 +241,15 @@ visit setup u (s ∷ past) = visit_at s.lock u s.edit (block_of setup s.lock pas
 -- the section is the one that is due to its caller
 abbrev pub IsDue : BufId → Name → Visit → Type 0
 IsDue b (AcqQ t) Outside = Unit {0}
-IsDue b (AcqQ t) (In d (Waiting side)) = d ≡ b
-IsDue b (Enter t side) (In d GotIt) = d ≡ b
-IsDue b (Shut t) (In d GotIt) = d ≡ b
-IsDue b (TryPut t m) (In d (Trying Senders)) = d ≡ b
-IsDue b (TryTake t) (In d (Trying Receivers)) = d ≡ b
-IsDue b (WaitOn t side) (In d (Failed other)) = (d ≡ b) × (other ≡ side)
-IsDue b (SigRecv t) (In d (Owing receivers senders)) = d ≡ b
-IsDue b (SigSend t) (In d (Owing receivers senders)) = d ≡ b
-IsDue b (RelQ t) (In d (Owing receivers senders)) = (d ≡ b) × (receivers ≡ false) × (senders ≡ false)
+IsDue b (AcqQ t) (Waiting d side) = d ≡ b
+IsDue b (Enter t side) (In d Begins) = d ≡ b
+IsDue b (Shut t) (In d Begins) = d ≡ b
+IsDue b (TryPut t m) (In d (HasEntered Senders)) = d ≡ b
+IsDue b (TryTake t) (In d (HasEntered Receivers)) = d ≡ b
+IsDue b (WaitOn t side) (In d (WasRefused other)) = (d ≡ b) × (other ≡ side)
+IsDue b (SigRecv t) (In d (Owes receivers senders)) = d ≡ b
+IsDue b (SigSend t) (In d (Owes receivers senders)) = d ≡ b
+IsDue b (RelQ t) (In d (Owes receivers senders)) = (d ≡ b) × (receivers ≡ false) × (senders ≡ false)
 IsDue b name visit = ⊥
 
 -- a thread is at home on a CPU

@@ -18,13 +18,16 @@ use Rattle.layer_traits.specs.Places.{is_thread, one_if, count_in}
 use Rattle.layer_traits.proofs.CountLemmas.{same_tid_sym, count_append}
 use Rattle.cpu.specs.Table.Blocks.{Buffer, Name, TryPut, TryTake, WaitOn, Pend, TakeAll, side_of, Reported, Done, WasClosed, NotYet, Answer}
 use Rattle.cpu.specs.Table.Edits.{may_put, may_take, report_of_put, report_of_take, answer_of_buffer, drawn_position}
-use Rattle.cpu.specs.Table.Setups.{Setup, CallStage, Acquires, Enters, Tries, Waits, AcquiresAgain, Signals, SignalsOwn}
-use Rattle.cpu.specs.Table.Setups.{Releases, Returns, Call, Thread, Private, thread_at, with_thread, home_of, stands_at}
+use Rattle.layer_traits.specs.declared.call_states.Stage.{Stage}
+use Rattle.layer_traits.specs.declared.call_states.Stage.TheVariants.{Idle, Acquires, Enters, Tries, Waits, AcquiresAgain, Signals, SignalsOwn, Releases}
+use Rattle.cpu.specs.Table.Setups.{Setup}
+use Rattle.cpu.specs.Table.Setups.{Call, Thread, Private, thread_at, with_thread, home_of, stands_at}
 use Rattle.cpu.specs.Table.Choice.{section_at, first_section, try_of, first_signal, second_signal, with_call}
 use Rattle.cpu.specs.Table.Choice.{with_guest, goes_to, recorded, recorded_entry, recorded_try, entry_of}
 use Rattle.cpu.specs.Table.Choice.{slept_if, woken, returned_at, returned_by, returned_in, settled, guest_after, after_call}
+use Rattle.cpu.specs.Wakeups.Order.{Begins, HasEntered, WasRefused, Owes}
 use Rattle.cpu.proofs.Wakeups.Lists.{refuted}
-use Rattle.cpu.proofs.Wakeups.Posts.{Post, Home, InHand, IsPending, AtLock, AtWait, GotIt, Trying, Failed, Owing, Visit, Outside, In}
+use Rattle.cpu.proofs.Wakeups.Posts.{Post, Home, InHand, IsPending, AtLock, AtWait, Visit, Outside, In}
 use Rattle.cpu.proofs.Wakeups.Posts.{is_home, is_hand, is_pending, caller_in, is_caller, waiters_of, post_slept}
 use Rattle.cpu.proofs.Wakeups.Posts.{post_moved, post_drained, post_pending, next_visit, visit_moved, is_local}
 use Rattle.cpu.proofs.Wakeups.Agreement.{owing_own, visit_of_stage, visit_of_call, is_last, is_done, seat, Agrees, IsSettled, at_same}
@@ -50,9 +53,9 @@ module _ (setup : Setup) (c : CpuId) where
       not_yet : is_done (thread_at p t).call ≡ false → IsSettled setup c p
       not_yet off u local is = refuted off (subst (λ v. is_done (thread_at p v).call ≡ true) (sym (same_tid_true t u (others_done u local is))) is)
 
-      by_stage : (call : Call) → (thread_at p t).call ≡ Some call → (stage : CallStage) → call.stage ≡ stage
+      by_stage : (call : Call) → (thread_at p t).call ≡ Some call → (stage : Stage) → call.stage ≡ stage
           → Agrees setup c (returned_at setup p t call stage) T P × IsSettled setup c (returned_at setup p t call stage)
-      by_stage call is Returns at =
+      by_stage call is Idle at =
           let local = (runs setup c p T P agrees t runs_now).0 in
           let known = within setup c p T P agrees t local in
           let x : Thread =
@@ -95,7 +98,7 @@ module _ (setup : Setup) (c : CpuId) where
 
 -- The stage of a call, and what its section tells.
 
-pub section_caller : (t : Tid) (call : Call) (stage : CallStage) → caller_in (section_at t call stage) ≡ Some t
+pub section_caller : (t : Tid) (call : Call) (stage : Stage) → caller_in (section_at t call stage) ≡ Some t
 section_caller t call stage = by_asks call.asks stage
   where
     by_side : (side : Side) → (caller_in (try_of t call side) ≡ Some t) × (caller_in (first_signal t side) ≡ Some t)
@@ -108,7 +111,7 @@ section_caller t call stage = by_asks call.asks stage
     by_first Receives = refl
     by_first Closes = refl
 
-    by_asks : (asks : Group) (stage : CallStage) → caller_in (section_at t call stage) ≡ Some t
+    by_asks : (asks : Group) (stage : Stage) → caller_in (section_at t call stage) ≡ Some t
     by_asks asks Acquires = refl
     by_asks asks Enters = by_first call.asks
     by_asks asks Tries = (by_side (side_of call.asks)).0
@@ -117,10 +120,10 @@ section_caller t call stage = by_asks call.asks stage
     by_asks asks Signals = (by_side (side_of call.asks)).1
     by_asks asks SignalsOwn = (by_side (side_of call.asks)).2
     by_asks asks Releases = refl
-    by_asks asks Returns = refl
+    by_asks asks Idle = refl
 
 -- whether the section is the last of its call
-abbrev pub is_release : CallStage → Bool
+abbrev pub is_release : Stage → Bool
 is_release Releases = true
 is_release Acquires = false
 is_release Enters = false
@@ -129,7 +132,7 @@ is_release Waits = false
 is_release AcquiresAgain = false
 is_release Signals = false
 is_release SignalsOwn = false
-is_release Returns = false
+is_release Idle = false
 
 -- the state after a section was heard: all but the call is as it was, and the call stands where its next visit says
 pub record Recorded (p q : Private) (t : Tid) (next : Visit) (ends : Bool) : Type 0 where
@@ -163,69 +166,69 @@ module _ (p : Private) (t : Tid) (known : t.0 < length p.threads) where
   module _ (c : CpuId) (call : Call) (k : Buffer) where
     at_entry : (asks : Group) → call.asks ≡ asks
         → Recorded p (recorded_entry c p t call asks (answer_of_buffer (first_section t asks) k).told) t
-        (next_visit call.buffer (first_section t asks) k (In call.buffer GotIt)) false
+        (next_visit call.buffer (first_section t asks) k (In call.buffer Begins)) false
     at_entry Sends is =
         let now : Call = record call { position = drawn_position Senders k; stage = Tries } in
-        subst (λ a. Recorded p (with_call p t (Some now)) t (In call.buffer (Trying (side_of a))) false) is (recorded_call now)
+        subst (λ a. Recorded p (with_call p t (Some now)) t (In call.buffer (HasEntered (side_of a))) false) is (recorded_call now)
     at_entry Receives is =
         let now : Call = record call { position = drawn_position Receivers k; stage = Tries } in
-        subst (λ a. Recorded p (with_call p t (Some now)) t (In call.buffer (Trying (side_of a))) false) is (recorded_call now)
+        subst (λ a. Recorded p (with_call p t (Some now)) t (In call.buffer (HasEntered (side_of a))) false) is (recorded_call now)
     at_entry Closes is =
         let now : Call = record call { position = k.closes } in
-        recorded_traced _ (In call.buffer (Owing true true)) false (p.trace ++ entry_of c t now k.effects call.message ∷ [])
+        recorded_traced _ (In call.buffer (Owes true true)) false (p.trace ++ entry_of c t now k.effects call.message ∷ [])
         (recorded_call (record now { effect = Some k.effects; stage = Signals }))
 
-    at_done : (op : ℕ) (m : Message) → Recorded p (recorded_try c p t call (Done op m)) t (In call.buffer (Owing true true)) false
+    at_done : (op : ℕ) (m : Message) → Recorded p (recorded_try c p t call (Done op m)) t (In call.buffer (Owes true true)) false
     at_done op m =
-        recorded_traced _ (In call.buffer (Owing true true)) false (p.trace ++ entry_of c t (record call { message = m }) op m ∷ [])
+        recorded_traced _ (In call.buffer (Owes true true)) false (p.trace ++ entry_of c t (record call { message = m }) op m ∷ [])
         (recorded_call (record call { message = m; effect = Some op; stage = Signals }))
 
-    at_closed : (op : ℕ) → Recorded p (recorded_try c p t call (WasClosed op)) t (In call.buffer (Owing true true)) false
+    at_closed : (op : ℕ) → Recorded p (recorded_try c p t call (WasClosed op)) t (In call.buffer (Owes true true)) false
     at_closed op =
-        recorded_traced _ (In call.buffer (Owing true true)) false (p.trace ++ entry_of c t (record call { closed = true }) op call.message ∷ [])
+        recorded_traced _ (In call.buffer (Owes true true)) false (p.trace ++ entry_of c t (record call { closed = true }) op call.message ∷ [])
         (recorded_call (record call { closed = true; effect = Some op; stage = Signals }))
 
     at_put : (closed : Bool) (op : ℕ) (m : Message) → Recorded p (recorded_try c p t call (report_of_put closed op m)) t (In call.buffer
-        (Owing true true)) false
+        (Owes true true)) false
     at_put true op m = at_closed op
     at_put false op m = at_done op m
 
-    at_take : (items : List Message) (op : ℕ) → Recorded p (recorded_try c p t call (report_of_take items op)) t (In call.buffer (Owing true true)) false
+    at_take : (items : List Message) (op : ℕ) → Recorded p (recorded_try c p t call (report_of_take items op)) t (In call.buffer (Owes true true)) false
     at_take [] op = at_closed op
     at_take (m ∷ items) op = at_done op m
 
-    at_try : (may : Bool) (told : Reported) → Recorded p (recorded_try c p t call told) t (In call.buffer (Owing true true)) false
+    at_try : (may : Bool) (told : Reported) → Recorded p (recorded_try c p t call told) t (In call.buffer (Owes true true)) false
         → Recorded p (recorded_try c p t call (if may then told else NotYet)) t
-        (if may then In call.buffer (Owing true true) else In call.buffer (Failed (side_of call.asks))) false
+        (In call.buffer (if may then Owes true true else WasRefused (side_of call.asks))) false
     at_try true told does = does
     at_try false told does = recorded_call (record call { stage = Waits })
 
     at_tries : (asks : Group) → call.asks ≡ asks
         → Recorded p (recorded_try c p t call (answer_of_buffer (try_of t call (side_of asks)) k).told) t
-        (next_visit call.buffer (try_of t call (side_of asks)) k (In call.buffer (Trying (side_of asks)))) false
+        (next_visit call.buffer (try_of t call (side_of asks)) k (In call.buffer (HasEntered (side_of asks)))) false
     at_tries Sends is =
         subst (λ a. Recorded p (recorded_try c p t call (answer_of_buffer (TryPut t call.message) k).told) t
-        (if may_put t k then In call.buffer (Owing true true) else In call.buffer (Failed (side_of a))) false) is
+        (In call.buffer (if may_put t k then Owes true true else WasRefused (side_of a))) false) is
         (at_try (may_put t k) (report_of_put k.closed k.effects call.message) (at_put k.closed k.effects call.message))
     at_tries Receives is =
         subst (λ a. Recorded p (recorded_try c p t call (answer_of_buffer (TryTake t) k).told) t
-        (if may_take t k then In call.buffer (Owing true true) else In call.buffer (Failed (side_of a))) false) is
+        (In call.buffer (if may_take t k then Owes true true else WasRefused (side_of a))) false) is
         (at_try (may_take t k) (report_of_take k.items k.effects) (at_take k.items k.effects))
     at_tries Closes is =
         subst (λ a. Recorded p (recorded_try c p t call (answer_of_buffer (TryPut t call.message) k).told) t
-        (if may_put t k then In call.buffer (Owing true true) else In call.buffer (Failed (side_of a))) false) is
+        (In call.buffer (if may_put t k then Owes true true else WasRefused (side_of a))) false) is
         (at_try (may_put t k) (report_of_put k.closed k.effects call.message) (at_put k.closed k.effects call.message))
 
-    signal_visit : (side : Side) → next_visit call.buffer (first_signal t side) k (In call.buffer (Owing true true)) ≡ In call.buffer (owing_own side)
+    signal_visit : (side : Side) → next_visit call.buffer (first_signal t side) k (In call.buffer (Owes true true)) ≡ In call.buffer (owing_own side)
     signal_visit Senders = refl
     signal_visit Receivers = refl
 
-    own_visit : (side : Side) → next_visit call.buffer (second_signal t side) k (In call.buffer (owing_own side)) ≡ In call.buffer (Owing false false)
+    own_visit : (side : Side) → next_visit call.buffer (second_signal t side) k (In call.buffer (owing_own side)) ≡ In call.buffer (Owes false false)
     own_visit Senders = refl
     own_visit Receivers = refl
 
     -- what a call hears at each stage
-    pub recorded_at : (stage : CallStage) → is_last stage ≡ false
+    pub recorded_at : (stage : Stage) → is_last stage ≡ false
         → Recorded p (recorded c p t call stage (answer_of_buffer (section_at t call stage) k).told) t
         (next_visit call.buffer (section_at t call stage) k (visit_of_stage call.buffer (side_of call.asks) stage)) (is_release stage)
     recorded_at Acquires going = recorded_call (record call { stage = Enters })
@@ -238,11 +241,11 @@ module _ (p : Private) (t : Tid) (known : t.0 < length p.threads) where
         (record call { stage = SignalsOwn }))
     recorded_at SignalsOwn going =
         subst (λ z. Recorded p (goes_to p t call Releases) t z false) (sym (own_visit (side_of call.asks))) (recorded_call (record call { stage = Releases }))
-    recorded_at Releases going = recorded_call (record call { stage = Returns })
-    recorded_at Returns going = absurd (cc going)
+    recorded_at Releases going = recorded_call (record call { stage = Idle })
+    recorded_at Idle going = absurd (cc going)
 
 -- the section after which a call is done puts nobody to sleep
-pub release_awake : (t : Tid) (call : Call) (k : Buffer) (stage : CallStage) → is_release stage ≡ true
+pub release_awake : (t : Tid) (call : Call) (k : Buffer) (stage : Stage) → is_release stage ≡ true
     → (answer_of_buffer (section_at t call stage) k).slept ≡ false
 release_awake t call k Releases on = refl
 release_awake t call k Acquires on = absurd (cc on)
@@ -252,7 +255,7 @@ release_awake t call k Waits on = absurd (cc on)
 release_awake t call k AcquiresAgain on = absurd (cc on)
 release_awake t call k Signals on = absurd (cc on)
 release_awake t call k SignalsOwn on = absurd (cc on)
-release_awake t call k Returns on = absurd (cc on)
+release_awake t call k Idle on = absurd (cc on)
 
 pub waiter_not_home : (d : BufId) (name : Name) → is_home (waiters_of d name) ≡ false
 waiter_not_home d (WaitOn t side) = refl

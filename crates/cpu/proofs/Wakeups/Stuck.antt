@@ -26,8 +26,10 @@ use Rattle.layer_traits.specs.Places.{is_thread, one_if, count_in}
 use Rattle.layer_traits.proofs.ListsLemmas.{counted_in}
 use Rattle.cpu.specs.Table.Blocks.{Buffer, OfBuffer, side_of}
 use Rattle.cpu.specs.Table.Edits.{line_of}
-use Rattle.cpu.specs.Table.Setups.{Setup, CallStage, Acquires, Enters, Tries, Waits, AcquiresAgain, Signals}
-use Rattle.cpu.specs.Table.Setups.{SignalsOwn, Releases, Returns, Call, Private, thread_at, home_of, stands_at}
+use Rattle.layer_traits.specs.declared.call_states.Stage.{Stage}
+use Rattle.layer_traits.specs.declared.call_states.Stage.TheVariants.{Idle, Acquires, Enters, Tries, Waits, AcquiresAgain, Signals, SignalsOwn, Releases}
+use Rattle.cpu.specs.Table.Setups.{Setup}
+use Rattle.cpu.specs.Table.Setups.{Call, Private, thread_at, home_of, stands_at}
 use Rattle.cpu.specs.Table.Choice.{at_hand}
 use Rattle.cpu.specs.Table.Steps.{Whole, block_at, halted_by, halted_at}
 use Rattle.cpu.specs.Wakeups.Order.{Progress, progress}
@@ -101,14 +103,15 @@ side_true Senders Receivers on = absurd (cc on)
 -- what a waiting visit is of
 abbrev buffer_or : BufId → Visit → BufId
 buffer_or b Outside = b
-buffer_or b (In d call_phase) = d
+buffer_or b (In d g) = d
+buffer_or b (Waiting d side) = d
 
 abbrev side_or : Side → Visit → Side
-side_or side (In d (Waiting other)) = other
+side_or side (Waiting d other) = other
 side_or side other = side
 
 abbrev is_waiting : Visit → Bool
-is_waiting (In d (Waiting other)) = true
+is_waiting (Waiting d other) = true
 is_waiting other = false
 
 owing_waits_not : (b : BufId) (side : Side) → is_waiting (In b (owing_own side)) ≡ false
@@ -116,11 +119,11 @@ owing_waits_not b Senders = refl
 owing_waits_not b Receivers = refl
 
 -- the call whose visit is a wait has to ask for the lock again
-waits_again : (call : Call) (b : BufId) (side : Side) → visit_of_call (Some call) ≡ In b (Waiting side)
+waits_again : (call : Call) (b : BufId) (side : Side) → visit_of_call (Some call) ≡ Waiting b side
     → (is_before call.stage ≡ true) × (call.buffer ≡ b) × (side_of call.asks ≡ side) × (call.stage ≡ AcquiresAgain)
 waits_again call b side is = by_stage call.stage refl is
   where
-    by_stage : (stage : CallStage) → call.stage ≡ stage → visit_of_stage call.buffer (side_of call.asks) stage ≡ In b (Waiting side)
+    by_stage : (stage : Stage) → call.stage ≡ stage → visit_of_stage call.buffer (side_of call.asks) stage ≡ Waiting b side
         → (is_before call.stage ≡ true) × (call.buffer ≡ b) × (side_of call.asks ≡ side) × (call.stage ≡ AcquiresAgain)
     by_stage AcquiresAgain at now = (ap is_before at, ap (buffer_or b) now, ap (side_or side) now, at)
     by_stage Acquires at now = absurd (cc now)
@@ -130,7 +133,7 @@ waits_again call b side is = by_stage call.stage refl is
     by_stage Signals at now = absurd (cc now)
     by_stage SignalsOwn at now = refuted (owing_waits_not call.buffer (side_of call.asks)) (ap is_waiting now)
     by_stage Releases at now = absurd (cc now)
-    by_stage Returns at now = absurd (cc now)
+    by_stage Idle at now = absurd (cc now)
 
 -- an instruction asks for one effect
 same_effect : (line : Instruction) (s : State) (a x : Group) (b d : BufId) (m n : Message)
@@ -147,11 +150,13 @@ same_effect Exit s a x b d m n one other = absurd one
 
 inside_known : (setup : Setup) (u : Tid) (b : BufId) (visit : Visit) → names b visit ≡ true → HasHome setup u visit → nat_lt u.0 (length setup.homes) ≡ true
 inside_known setup u b Outside on home = absurd (cc on)
-inside_known setup u b (In d call_phase) on home = home
+inside_known setup u b (In d g) on home = home
+inside_known setup u b (Waiting d side) on home = home
 
 same_named : (b d : BufId) (visit : Visit) → names b visit ≡ true → names d visit ≡ true → b ≡ d
 same_named b d Outside on other = absurd (cc on)
-same_named b d (In e call_phase) on other = buffer_true b e on ∙ sym (buffer_true d e other)
+same_named b d (In e g) on other = buffer_true b e on ∙ sym (buffer_true d e other)
+same_named b d (Waiting e side) on other = buffer_true b e on ∙ sym (buffer_true d e other)
 
 module _ (setup : Setup) (s : Whole) (homes : HomesExist setup) (kept : SystemInv setup s) (quiet : IsQuiet setup s) where
   good : Good setup (sections_in s.log)
@@ -249,7 +254,7 @@ module _ (setup : Setup) (s : Whole) (homes : HomesExist setup) (kept : SystemIn
 
           by_sleep : Asleep (post setup t (sections_in s.log)) → Some t ≡ None
           by_sleep (at_wait d side at) =
-              let placed : (d.0 < length setup.caps) × (visit setup t (sections_in s.log) ≡ In d (Waiting side)) =
+              let placed : (d.0 < length setup.caps) × (visit setup t (sections_in s.log) ≡ Waiting d side) =
               subst (IsPlaced setup (visit setup t (sections_in s.log))) at (kept.placed.posts t) in
               refuted (ap goes_on placed.1) inside.1
           by_sleep (at_lock d at) =
@@ -265,13 +270,13 @@ module _ (setup : Setup) (s : Whole) (homes : HomesExist setup) (kept : SystemIn
 
   -- so a live thread waits at its wait
   waits : (p : Private) (u : Tid) → IsLive setup s p u
-      → (b : BufId) × (side : Side) × (post setup u (sections_in s.log) ≡ AtWait b side) × (visit setup u (sections_in s.log) ≡ In b (Waiting side))
+      → (b : BufId) × (side : Side) × (post setup u (sections_in s.log) ≡ AtWait b side) × (visit setup u (sections_in s.log) ≡ Waiting b side)
   waits p u live = by_sleep (asleep p u live)
     where
       by_sleep : Asleep (post setup u (sections_in s.log))
-          → (b : BufId) × (side : Side) × (post setup u (sections_in s.log) ≡ AtWait b side) × (visit setup u (sections_in s.log) ≡ In b (Waiting side))
+          → (b : BufId) × (side : Side) × (post setup u (sections_in s.log) ≡ AtWait b side) × (visit setup u (sections_in s.log) ≡ Waiting b side)
       by_sleep (at_wait b side at) =
-          let placed : (b.0 < length setup.caps) × (visit setup u (sections_in s.log) ≡ In b (Waiting side)) =
+          let placed : (b.0 < length setup.caps) × (visit setup u (sections_in s.log) ≡ Waiting b side) =
           subst (IsPlaced setup (visit setup u (sections_in s.log))) at (kept.placed.posts u) in
           (b, side, at, placed.1)
       by_sleep (at_lock b at) =
@@ -287,7 +292,7 @@ module _ (setup : Setup) (s : Whole) (homes : HomesExist setup) (kept : SystemIn
   stuck_call : (p : Private) (u : Tid) → IsLive setup s p u → (call : Call) × ((thread_at p u).call ≡ Some call) × IsStuckCall setup s p u call
   stuck_call p u live = by_call (thread_at p u).call refl
     where
-      wait : (b : BufId) × (side : Side) × (post setup u (sections_in s.log) ≡ AtWait b side) × (visit setup u (sections_in s.log) ≡ In b (Waiting side))
+      wait : (b : BufId) × (side : Side) × (post setup u (sections_in s.log) ≡ AtWait b side) × (visit setup u (sections_in s.log) ≡ Waiting b side)
       wait = waits p u live
 
       turned : visit setup u (sections_in s.log) ≡ visit_of_call (thread_at p u).call
@@ -314,8 +319,8 @@ module _ (setup : Setup) (s : Whole) (homes : HomesExist setup) (kept : SystemIn
               → (k : Buffer) (m : Message) (e : Kind) → group_of e ≡ call.asks
               → block_at setup (AtBuffer call.buffer) s.log ≡ Some (OfBuffer k) → Allows k e m → ⊥
           refused call line same_buffer same_side k m e asks block allowed =
-              let mine : visit setup u (sections_in s.log) ≡ In call.buffer (Waiting (side_of call.asks)) =
-              wait.3 ∙ (λ i. In (sym same_buffer i) (Waiting (sym same_side i))) in
+              let mine : visit setup u (sections_in s.log) ≡ Waiting call.buffer (side_of call.asks) =
+              wait.3 ∙ (λ i. Waiting (sym same_buffer i) (sym same_side i)) in
               let one : marked u (is_lined call.buffer (side_of call.asks) (visit setup u (sections_in s.log))) ≡ 1 =
               (λ i. one_if (small u live.known i && is_lined call.buffer (side_of call.asks) (mine i)))
               ∙ (λ i. one_if (buffer_self call.buffer i && side_self (side_of call.asks) i)) in
