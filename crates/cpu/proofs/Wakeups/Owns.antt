@@ -7,13 +7,16 @@ use Rattle.std.proofs.Math.Bool.{and-true}
 use Rattle.event_log.specs.declared.ids.CpuId.{CpuId}
 use Rattle.event_log.specs.declared.ids.Tid.{Tid}
 use Rattle.event_log.specs.declared.ids.BufId.{BufId}
+use Rattle.event_log.specs.declared.ids.LockId.TheVariants.{Buffer as AtBuffer}
 use Rattle.event_log.specs.declared.ids.TheConstants.{THREADS}
 use Rattle.event_log.specs.Messages.{Message}
 use Rattle.thread_blocks.specs.Queues.{same_tid, is_in, first, rest}
 use Rattle.thread_blocks.proofs.Members.{same_tid_self}
 use Rattle.layer_traits.specs.declared.locked.Side.{Side}
 use Rattle.layer_traits.specs.declared.locked.Side.TheVariants.{Receivers, Senders}
-use Rattle.layer_traits.specs.Places.{is_thread, one_if, count_in}
+use Rattle.layer_traits.specs.declared.moves.WaitList.{WaitList}
+use Rattle.layer_traits.specs.declared.moves.WaitList.TheVariants as wait_list
+use Rattle.layer_traits.specs.Places.{Where, Home, Asleep, At, is_thread, one_if, count_in}
 use Rattle.layer_traits.specs.Sleeping.{joined}
 use Rattle.layer_traits.specs.BufferBlocks.{may_join, is_first}
 use Rattle.layer_traits.proofs.CountLemmas.{count_append, not_counted}
@@ -24,11 +27,11 @@ use Rattle.cpu.specs.Table.Setups.{Setup}
 use Rattle.cpu.specs.Wakeups.Order.{Progress, Begins, HasEntered, WasRefused, Owes, progress_after}
 use Rattle.cpu.specs.Wakeups.Order.{receivers_signalled, senders_signalled, MayTry, IsOwing, MayEdit}
 use Rattle.cpu.proofs.Wakeups.Lists.{refuted, first_is}
-use Rattle.cpu.proofs.Wakeups.Posts.{Post, Home, AtLock, AtWait, Waiting, Visit, Outside, In}
-use Rattle.cpu.proofs.Wakeups.Posts.{is_buffer, is_lock, is_wait, names, goes_on, is_inside, starts_here, stands, is_lined, InStep}
+use Rattle.cpu.proofs.Wakeups.Posts.{Waiting, Visit, Outside, In}
+use Rattle.cpu.proofs.Wakeups.Posts.{is_buffer, sleeps_in, list_of, names, goes_on, is_inside, starts_here, stands, is_lined, InStep}
 use Rattle.cpu.proofs.Wakeups.Posts.{caller_in, is_caller, waiters_of, post_woken, post_slept}
 use Rattle.cpu.proofs.Wakeups.Posts.{post_moved, acquired_visit, next_visit, visit_moved, IsDue, marked}
-use Rattle.cpu.proofs.Wakeups.Pairs.{Pair, marked_none, marked_most, buffer_self, grown_list, first_left, signal_left, front_counted, woken_sleeps}
+use Rattle.cpu.proofs.Wakeups.Pairs.{Pair, marked_none, marked_most, buffer_self, sleeps_here, grown_list, first_left, signal_left, front_counted, woken_sleeps}
 
 -- where the section that is due to a thread may come, it is in order
 inside_owns : (b : BufId) (t : Tid) (k : Buffer) (g : Progress) (d : BufId) (progress : Progress)
@@ -86,7 +89,7 @@ module _ (b : BufId) (u : Tid) where
 
   own_acquire : (k : Buffer) (g : Progress) (o : Option Tid) (visit : Visit) → k.busy ≡ o
       → (k.busy ≡ None → g ≡ Begins) → IsDue b (AcqQ u) visit → Pair b u k g visit Home
-      → Pair b u (acquired u o k) g (acquired_visit b visit) (if (answer_of_acquire o).slept then AtLock b else Home)
+      → Pair b u (acquired u o k) g (acquired_visit b visit) (if (answer_of_acquire o).slept then Asleep (At (AtBuffer b) wait_list.Sleepers) else Home)
   own_acquire k g None Outside is idle due pair = record {
     owner = λ e. (and_from (is_buffer b b) true (buffer_self b) refl, idle is, refl);
     inside = λ ins awake. refl;
@@ -111,11 +114,11 @@ module _ (b : BufId) (u : Tid) where
       }
   own_acquire k g (Some owner) Outside is idle due pair = record {
     owner = λ e. absurd (not_outside b u k g Outside refl pair e);
-    inside = λ ins awake. refuted awake (buffer_self b);
+    inside = λ ins awake. refuted awake (sleeps_here b wait_list.Sleepers);
     starts = λ on. and_from (is_buffer b b) true (buffer_self b) refl;
-    sleepers = grown_list u k.sleepers (no_sleepers k g Outside pair) ∙ ap (marked u) (sym (buffer_self b));
-    senders = pair.senders;
-    receivers = pair.receivers;
+    sleepers = grown_list u k.sleepers (no_sleepers k g Outside pair) ∙ ap (marked u) (sym (sleeps_here b wait_list.Sleepers));
+    senders = pair.senders ∙ ap (marked u) (sym (and_right (is_buffer b b) false refl));
+    receivers = pair.receivers ∙ ap (marked u) (sym (and_right (is_buffer b b) false refl));
     send_line = pair.send_line ∙ marked_none u false refl ∙ sym (marked_none u (is_buffer b b && false) (and_right (is_buffer b b) false refl));
     receive_line = pair.receive_line ∙ marked_none u false refl ∙ sym (marked_none u (is_buffer b b && false) (and_right (is_buffer b b) false refl));
   }
@@ -123,11 +126,11 @@ module _ (b : BufId) (u : Tid) where
       let pair : Pair b u k g (Waiting b side) Home = subst (λ x. Pair b u k g (Waiting x side) Home) due was in
       record {
         owner = λ e. absurd (not_outside b u k g (Waiting b side) refl pair e);
-        inside = λ ins awake. refuted awake (buffer_self b);
+        inside = λ ins awake. refuted awake (sleeps_here b wait_list.Sleepers);
         starts = λ on. and_from (is_buffer b b) true (buffer_self b) refl;
-        sleepers = grown_list u k.sleepers (no_sleepers k g (Waiting b side) pair) ∙ ap (marked u) (sym (buffer_self b));
-        senders = pair.senders;
-        receivers = pair.receivers;
+        sleepers = grown_list u k.sleepers (no_sleepers k g (Waiting b side) pair) ∙ ap (marked u) (sym (sleeps_here b wait_list.Sleepers));
+        senders = pair.senders ∙ ap (marked u) (sym (and_right (is_buffer b b) false refl));
+        receivers = pair.receivers ∙ ap (marked u) (sym (and_right (is_buffer b b) false refl));
         send_line = pair.send_line;
         receive_line = pair.receive_line;
       }
@@ -150,7 +153,7 @@ module _ (b : BufId) (u : Tid) where
     receive_line = in_receives;
   }
 
-  own_items : (k : Buffer) (g : Progress) (visit : Visit) (x : Post) (items : List Message) (e s r : ℕ) → Pair b u k g visit x
+  own_items : (k : Buffer) (g : Progress) (visit : Visit) (x : Where) (items : List Message) (e s r : ℕ) → Pair b u k g visit x
       → Pair b u (record k { items = items; effects = e; send_positions = s; receive_positions = r }) g visit x
   own_items k g visit x items e s r pair = record {
     owner = pair.owner;
@@ -254,9 +257,9 @@ module _ (b : BufId) (u : Tid) where
       }
 
   -- the thread gives the lock back, and is inside no longer
-  own_release : (k : Buffer) (g : Progress) (visit next : Visit) (x : Post) → Pair b u k g visit Home → is_inside b next ≡ false → is_lock b x ≡ false
+  own_release : (k : Buffer) (g : Progress) (visit next : Visit) (x : Where) → Pair b u k g visit Home → is_inside b next ≡ false → sleeps_in b wait_list.Sleepers x ≡ false
       → count_in u k.send_line ≡ marked u (is_lined b Senders next) → count_in u k.receive_line ≡ marked u (is_lined b Receivers next)
-      → (sends receives : List Tid) → count_in u sends ≡ marked u (is_wait b Senders x) → count_in u receives ≡ marked u (is_wait b Receivers x)
+      → (sends receives : List Tid) → count_in u sends ≡ marked u (sleeps_in b wait_list.Senders x) → count_in u receives ≡ marked u (sleeps_in b wait_list.Receivers x)
       → Pair b u (released (record k { waiting_senders = sends; waiting_receivers = receives })) Begins next x
   own_release k g visit next x pair outside off in_sends in_receives sends receives now_ws now_wr = record {
     owner = λ e. refuted (not_first k.sleepers (no_sleepers k g visit pair)) (ap (is_thread u) e ∙ same_tid_self u);
@@ -264,7 +267,7 @@ module _ (b : BufId) (u : Tid) where
     starts = λ on. refuted off on;
     sleepers = first_left u k.sleepers (subst (λ n. n ≤ 1) (sym pair.sleepers) (marked_most u false))
         ∙ ap (λ d. if d then 0 else count_in u k.sleepers) (not_first k.sleepers (no_sleepers k g visit pair))
-        ∙ no_sleepers k g visit pair ∙ sym (marked_none u (is_lock b x) off);
+        ∙ no_sleepers k g visit pair ∙ sym (marked_none u (sleeps_in b wait_list.Sleepers x) off);
     senders = now_ws;
     receivers = now_wr;
     send_line = in_sends;
@@ -272,14 +275,14 @@ module _ (b : BufId) (u : Tid) where
   }
 
   own_wait : (k : Buffer) (g : Progress) (side : Side) → Pair b u k g (In b (WasRefused side)) Home
-      → Pair b u (released (waiting u side k)) Begins (Waiting b side) (AtWait b side)
+      → Pair b u (released (waiting u side k)) Begins (Waiting b side) (Asleep (At (AtBuffer b) (list_of side)))
   own_wait k g Senders pair =
-      own_release k g (In b (WasRefused Senders)) (Waiting b Senders) (AtWait b Senders) pair (and_right (is_buffer b b) false refl) refl
+      own_release k g (In b (WasRefused Senders)) (Waiting b Senders) (Asleep (At (AtBuffer b) wait_list.Senders)) pair (and_right (is_buffer b b) false refl) (and_right (is_buffer b b) false refl)
       pair.send_line pair.receive_line (joined u k.waiting_senders) k.waiting_receivers
       (grown_list u k.waiting_senders (no_senders k g (In b (WasRefused Senders)) pair) ∙ ap (marked u) (sym (and_from (is_buffer b b) true (buffer_self b) refl)))
       (no_receivers k g (In b (WasRefused Senders)) pair ∙ sym (marked_none u (is_buffer b b && false) (and_right (is_buffer b b) false refl)))
   own_wait k g Receivers pair =
-      own_release k g (In b (WasRefused Receivers)) (Waiting b Receivers) (AtWait b Receivers) pair (and_right (is_buffer b b) false refl) refl
+      own_release k g (In b (WasRefused Receivers)) (Waiting b Receivers) (Asleep (At (AtBuffer b) wait_list.Receivers)) pair (and_right (is_buffer b b) false refl) (and_right (is_buffer b b) false refl)
       pair.send_line pair.receive_line k.waiting_senders (joined u k.waiting_receivers)
       (no_senders k g (In b (WasRefused Receivers)) pair ∙ sym (marked_none u (is_buffer b b && false) (and_right (is_buffer b b) false refl)))
       (grown_list u k.waiting_receivers (no_receivers k g (In b (WasRefused Receivers)) pair)
@@ -323,7 +326,7 @@ module _ (b : BufId) (u : Tid) where
       (answer_of_buffer name k).slept then waiters_of b name else Home)
   own_at (AcqQ t) k g visit is idle may due pair =
       subst (λ v. IsDue b (AcqQ v) visit → Pair b u (acquired v k.busy k) g (acquired_visit b visit)
-      (if (answer_of_acquire k.busy).slept then AtLock b else Home))
+      (if (answer_of_acquire k.busy).slept then Asleep (At (AtBuffer b) wait_list.Sleepers) else Home))
       (same_Some u t (sym is)) (λ own. own_acquire k g k.busy visit refl idle own pair) due
   own_at (Enter t side) k g (In d Begins) is idle may due pair =
       let at_b : Pair b u k g (In b Begins) Home = subst (λ x. Pair b u k g (In x Begins) Home) due pair in
@@ -347,7 +350,7 @@ module _ (b : BufId) (u : Tid) where
       (own_take k g (may_take u k) refl (subst (λ v. k.busy ≡ Some v) (sym same) may.0) at_b)
   own_at (WaitOn t side) k g (In d (WasRefused other)) is idle may due pair =
       let at_b : Pair b u k g (In b (WasRefused side)) Home = subst (λ x. x) (λ i. Pair b u k g (In (due.0 i) (WasRefused (due.1 i))) Home) pair in
-      subst (λ v. Pair b u (released (waiting v side k)) Begins (Waiting b side) (AtWait b side)) (same_Some u t (sym is)) (own_wait k g side at_b)
+      subst (λ v. Pair b u (released (waiting v side k)) Begins (Waiting b side) (Asleep (At (AtBuffer b) (list_of side)))) (same_Some u t (sym is)) (own_wait k g side at_b)
   own_at (SigRecv t) k g (In d (Owes r s)) is idle may due pair =
       let at_b : Pair b u k g (In b (Owes r s)) Home = subst (λ x. Pair b u k g (In x (Owes r s)) Home) due pair in
       let owner : k.busy ≡ Some u = may.0 ∙ is in
@@ -373,7 +376,7 @@ module _ (b : BufId) (u : Tid) where
       false_from_ne_true (is_thread u (answer_of_buffer name k).woke) (λ on. absurd (cc (woken_sleeps b u k g visit Home pair name on).1))
 
   -- the caller's own section keeps the pair
-  pub own_pair : (setup : Setup) (c : CpuId) (name : Name) (k : Buffer) (g : Progress) (visit : Visit) (post : Post) → caller_in name ≡ Some u → post ≡ Home
+  pub own_pair : (setup : Setup) (c : CpuId) (name : Name) (k : Buffer) (g : Progress) (visit : Visit) (post : Where) → caller_in name ≡ Some u → post ≡ Home
       → (k.busy ≡ None → g ≡ Begins) → MayEdit name k g → IsDue b name visit → Pair b u k g visit post
       → Pair b u (edited_buffer name k) (progress_after name k g) (visit_moved b u name k visit)
       (post_moved setup c b u name (answer_of_buffer name k).slept (answer_of_buffer name k).woke post)
@@ -413,7 +416,7 @@ away b d (RelQ t) k (In e (Owes r s)) off due = record { before = subst (λ x. i
 away b d name k visit off due = absurd due
 
 -- the pair of a thread whose visit is elsewhere
-pub visit_apart : (b : BufId) (u : Tid) (k : Buffer) (g : Progress) (visit next : Visit) (post : Post)
+pub visit_apart : (b : BufId) (u : Tid) (k : Buffer) (g : Progress) (visit next : Visit) (post : Where)
     → Apart b visit next → Pair b u k g visit post → Pair b u k g next post
 visit_apart b u k g visit next post apart pair = record {
   owner = λ e. refuted (ap (λ n. n && goes_on visit) apart.before) (pair.owner e).0;
@@ -427,16 +430,16 @@ visit_apart b u k g visit next post apart pair = record {
       pair.receive_line ∙ ap (λ n. marked u (n && stands Receivers visit)) apart.before ∙ ap (λ n. marked u (n && stands Receivers next)) (sym apart.after);
 }
 
--- the pair of a thread whose post bears the same marks of the buffer
-pub post_apart : (b : BufId) (u : Tid) (k : Buffer) (g : Progress) (visit : Visit) (post next : Post) → is_lock b next ≡ is_lock b post
-    → ((side : Side) → is_wait b side next ≡ is_wait b side post) → Pair b u k g visit post → Pair b u k g visit next
-post_apart b u k g visit post next lock wait pair = record {
-  owner = λ e. ((pair.owner e).0, (pair.owner e).1, lock ∙ (pair.owner e).2);
-  inside = λ ins awake. pair.inside ins (sym lock ∙ awake);
-  starts = λ on. pair.starts (sym lock ∙ on);
-  sleepers = pair.sleepers ∙ ap (marked u) (sym lock);
-  senders = pair.senders ∙ ap (marked u) (sym (wait Senders));
-  receivers = pair.receivers ∙ ap (marked u) (sym (wait Receivers));
+-- the pair of a thread whose place bears the same marks of the buffer
+pub post_apart : (b : BufId) (u : Tid) (k : Buffer) (g : Progress) (visit : Visit) (post next : Where)
+    → ((list : WaitList) → sleeps_in b list next ≡ sleeps_in b list post) → Pair b u k g visit post → Pair b u k g visit next
+post_apart b u k g visit post next same pair = record {
+  owner = λ e. ((pair.owner e).0, (pair.owner e).1, same wait_list.Sleepers ∙ (pair.owner e).2);
+  inside = λ ins awake. pair.inside ins (sym (same wait_list.Sleepers) ∙ awake);
+  starts = λ on. pair.starts (sym (same wait_list.Sleepers) ∙ on);
+  sleepers = pair.sleepers ∙ ap (marked u) (sym (same wait_list.Sleepers));
+  senders = pair.senders ∙ ap (marked u) (sym (same wait_list.Senders));
+  receivers = pair.receivers ∙ ap (marked u) (sym (same wait_list.Receivers));
   send_line = pair.send_line;
   receive_line = pair.receive_line;
 }

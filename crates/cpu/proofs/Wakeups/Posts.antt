@@ -7,24 +7,19 @@ use Rattle.event_log.specs.declared.ids.BufId.{BufId}
 use Rattle.event_log.specs.declared.ids.LockId.{LockId}
 use Rattle.event_log.specs.declared.ids.LockId.TheVariants.{Pending, Buffer as AtBuffer}
 use Rattle.event_log.specs.declared.ids.TheConstants.{THREADS}
-use Rattle.event_log.specs.History.{same_cpu}
+use Rattle.event_log.specs.History.{same_cpu, same_lock}
 use Rattle.event_log.specs.Sections.{Section}
 use Rattle.thread_blocks.specs.Queues.{same_tid}
 use Rattle.layer_traits.specs.declared.locked.Side.{Side}
 use Rattle.layer_traits.specs.declared.locked.Side.TheVariants.{Receivers, Senders}
-use Rattle.layer_traits.specs.Places.{is_thread, one_if}
+use Rattle.layer_traits.specs.declared.moves.WaitList.{WaitList}
+use Rattle.layer_traits.specs.declared.moves.WaitList.TheVariants as wait_list
+use Rattle.layer_traits.specs.ListsAgree.{is_at}
+use Rattle.layer_traits.specs.Places.{Where, Home, Hand, Pend as IsPending, Asleep, At, wait_channel_of, is_thread, one_if}
 use Rattle.cpu.specs.Table.Blocks.{Buffer, Block, OfBuffer, OfPending, Name, AcqQ, Enter, TryPut, TryTake, Shut, WaitOn, SigRecv, SigSend, RelQ, Pend, TakeAll}
 use Rattle.cpu.specs.Table.Edits.{answer_of_buffer}
 use Rattle.cpu.specs.Table.Setups.{Setup, home_of}
 use Rattle.cpu.specs.Wakeups.Order.{Progress, Begins, HasEntered, WasRefused, Owes, MayTry, progress_after, block_of}
-
--- where a thread is: at home (it runs, is ready or has ended), in the hand of a CPU, among the pending, or asleep at a buffer
-pub data Post : Type 0 where
-  Home : Post
-  InHand : (cpu : CpuId) → Post
-  IsPending : Post
-  AtLock : (buffer : BufId) → Post
-  AtWait : (buffer : BufId) (side : Side) → Post
 
 -- where a thread is in its call, as its sections tell: in none, at a buffer with what it has done there as the owner of the lock, or it waits
 -- on a side of the buffer. One that was woken has entered its line, whatever the new owner has done.
@@ -42,57 +37,36 @@ is_side Senders Senders = true
 is_side Receivers Senders = false
 is_side Senders Receivers = false
 
--- Marks of a post.
+-- Marks of a place.
 
-abbrev pub is_home : Post → Bool
-is_home Home = true
-is_home (InHand c) = false
-is_home IsPending = false
-is_home (AtLock b) = false
-is_home (AtWait b side) = false
+-- the waiting list of a side
+abbrev pub list_of : Side → WaitList
+list_of Receivers = wait_list.Receivers
+list_of Senders = wait_list.Senders
 
-abbrev pub is_hand : CpuId → Post → Bool
-is_hand c (InHand d) = same_cpu d c
-is_hand c Home = false
-is_hand c IsPending = false
-is_hand c (AtLock b) = false
-is_hand c (AtWait b side) = false
+-- it sleeps in this list of the buffer
+abbrev pub sleeps_in : BufId → WaitList → Where → Bool
+sleeps_in b list x = is_at (AtBuffer b) list (wait_channel_of x)
 
-abbrev pub is_pending : Post → Bool
-is_pending IsPending = true
+-- it sleeps at the buffer
+abbrev pub sleeps_at : BufId → Where → Bool
+sleeps_at b Home = false
+sleeps_at b (Hand c) = false
+sleeps_at b (IsPending q) = false
+sleeps_at b (Asleep (At lock list)) = same_lock lock (AtBuffer b)
+
+abbrev pub is_pending : Where → Bool
 is_pending Home = false
-is_pending (InHand c) = false
-is_pending (AtLock b) = false
-is_pending (AtWait b side) = false
-
-abbrev pub is_lock : BufId → Post → Bool
-is_lock b (AtLock d) = is_buffer b d
-is_lock b Home = false
-is_lock b (InHand c) = false
-is_lock b IsPending = false
-is_lock b (AtWait d side) = false
-
-abbrev pub is_wait : BufId → Side → Post → Bool
-is_wait b side (AtWait d other) = is_buffer b d && is_side side other
-is_wait b side Home = false
-is_wait b side (InHand c) = false
-is_wait b side IsPending = false
-is_wait b side (AtLock d) = false
-
-abbrev pub is_asleep : Post → Bool
-is_asleep (AtLock d) = true
-is_asleep (AtWait d side) = true
-is_asleep Home = false
-is_asleep (InHand c) = false
-is_asleep IsPending = false
+is_pending (Hand c) = false
+is_pending (IsPending q) = true
+is_pending (Asleep p) = false
 
 -- it was woken by another CPU and is not at home yet
-abbrev pub is_moved : Post → Bool
-is_moved (InHand c) = true
-is_moved IsPending = true
+abbrev pub is_moved : Where → Bool
 is_moved Home = false
-is_moved (AtLock d) = false
-is_moved (AtWait d side) = false
+is_moved (Hand c) = true
+is_moved (IsPending q) = true
+is_moved (Asleep p) = false
 
 -- Marks of a visit.
 
@@ -161,45 +135,47 @@ abbrev pub is_caller : Tid → Name → Bool
 is_caller u name = is_thread u (caller_in name)
 
 -- where a caller sleeps
-abbrev pub waiters_of : BufId → Name → Post
-waiters_of b (WaitOn t side) = AtWait b side
-waiters_of b name = AtLock b
+abbrev pub list_by : Name → WaitList
+list_by (WaitOn t side) = list_of side
+list_by name = wait_list.Sleepers
 
-abbrev pub post_by : Bool → CpuId → Post
-post_by here c = if here then Home else InHand c
+abbrev pub waiters_of : BufId → Name → Where
+waiters_of b name = Asleep (At (AtBuffer b) (list_by name))
+
+abbrev pub post_by : Bool → CpuId → Where
+post_by here c = if here then Home else Hand c
 
 -- a woken thread is at home at once, or in the hand of the CPU that woke it
-abbrev pub post_woken : Setup → CpuId → Tid → Post
+abbrev pub post_woken : Setup → CpuId → Tid → Where
 post_woken setup c u = post_by (same_cpu (home_of setup u) c) c
 
-abbrev pub post_slept : BufId → Tid → Name → Bool → Post → Post
+abbrev pub post_slept : BufId → Tid → Name → Bool → Where → Where
 post_slept b u name slept x = if slept && is_caller u name then waiters_of b name else x
 
-abbrev pub post_moved : Setup → CpuId → BufId → Tid → Name → Bool → Option Tid → Post → Post
+abbrev pub post_moved : Setup → CpuId → BufId → Tid → Name → Bool → Option Tid → Where → Where
 post_moved setup c b u name slept woke x = if is_thread u woke then post_woken setup c u else post_slept b u name slept x
 
-abbrev pub post_drained : Post → Post
-post_drained IsPending = Home
+abbrev pub post_drained : Where → Where
 post_drained Home = Home
-post_drained (InHand c) = InHand c
-post_drained (AtLock b) = AtLock b
-post_drained (AtWait b side) = AtWait b side
+post_drained (Hand c) = Hand c
+post_drained (IsPending q) = Home
+post_drained (Asleep p) = Asleep p
 
-abbrev pub post_pending : Setup → CpuId → Tid → Name → Post → Post
-post_pending setup d u (Pend s) x = if same_tid s u then IsPending else x
+abbrev pub post_pending : Setup → CpuId → Tid → Name → Where → Where
+post_pending setup d u (Pend s) x = if same_tid s u then IsPending d else x
 post_pending setup d u TakeAll x = if same_cpu (home_of setup u) d then post_drained x else x
 post_pending setup d u name x = x
 
-abbrev pub post_buffer : Setup → CpuId → BufId → Tid → Name → Option Block → Post → Post
+abbrev pub post_buffer : Setup → CpuId → BufId → Tid → Name → Option Block → Where → Where
 post_buffer setup c b u name (Some (OfBuffer k)) x = post_moved setup c b u name (answer_of_buffer name k).slept (answer_of_buffer name k).woke x
 post_buffer setup c b u name (Some (OfPending threads)) x = x
 post_buffer setup c b u name None x = x
 
-abbrev pub post_at : Setup → CpuId → LockId → Tid → Name → Option Block → Post → Post
+abbrev pub post_at : Setup → CpuId → LockId → Tid → Name → Option Block → Where → Where
 post_at setup c (AtBuffer b) u name o x = post_buffer setup c b u name o x
 post_at setup c (Pending d) u name o x = post_pending setup d u name x
 
-abbrev pub post : Setup → Tid → List (Section Name) → Post
+abbrev pub post : Setup → Tid → List (Section Name) → Where
 post setup u [] = Home
 post setup u (s ∷ past) = post_at setup s.cpu s.lock u s.edit (block_of setup s.lock past) (post setup u past)
 
@@ -257,7 +233,7 @@ abbrev pub is_local : Setup → CpuId → Tid → Bool
 is_local setup c u = same_cpu (home_of setup u) c && nat_lt u.0 (length setup.homes)
 
 -- the caller of a section runs on its CPU, and the section is due to it
-pub record IsCallers (setup : Setup) (c : CpuId) (b : BufId) (name : Name) (t : Tid) (post : Post) (visit : Visit) : Type 0 where
+pub record IsCallers (setup : Setup) (c : CpuId) (b : BufId) (name : Name) (t : Tid) (post : Where) (visit : Visit) : Type 0 where
   pub local : is_local setup c t ≡ true
   pub here : post ≡ Home
   pub due : IsDue b name visit
@@ -267,7 +243,7 @@ MayComeBy setup past c b name None = ⊥
 MayComeBy setup past c b name (Some t) = IsCallers setup c b name t (post setup t past) (visit setup t past)
 
 abbrev pub MayComeTo : Setup → List (Section Name) → CpuId → CpuId → Name → Type 0
-MayComeTo setup past c d (Pend s) = (post setup s past ≡ InHand c) × (home_of setup s ≡ d)
+MayComeTo setup past c d (Pend s) = (post setup s past ≡ Hand c) × (home_of setup s ≡ d)
 MayComeTo setup past c d TakeAll = c ≡ d
 MayComeTo setup past c d name = ⊥
 

@@ -14,7 +14,7 @@ use Rattle.event_log.proofs.Same.{same_cpu_true}
 use Rattle.event_log.proofs.Exclusion.{phase_own, phase_other}
 use Rattle.layer_traits.specs.declared.steps.Step.{Step}
 use Rattle.layer_traits.specs.declared.steps.Step.TheVariants.{Stepped, Halted}
-use Rattle.layer_traits.specs.Places.{is_thread, one_if, count_in}
+use Rattle.layer_traits.specs.Places.{Home, is_thread, one_if, count_in}
 use Rattle.layer_traits.specs.Plans.{is_in_section, at_give}
 use Rattle.layer_traits.specs.Along.{Outcome}
 use Rattle.layer_traits.specs.Passes.{or_else}
@@ -28,7 +28,7 @@ use Rattle.cpu.specs.Wakeups.Order.{block_of}
 use Rattle.cpu.specs.Wakeups.Lost.{SystemsKeepOrder, SystemsLoseNoWakeUp, FreeLocksHaveNoSleepers}
 use Rattle.cpu.proofs.Wakeups.Lists.{refuted}
 use Rattle.cpu.proofs.Wakeups.Ordered.{buffer_awake, order_loses_no_wake_up}
-use Rattle.cpu.proofs.Wakeups.Posts.{Home, is_local, post, visit, MayComeAt}
+use Rattle.cpu.proofs.Wakeups.Posts.{is_local, post, visit, MayComeAt}
 use Rattle.cpu.proofs.Wakeups.Called.{Good, good_none, good_step}
 use Rattle.cpu.proofs.Wakeups.Agreement.{visit_of_call, is_done, seat, Agrees, IsSettled}
 use Rattle.cpu.proofs.Wakeups.CpuStep.{foreign_step, give_ok}

@@ -14,7 +14,7 @@ use Rattle.thread_blocks.specs.Queues.{same_tid}
 use Rattle.thread_blocks.proofs.Members.{same_tid_self, same_tid_true}
 use Rattle.layer_traits.specs.declared.locked.Side.{Side}
 use Rattle.layer_traits.specs.declared.locked.Side.TheVariants.{Receivers, Senders}
-use Rattle.layer_traits.specs.Places.{is_thread, one_if, count_in}
+use Rattle.layer_traits.specs.Places.{Where, Home, Hand, Pend as IsPending, Asleep, is_home, is_hand, is_thread, one_if, count_in}
 use Rattle.layer_traits.proofs.CountLemmas.{same_tid_sym, count_append}
 use Rattle.cpu.specs.Table.Blocks.{Buffer, Name, TryPut, TryTake, WaitOn, Pend, TakeAll, side_of, Reported, Done, WasClosed, NotYet, Answer}
 use Rattle.cpu.specs.Table.Edits.{may_put, may_take, report_of_put, report_of_take, answer_of_buffer, drawn_position}
@@ -27,8 +27,8 @@ use Rattle.cpu.specs.Table.Choice.{with_guest, goes_to, recorded, recorded_entry
 use Rattle.cpu.specs.Table.Choice.{slept_if, woken, returned_at, returned_by, returned_in, settled, guest_after, after_call}
 use Rattle.cpu.specs.Wakeups.Order.{Begins, HasEntered, WasRefused, Owes}
 use Rattle.cpu.proofs.Wakeups.Lists.{refuted}
-use Rattle.cpu.proofs.Wakeups.Posts.{Post, Home, InHand, IsPending, AtLock, AtWait, Visit, Outside, In}
-use Rattle.cpu.proofs.Wakeups.Posts.{is_home, is_hand, is_pending, caller_in, is_caller, waiters_of, post_slept}
+use Rattle.cpu.proofs.Wakeups.Posts.{Visit, Outside, In}
+use Rattle.cpu.proofs.Wakeups.Posts.{is_pending, caller_in, is_caller, waiters_of, post_slept}
 use Rattle.cpu.proofs.Wakeups.Posts.{post_moved, post_drained, post_pending, next_visit, visit_moved, is_local}
 use Rattle.cpu.proofs.Wakeups.Agreement.{owing_own, visit_of_stage, visit_of_call, is_last, is_done, seat, Agrees, IsSettled, at_same}
 use Rattle.cpu.proofs.Wakeups.Agreement.{at_other, Same, same_with, agrees_same, runs, within, agrees_slept, agrees_woken}
@@ -40,7 +40,7 @@ abbrev pub DoneRuns : Setup → CpuId → Private → Type 0
 DoneRuns setup c p = (u : Tid) → is_local setup c u ≡ true → is_done (thread_at p u).call ≡ true → is_thread u p.current ≡ true
 
 module _ (setup : Setup) (c : CpuId) where
-  settled_in : (p : Private) (T : Tid → Visit) (P : Tid → Post) → Agrees setup c p T P → DoneRuns setup c p
+  settled_in : (p : Private) (T : Tid → Visit) (P : Tid → Where) → Agrees setup c p T P → DoneRuns setup c p
       → (hand current : Option Tid) → p.hand ≡ hand → p.current ≡ current
       → Agrees setup c (returned_in setup p hand current) T P × IsSettled setup c (returned_in setup p hand current)
   settled_in p T P agrees done (Some s) current holds runs_now = (agrees, λ u local is. (ap is_some holds, done u local is))
@@ -92,7 +92,7 @@ module _ (setup : Setup) (c : CpuId) where
       by_call None is = (agrees, not_yet (ap is_done is))
       by_call (Some call) is = by_stage call is call.stage refl
 
-  pub agrees_settled : (p : Private) (T : Tid → Visit) (P : Tid → Post) → Agrees setup c p T P → DoneRuns setup c p
+  pub agrees_settled : (p : Private) (T : Tid → Visit) (P : Tid → Where) → Agrees setup c p T P → DoneRuns setup c p
       → Agrees setup c (settled setup p) T P × IsSettled setup c (settled setup p)
   agrees_settled p T P agrees done = settled_in p T P agrees done p.hand p.current refl refl
 
@@ -257,14 +257,6 @@ release_awake t call k Signals on = absurd (cc on)
 release_awake t call k SignalsOwn on = absurd (cc on)
 release_awake t call k Idle on = absurd (cc on)
 
-pub waiter_not_home : (d : BufId) (name : Name) → is_home (waiters_of d name) ≡ false
-waiter_not_home d (WaitOn t side) = refl
-waiter_not_home d name = refl
-
-pub waiter_not_hand : (c : CpuId) (d : BufId) (name : Name) → is_hand c (waiters_of d name) ≡ false
-waiter_not_hand c d (WaitOn t side) = refl
-waiter_not_hand c d name = refl
-
 -- A section of the current thread's call.
 
 pub slept_hand : (slept : Bool) (p : Private) → (slept_if slept p).hand ≡ p.hand
@@ -292,14 +284,14 @@ woken_current setup c (Some s) p = by_test (same_cpu (home_of setup s) c)
     by_test false = refl
 
 -- in a private state that agrees, the hand is empty and thread t runs within this call
-pub record IsCalling (setup : Setup) (c : CpuId) (p : Private) (T : Tid → Visit) (P : Tid → Post) (t : Tid) (call : Call) : Type 0 where
+pub record IsCalling (setup : Setup) (c : CpuId) (p : Private) (T : Tid → Visit) (P : Tid → Where) (t : Tid) (call : Call) : Type 0 where
   pub agrees : Agrees setup c p T P
   pub settled_before : IsSettled setup c p
   pub empty : p.hand ≡ None
   pub runs_now : p.current ≡ Some t
   pub is : (thread_at p t).call ≡ Some call
 
-module _ (setup : Setup) (c : CpuId) (p : Private) (T : Tid → Visit) (P : Tid → Post) (t : Tid) (call : Call)
+module _ (setup : Setup) (c : CpuId) (p : Private) (T : Tid → Visit) (P : Tid → Where) (t : Tid) (call : Call)
     (calling : IsCalling setup c p T P t call) where
   open calling use {agrees, settled_before, empty, runs_now, is}
 
@@ -320,10 +312,10 @@ module _ (setup : Setup) (c : CpuId) (p : Private) (T : Tid → Visit) (P : Tid 
     abbrev N : Tid → Visit
     N u = visit_moved call.buffer u name k (T u)
 
-    abbrev is_waiter : Tid → Post
+    abbrev is_waiter : Tid → Where
     is_waiter u = post_slept call.buffer u name a.slept (P u)
 
-    abbrev now : Tid → Post
+    abbrev now : Tid → Where
     now u = post_moved setup c call.buffer u name a.slept a.woke (P u)
 
     abbrev recorded_now : Private
@@ -360,13 +352,13 @@ module _ (setup : Setup) (c : CpuId) (p : Private) (T : Tid → Visit) (P : Tid 
         (λ on.
         let at : is_waiter t ≡ waiters_of call.buffer name = ap (λ d. if d then waiters_of call.buffer name else P t) (and_from a.slept
         (is_caller t name) on mine) in
-        (ap is_home at ∙ waiter_not_home call.buffer name, ap (is_hand c) at ∙ waiter_not_hand c call.buffer name))
+        (ap is_home at, ap (is_hand c) at))
 
     no_home : (s : Tid) → a.woke ≡ Some s → (is_home (is_waiter s) ≡ false) × (nat_lt s.0 (length setup.homes) ≡ true)
     no_home s woke = (by_test (a.slept && is_caller s name), (asleep s woke).1)
       where
         by_test : (d : Bool) → is_home (if d then waiters_of call.buffer name else P s) ≡ false
-        by_test true = waiter_not_home call.buffer name
+        by_test true = refl
         by_test false = (asleep s woke).0
 
     agrees_after : Agrees setup c (woken setup c a.woke (slept_if a.slept recorded_now)) N now
@@ -396,28 +388,25 @@ module _ (setup : Setup) (c : CpuId) (p : Private) (T : Tid → Visit) (P : Tid 
 
 -- A section on pending threads.
 
-pub hand_not_home : (c : CpuId) (x : Post) → is_hand c x ≡ true → is_home x ≡ false
-hand_not_home c (InHand d) on = refl
+pub hand_not_home : (c : CpuId) (x : Where) → is_hand c x ≡ true → is_home x ≡ false
+hand_not_home c (Hand d) on = refl
 hand_not_home c Home on = absurd (cc on)
-hand_not_home c IsPending on = refl
-hand_not_home c (AtLock b) on = refl
-hand_not_home c (AtWait b side) on = refl
+hand_not_home c (IsPending q) on = refl
+hand_not_home c (Asleep p) on = refl
 
-pub drained_hand : (c : CpuId) (x : Post) → is_hand c (post_drained x) ≡ is_hand c x
+pub drained_hand : (c : CpuId) (x : Where) → is_hand c (post_drained x) ≡ is_hand c x
 drained_hand c Home = refl
-drained_hand c (InHand d) = refl
-drained_hand c IsPending = refl
-drained_hand c (AtLock b) = refl
-drained_hand c (AtWait b side) = refl
+drained_hand c (Hand d) = refl
+drained_hand c (IsPending q) = refl
+drained_hand c (Asleep p) = refl
 
-drained_stays_home : (x : Post) → is_home x ≡ true → is_home (post_drained x) ≡ true
+drained_stays_home : (x : Where) → is_home x ≡ true → is_home (post_drained x) ≡ true
 drained_stays_home Home on = refl
-drained_stays_home (InHand d) on = absurd (cc on)
-drained_stays_home IsPending on = refl
-drained_stays_home (AtLock b) on = absurd (cc on)
-drained_stays_home (AtWait b side) on = absurd (cc on)
+drained_stays_home (Hand d) on = absurd (cc on)
+drained_stays_home (IsPending q) on = refl
+drained_stays_home (Asleep p) on = absurd (cc on)
 
-module _ (setup : Setup) (c : CpuId) (p : Private) (T : Tid → Visit) (P : Tid → Post)
+module _ (setup : Setup) (c : CpuId) (p : Private) (T : Tid → Visit) (P : Tid → Where)
     (agrees : Agrees setup c p T P) (settled_before : IsSettled setup c p) where
   -- the thread in the hand is put among the pending
   pub agrees_pended : (d : CpuId) (s : Tid) → p.hand ≡ Some s
@@ -430,18 +419,18 @@ module _ (setup : Setup) (c : CpuId) (p : Private) (T : Tid → Visit) (P : Tid 
       held = sym (agrees.hands s) ∙ ap (is_thread s) holds ∙ same_tid_self s
 
       sits : (u : Tid) (mine : Bool) → same_tid s u ≡ mine
-          → one_if (is_thread u p.current) + count_in u p.ready ≡ one_if (seat setup c u (if mine then IsPending else P u) (thread_at p u).ended)
+          → one_if (is_thread u p.current) + count_in u p.ready ≡ one_if (seat setup c u (if mine then IsPending d else P u) (thread_at p u).ended)
       sits u true is =
           agrees.seats u ∙ ap (λ h. one_if (is_local setup c u && (h && not (thread_at p u).ended)))
           (subst (λ v. is_home (P v) ≡ false) (same_tid_true s u is) (hand_not_home c (P s) held))
       sits u false other = agrees.seats u
 
-      empties : (u : Tid) (mine : Bool) → same_tid s u ≡ mine → is_thread u None ≡ is_hand c (if mine then IsPending else P u)
+      empties : (u : Tid) (mine : Bool) → same_tid s u ≡ mine → is_thread u None ≡ is_hand c (if mine then IsPending d else P u)
       empties u true is = refl
       empties u false other = sym (ap (is_thread u) holds ∙ other) ∙ agrees.hands u
 
       at_home : (u : Tid) → is_local setup c u ≡ true → (thread_at p u).ended ≡ true → (mine : Bool)
-          → same_tid s u ≡ mine → is_home (if mine then IsPending else P u) ≡ true
+          → same_tid s u ≡ mine → is_home (if mine then IsPending d else P u) ≡ true
       at_home u local ended true is =
           refuted (subst (λ v. is_home (P v) ≡ false) (same_tid_true s u is) (hand_not_home c (P s) held)) (agrees.ends u local ended)
       at_home u local ended false other = agrees.ends u local ended
@@ -467,7 +456,7 @@ module _ (setup : Setup) (c : CpuId) (p : Private) (T : Tid → Visit) (P : Tid 
     ends = λ u local ended. at_home u (same_cpu (home_of setup u) c) (agrees.ends u local ended);
   }
     where
-      unmoved : (u : Tid) → same_cpu (home_of setup u) c ≡ true → (x : Post) → P u ≡ x → is_pending x ≡ false → post_drained x ≡ x
+      unmoved : (u : Tid) → same_cpu (home_of setup u) c ≡ true → (x : Where) → P u ≡ x → is_pending x ≡ false → post_drained x ≡ x
           → one_if (is_thread u p.current) + count_in u (p.ready ++ list) ≡ one_if (seat setup c u (post_drained (P u)) (thread_at p u).ended)
       unmoved u here x at off still =
           let none : count_in u list ≡ 0 = counts u ∙ (λ i. one_if (here i && is_pending (at i))) ∙ ap one_if off in
@@ -477,7 +466,7 @@ module _ (setup : Setup) (c : CpuId) (p : Private) (T : Tid → Visit) (P : Tid 
           let same : P u ≡ post_drained (P u) = at ∙ sym still ∙ ap post_drained (sym at) in
           now ∙ agrees.seats u ∙ ap (λ y. one_if (seat setup c u y (thread_at p u).ended)) same
 
-      sits : (u : Tid) (here : Bool) → same_cpu (home_of setup u) c ≡ here → (x : Post) → P u ≡ x
+      sits : (u : Tid) (here : Bool) → same_cpu (home_of setup u) c ≡ here → (x : Where) → P u ≡ x
           → one_if (is_thread u p.current) + count_in u (p.ready ++ list)
           ≡ one_if (seat setup c u (if here then post_drained (P u) else P u) (thread_at p u).ended)
       sits u false away x at =
@@ -486,7 +475,7 @@ module _ (setup : Setup) (c : CpuId) (p : Private) (T : Tid → Visit) (P : Tid 
           let now : one_if (is_thread u p.current) + count_in u (p.ready ++ list) ≡ one_if (is_thread u p.current) + count_in u p.ready =
           omega (arith, none, more) in
           now ∙ agrees.seats u
-      sits u true here IsPending at =
+      sits u true here (IsPending q) at =
           let one : count_in u list ≡ 1 = counts u ∙ (λ i. one_if (here i && is_pending (at i))) in
           let more : count_in u (p.ready ++ list) ≡ count_in u p.ready + count_in u list = count_append u p.ready list in
           let none : one_if (is_thread u p.current) + count_in u p.ready ≡ 0 =
@@ -497,9 +486,8 @@ module _ (setup : Setup) (c : CpuId) (p : Private) (T : Tid → Visit) (P : Tid 
           let alive : (thread_at p u).ended ≡ false = false_from_ne_true (thread_at p u).ended (λ e. refuted (ap is_home at) (agrees.ends u local e)) in
           now ∙ sym ((λ i. one_if (local i && (is_home (post_drained (at i)) && not (alive i)))))
       sits u true here Home at = unmoved u here Home at refl refl
-      sits u true here (InHand e) at = unmoved u here (InHand e) at refl refl
-      sits u true here (AtLock b) at = unmoved u here (AtLock b) at refl refl
-      sits u true here (AtWait b side) at = unmoved u here (AtWait b side) at refl refl
+      sits u true here (Hand e) at = unmoved u here (Hand e) at refl refl
+      sits u true here (Asleep z) at = unmoved u here (Asleep z) at refl refl
 
       held : (u : Tid) (here : Bool) → is_hand c (P u) ≡ is_hand c (if here then post_drained (P u) else P u)
       held u true = sym (drained_hand c (P u))
@@ -510,7 +498,7 @@ module _ (setup : Setup) (c : CpuId) (p : Private) (T : Tid → Visit) (P : Tid 
       at_home u false on = on
 
 -- the current thread yields: it stands behind those that are ready, and nobody runs
-pub agrees_yielded : (setup : Setup) (c : CpuId) (p : Private) (T : Tid → Visit) (P : Tid → Post)
+pub agrees_yielded : (setup : Setup) (c : CpuId) (p : Private) (T : Tid → Visit) (P : Tid → Where)
     → Agrees setup c p T P → (t : Tid) → p.current ≡ Some t → (guest : State)
     → Agrees setup c (record (with_guest p t guest) { current = None; ready = p.ready ++ t ∷ [] }) T P
 agrees_yielded setup c p T P agrees t runs_now guest = record {
@@ -550,7 +538,7 @@ guest_calls p t guest known u = by_test (same_tid t u) refl
 
 -- A section of another CPU.
 
-pub agrees_foreign : (setup : Setup) (c : CpuId) (p : Private) (T N : Tid → Visit) (P M : Tid → Post) → Agrees setup c p T P
+pub agrees_foreign : (setup : Setup) (c : CpuId) (p : Private) (T N : Tid → Visit) (P M : Tid → Where) → Agrees setup c p T P
     → ((u : Tid) → is_local setup c u ≡ true → N u ≡ T u) → ((u : Tid) → is_local setup c u ≡ true → is_home (M u) ≡ is_home (P u))
     → ((u : Tid) → is_hand c (M u) ≡ is_hand c (P u)) → Agrees setup c p N M
 agrees_foreign setup c p T N P M agrees visits homes in_hands = record {
