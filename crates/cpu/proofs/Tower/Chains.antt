@@ -67,15 +67,15 @@ fifo_at setup c t call own call_state is = ap (λ x. plan_at setup.homes c t cal
 -- a line of a begun call
 module _ (site : Site) (effect : Option Effect) (had : HasHad site effect) (stage : Stage)
     (is : call_state_of site.call_states site.t ≡ call_state site effect had stage) where
-  pub going_line : (at : Stage) → thread_from (call_state site effect had stage) None None false (e site effect had) (g site effect had)
-      ≡ with_call site effect had (k site effect had at)
+  pub going_line : thread_from (call_state site effect had stage) None None false (e site effect had) (g site effect had)
+      ≡ with_call site effect had (k site effect had stage)
       → (plan : BufferPlan Reply)
       → plan_at site.setup.homes site.c site.t site.call (going (call_state site effect had stage) site.call).stage (going
       (call_state site effect had stage) site.call)
       (own site effect had) ≡ plan
-      → IsLine site.setup site.c (from site effect had at) plan (after site effect had)
+      → IsLine site.setup site.c (from site effect had stage) plan (after site effect had)
       → LineOf site.setup site.c site.t site.call (own site effect had) site.guests site.trace
-  going_line at same plan is_plan line =
+  going_line same plan is_plan line =
       let here = private_here site.runner None None site.trace (call_state site effect had stage) None None is site.is_slept site.is_waits
       ∙ ap (λ x. parts (Some site.t) site.ready None (slice_set (threads site effect had) site.t.0 x) site.trace) same in
       let way = fifo_at site.setup site.c site.t site.call (own site effect had) (call_state site effect had stage) is ∙ is_plan in
@@ -92,35 +92,35 @@ module _ (site : Site) where
   had_none stage so is = ap (λ x. (going x call).effect) is ∙ so
 
   pub site_asks : call_state_of call_states t ≡ call_state_at caller Acquires None → SiteLine
-  site_asks is = let had = had_none Acquires refl is in going_line site None had Acquires is Acquires refl _ refl (asks_line site had)
+  site_asks is = let had = had_none Acquires refl is in going_line site None had Acquires is refl _ refl (asks_line site had)
 
   pub site_enters : call_state_of call_states t ≡ call_state_at caller Enters None → SiteLine
-  site_enters is = let had = had_none Enters refl is in going_line site None had Enters is Enters refl _ refl (enters_line site had)
+  site_enters is = let had = had_none Enters refl is in going_line site None had Enters is refl _ refl (enters_line site had)
 
   pub site_tries : IsLined call → call_state_of call_states t ≡ call_state_at caller Tries None → SiteLine
-  site_tries lined is = let had = had_none Tries refl is in going_line site None had Tries is Tries refl _ refl (tries_line site had lined)
+  site_tries lined is = let had = had_none Tries refl is in going_line site None had Tries is refl _ refl (tries_line site had lined)
 
   pub site_waits : call_state_of call_states t ≡ call_state_at caller Waits None → SiteLine
-  site_waits is = let had = had_none Waits refl is in going_line site None had Waits is Waits refl _ refl (waits_line site had)
+  site_waits is = let had = had_none Waits refl is in going_line site None had Waits is refl _ refl (waits_line site had)
 
   pub site_asks_again : call_state_of call_states t ≡ call_state_at caller AcquiresAgain None → SiteLine
   site_asks_again is =
-      let had = had_none AcquiresAgain refl is in going_line site None had AcquiresAgain is AcquiresAgain refl _ refl (asks_again_line site had)
+      let had = had_none AcquiresAgain refl is in going_line site None had AcquiresAgain is refl _ refl (asks_again_line site had)
 
   pub site_signals : (f : Effect) → call_state_of call_states t ≡ call_state_at caller Signals (Some f) → SiteLine
   site_signals f is =
       let had : HasHad site (Some f) = ap (λ x. (going x call).effect) is in
-      going_line site (Some f) had Signals is Signals refl _ refl (signals_line site f had)
+      going_line site (Some f) had Signals is refl _ refl (signals_line site f had)
 
   pub site_own_signals : (f : Effect) → call_state_of call_states t ≡ call_state_at caller SignalsOwn (Some f) → SiteLine
   site_own_signals f is =
       let had : HasHad site (Some f) = ap (λ x. (going x call).effect) is in
-      going_line site (Some f) had SignalsOwn is SignalsOwn refl _ refl (own_signals_line site f had)
+      going_line site (Some f) had SignalsOwn is refl _ refl (own_signals_line site f had)
 
   pub site_releases : (f : Effect) → call_state_of call_states t ≡ call_state_at caller Releases (Some f) → SiteLine
   site_releases f is =
       let had : HasHad site (Some f) = ap (λ x. (going x call).effect) is in
-      going_line site (Some f) had Releases is Releases refl _ refl (releases_line site f had)
+      going_line site (Some f) had Releases is refl _ refl (releases_line site f had)
 
 -- Chains: the thread slept for the lock and was handed it, or waited and was woken.
 

@@ -85,7 +85,7 @@ module _ (site : Site) (had : HasHad site None) where
 
   pub asks_line : IsLine site.setup site.c (from site None had Acquires) (plan Acquires) (after site None had)
   asks_line =
-      line site None had Acquires (Acquire site.t) Acquires (plan Acquires)
+      line site None had Acquires (Acquire site.t) (plan Acquires)
       asks_plan
       refl (runs_on site None had None site.ready None (call_state site None had Acquires) None) (λ x known. ask x.owner)
 
@@ -106,7 +106,7 @@ module _ (site : Site) (had : HasHad site None) where
 
   pub asks_again_line : IsLine site.setup site.c (from site None had AcquiresAgain) (plan AcquiresAgain) (after site None had)
   asks_again_line =
-      line site None had AcquiresAgain (Acquire site.t) AcquiresAgain (plan AcquiresAgain)
+      line site None had AcquiresAgain (Acquire site.t) (plan AcquiresAgain)
       asks_again_plan
       refl (runs_on site None had None site.ready None (call_state site None had AcquiresAgain) None) (λ x known. ask_again x.owner)
 
@@ -164,7 +164,7 @@ module _ (site : Site) (had : HasHad site None) where
 
   pub enters_line : IsLine site.setup site.c (from site None had Enters) (plan Enters) (after site None had)
   enters_line =
-      line site None had Enters (Inside (Edit (first_of site.t site.call))) Enters (plan Enters)
+      line site None had Enters (Inside (Edit (first_of site.t site.call))) (plan Enters)
       enters_plan
       (first_name site.t site.call) (runs_on site None had None site.ready None (call_state site None had Enters) None)
       (λ x known. first_by x.above (first_answer site.t site.call x.above))
@@ -206,7 +206,7 @@ module _ (site : Site) (had : HasHad site None) where
 
   pub tries_line : IsLined site.call → IsLine site.setup site.c (from site None had Tries) (plan Tries) (after site None had)
   tries_line lined =
-      line site None had Tries (Inside (Edit (try_of site.t site.call))) Tries (plan Tries)
+      line site None had Tries (Inside (Edit (try_of site.t site.call))) (plan Tries)
       tries_plan
       (try_name site.t site.call site.position lined) (runs_on site None had None site.ready None (call_state site None had Tries) None)
       (λ x known. tries_by x.above lined (try_answer site.t site.call x.above lined))
@@ -261,7 +261,7 @@ module _ (site : Site) (had : HasHad site None) where
 
   pub waits_line : IsLine site.setup site.c (from site None had Waits) (plan Waits) (after site None had)
   waits_line =
-      line site None had Waits (Release (Wait site.t (tower_side site.call))) Waits (plan Waits)
+      line site None had Waits (Release (Wait site.t (tower_side site.call))) (plan Waits)
       waits_plan
       (wait_name site.t site.call site.position) (runs_on site None had None site.ready None (call_state site None had Waits) None)
       (λ x known. waits_at (tower_side site.call) x known)
@@ -303,7 +303,7 @@ module _ (site : Site) (f : Effect) (had : HasHad site (Some f)) where
 
   pub signals_line : IsLine site.setup site.c (from site (Some f) had Signals) (plan_to Signals) (after site (Some f) had)
   signals_line =
-      line site (Some f) had Signals (Inside (SignalFront site.t (other_side site.call))) Signals (plan_to Signals)
+      line site (Some f) had Signals (Inside (SignalFront site.t (other_side site.call))) (plan_to Signals)
       signals_plan
       (signal_name site.t site.call site.position f) (runs_on site (Some f) had None site.ready None (call_state site (Some f) had Signals) None)
       (λ x known. signal (other_side site.call) _ _ known)
@@ -339,7 +339,7 @@ module _ (site : Site) (f : Effect) (had : HasHad site (Some f)) where
 
   pub own_signals_line : IsLine site.setup site.c (from site (Some f) had SignalsOwn) (plan_to SignalsOwn) (after site (Some f) had)
   own_signals_line =
-      line site (Some f) had SignalsOwn (Inside (SignalFront site.t (tower_side site.call))) SignalsOwn (plan_to SignalsOwn)
+      line site (Some f) had SignalsOwn (Inside (SignalFront site.t (tower_side site.call))) (plan_to SignalsOwn)
       own_signals_plan
       (own_signal_name site.t site.call site.position f) (runs_on site (Some f) had None site.ready None (call_state site (Some f) had SignalsOwn) None)
       (λ x known. own_signal (tower_side site.call) _ _ known)
@@ -389,7 +389,7 @@ module _ (site : Site) (f : Effect) (had : HasHad site (Some f)) where
 
   pub releases_line : IsLine site.setup site.c (from site (Some f) had Releases) (plan_to Releases) (after site (Some f) had)
   releases_line =
-      line site (Some f) had Releases (Release (Leave site.t)) Releases (plan_to Releases)
+      line site (Some f) had Releases (Release (Leave site.t)) (plan_to Releases)
       releases_plan
       refl (runs_on site (Some f) had None site.ready None (call_state site (Some f) had Releases) None)
       (λ x known. release (first x.sleepers) known)

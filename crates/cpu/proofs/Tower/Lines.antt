@@ -346,18 +346,18 @@ module _ (site : Site) (effect : Option Effect) (is_effect : HasHad site effect)
   abbrev pub react : Stage → CvCall BufferEdit → Option TowerAnswer → Left Buffering Reply
   react stage s = react_in (fresh stage s)
 
-  pub line : (stage : Stage) (s : CvCall BufferEdit) (at : Stage) (plan : BufferPlan Reply) → plan ≡ fresh stage s
-      → section_at site.t (k at) at ≡ name_of (queue.Above s) → after (react stage s None) ≡ from at
+  pub line : (stage : Stage) (s : CvCall BufferEdit) (plan : BufferPlan Reply) → plan ≡ fresh stage s
+      → section_at site.t (k stage) stage ≡ name_of (queue.Above s) → after (react stage s None) ≡ from stage
       → ((x : LockState BufferState) → HandIsKnown site.setup (react stage s (Some (told.Answer (lock_answer buffer_rules s x)))).own
       → after (react stage s (Some (told.Answer (lock_answer buffer_rules s x))))
-      ≡ after_section site.setup site.c (from at) (answer_view (told.Answer (lock_answer buffer_rules s x))))
-      → IsLine site.setup site.c (from at) plan after
-  line stage s at plan is name stays gives = record {
+      ≡ after_section site.setup site.c (from stage) (answer_view (told.Answer (lock_answer buffer_rules s x))))
+      → IsLine site.setup site.c (from stage) plan after
+  line stage s plan is name stays gives = record {
     lock = Buffer buf;
     name = queue.Above s;
     react = react stage s;
     is = is;
-    asks = asks_for site.setup site.c site.ready threads site.trace site.t g e within (k at) ∙ ap (at_buffer buf) name;
+    asks = asks_for site.setup site.c site.ready threads site.trace site.t g e within (k stage) ∙ ap (at_buffer buf) name;
     used = tt;
     stays = stays;
     gives = by_block;
@@ -365,7 +365,7 @@ module _ (site : Site) (effect : Option Effect) (is_effect : HasHad site effect)
     where
       by_block : (x : TowerBlock) → IsKind (Buffer buf) x → HandIsKnown site.setup (react stage s (Some (tower.answer (queue.Above s) x))).own
           → after (react stage s (Some (tower.answer (queue.Above s) x)))
-          ≡ after_section site.setup site.c (from at) (answer_view (tower.answer (queue.Above s) x))
+          ≡ after_section site.setup site.c (from stage) (answer_view (tower.answer (queue.Above s) x))
       by_block (block.Above x) kind = gives x
       by_block (block.Queue queue homes) kind = absurd kind
 

@@ -8,7 +8,7 @@ use Rattle.event_log.specs.declared.ids.CpuId.{CpuId}
 use Rattle.event_log.specs.declared.ids.Tid.{Tid}
 use Rattle.event_log.specs.declared.ids.BufId.{BufId}
 use Rattle.event_log.specs.History.{same_cpu}
-use Rattle.event_log.proofs.Same.{same_cpu_self, same_cpu_true}
+use Rattle.event_log.proofs.Same.{same_cpu_self}
 use Rattle.thread_blocks.specs.Queues.{same_tid}
 use Rattle.thread_blocks.proofs.Members.{same_tid_self, same_tid_true}
 use Rattle.layer_traits.specs.declared.locked.Side.{Side}
@@ -95,9 +95,6 @@ pub record Same (p q : Private) (t : Tid) : Type 0 where
   pub size : length q.threads ≡ length p.threads
   pub ended : (u : Tid) → (thread_at q u).ended ≡ (thread_at p u).ended
   pub others : (u : Tid) → same_tid t u ≡ false → (thread_at q u).call ≡ (thread_at p u).call
-
-pub same_refl : (p : Private) (t : Tid) → Same p p t
-same_refl p t = record { current = refl; ready = refl; hand = refl; size = refl; ended = λ u. refl; others = λ u other. refl }
 
 pub same_with : (p : Private) (t : Tid) (x : Thread) → t.0 < length p.threads → x.ended ≡ (thread_at p t).ended → Same p (with_thread p t x) t
 same_with p t x known ended = record {

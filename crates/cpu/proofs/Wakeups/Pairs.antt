@@ -2,7 +2,7 @@
 -- lock exactly where its visit says. Everything here speaks of plain values; the log comes later.
 use Rattle.std.proofs.Common.{◌≡◌, ℕ, ◌+◌, ◌<◌, ◌≤◌, Bool, true, false, not, ◌&&◌, List, [], ◌∷◌, ◌++◌}
 use Rattle.std.proofs.Common.{Option, Some, None, nat_lt, if◌then◌else◌, refl, sym, ap, ◌∙◌, subst, arith}
-use Rattle.std.proofs.lemmas.Bool.{eq-eqb, eqb-true, and_parts, and_right, false_from_ne_true}
+use Rattle.std.proofs.lemmas.Bool.{eq-eqb, eqb-true, and_parts, and_right}
 use Rattle.std.proofs.lemmas.Option.{same_Some}
 use Rattle.event_log.specs.declared.ids.CpuId.{CpuId}
 use Rattle.event_log.specs.declared.ids.Tid.{Tid}
@@ -70,12 +70,6 @@ marked_most u m = by_test (nat_lt u.0 THREADS && m)
     by_test : (b : Bool) → one_if b ≤ 1
     by_test true = omega arith
     by_test false = omega arith
-
--- a list whose threads bear a mark, after a section that put thread u nowhere: who was woken is gone, all others stand as they stood
-kept_list : (u : Tid) (list now : List Tid) (m n w : Bool) → count_in u list ≡ marked u m → count_in u now ≡ (if w then 0 else count_in u list)
-    → n ≡ (if w then false else m) → count_in u now ≡ marked u n
-kept_list u list now m n true was is mark = is ∙ sym (marked_none u n mark)
-kept_list u list now m n false was is mark = is ∙ was ∙ ap (marked u) (sym mark)
 
 -- a list that thread u has joined
 pub grown_list : (u : Tid) (list : List Tid) → count_in u list ≡ 0 → count_in u (joined u list) ≡ marked u true
