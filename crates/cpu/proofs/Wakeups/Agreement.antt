@@ -34,7 +34,6 @@ owing_own Receivers = Owes true false
 
 -- the visit of a call at each stage
 abbrev pub visit_of_stage : BufId → Side → Stage → Visit
-visit_of_stage b side Acquires = Outside
 visit_of_stage b side Enters = In b Begins
 visit_of_stage b side Tries = In b (HasEntered side)
 visit_of_stage b side Waits = In b (WasRefused side)
@@ -42,6 +41,7 @@ visit_of_stage b side AcquiresAgain = Waiting b side
 visit_of_stage b side Signals = In b (Owes true true)
 visit_of_stage b side SignalsOwn = In b (owing_own side)
 visit_of_stage b side Releases = In b (Owes false false)
+visit_of_stage b side Acquires = Outside
 visit_of_stage b side Idle = Outside
 
 abbrev pub visit_of_call : Option Call → Visit
@@ -51,14 +51,7 @@ visit_of_call (Some call) = visit_of_stage call.buffer (side_of call.asks) call.
 -- a call that has done its last section
 abbrev pub is_last : Stage → Bool
 is_last Idle = true
-is_last Acquires = false
-is_last Enters = false
-is_last Tries = false
-is_last Waits = false
-is_last AcquiresAgain = false
-is_last Signals = false
-is_last SignalsOwn = false
-is_last Releases = false
+is_last stage = false
 
 abbrev pub is_done : Option Call → Bool
 is_done None = false

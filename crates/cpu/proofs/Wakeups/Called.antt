@@ -140,15 +140,11 @@ woken_not_pending false c = refl
 
 pub sleeps_not_home : (d : BufId) (x : Where) → sleeps_at d x ≡ true → is_home x ≡ false
 sleeps_not_home d Home on = absurd (cc on)
-sleeps_not_home d (Hand c) on = refl
-sleeps_not_home d (IsPending q) on = refl
-sleeps_not_home d (Asleep p) on = refl
+sleeps_not_home d x on = refl
 
 pub sleeps_not_pending : (d : BufId) (x : Where) → sleeps_at d x ≡ true → is_pending x ≡ false
-sleeps_not_pending d Home on = refl
-sleeps_not_pending d (Hand c) on = refl
 sleeps_not_pending d (IsPending q) on = absurd (cc on)
-sleeps_not_pending d (Asleep p) on = refl
+sleeps_not_pending d x on = refl
 
 module _ (setup : Setup) (c : CpuId) (d : BufId) (u : Tid) (name : Name) (x now : Where) where
   lists_stay : (b : BufId) (list : WaitList) → is_buffer b d ≡ false → Moves setup c d u name x now → sleeps_in b list now ≡ sleeps_in b list x
@@ -284,16 +280,13 @@ drained_pending (IsPending q) = refl
 drained_pending (Asleep p) = refl
 
 pub drained_moved : (x : Where) → is_moved (post_drained x) ≡ true → is_moved x ≡ true
-drained_moved Home on = on
 drained_moved (Hand c) on = refl
 drained_moved (IsPending q) on = refl
-drained_moved (Asleep p) on = on
+drained_moved x on = on
 
 pub drained_home : (x : Where) → is_home (post_drained x) ≡ false → is_home x ≡ false
 drained_home Home off = off
-drained_home (Hand c) off = refl
-drained_home (IsPending q) off = refl
-drained_home (Asleep p) off = refl
+drained_home x off = refl
 
 abbrev threads_or : Option Block → List Tid
 threads_or None = []

@@ -145,10 +145,7 @@ module _ (setup : Setup) (c : CpuId) (p : Private) (T : Tid → Visit) (P : Tid 
     instructed (Close b) = begun (new_call _ b _) refl
     instructed YieldLine = (agrees, settled_before)
     instructed Exit = ended_now
-    instructed (Set r n) = computes _
-    instructed (Add r q) = computes _
-    instructed (Sub r q) = computes _
-    instructed (Jnz r k) = computes _
+    instructed line = computes _
 
   pub choice_ok : ChoiceOk setup c T P (choice setup c p)
   choice_ok = by_hand p.hand refl

@@ -75,10 +75,8 @@ two_homes setup c e u off local at =
     refuted off (ap (λ h. same_cpu h c) (sym (same_cpu_true (home_of setup u) e at)) ∙ here)
 
 sleeps_no_hand : (c : CpuId) (d : BufId) (x : Where) → sleeps_at d x ≡ true → is_hand c x ≡ false
-sleeps_no_hand c d (Asleep p) on = refl
-sleeps_no_hand c d Home on = refl
 sleeps_no_hand c d (Hand e) on = absurd (cc on)
-sleeps_no_hand c d (IsPending q) on = refl
+sleeps_no_hand c d x on = refl
 
 module _ (setup : Setup) (past : List (Section Name)) (good : Good setup past) (c e : CpuId) (off : same_cpu e c ≡ false)
     (p : Private) (agrees : Agrees setup c p (λ u. visit setup u past) (λ u. post setup u past)) where

@@ -73,12 +73,7 @@ module _ (setup : Setup) (c : CpuId) where
 
       by_report : (told : Reported) → RecordedSome p (recorded_position p t call told) t
       by_report (Position pos) = called p t _ known
-      by_report Nothing = stays
-      by_report (Done op m) = stays
-      by_report (WasClosed op) = stays
-      by_report (DidShut op pos) = stays
-      by_report NotYet = stays
-      by_report (Drained threads) = stays
+      by_report told = stays
 
       by_shut : (told : Reported) → RecordedSome p (recorded_shut c p t call told) t
       by_shut (DidShut op pos) =
@@ -92,9 +87,8 @@ module _ (setup : Setup) (c : CpuId) where
       by_shut (Drained threads) = stays
 
       by_asks : (asks : Group) (told : Reported) → RecordedSome p (recorded_entry c p t call asks told) t
-      by_asks Sends told = by_report told
-      by_asks Receives told = by_report told
       by_asks Closes told = by_shut told
+      by_asks asks told = by_report told
   recorded_some p t call known is Tries (Done op m) =
       let now = called p t (record call { message = m; effect = Some op; stage = Signals }) known in
       record { hand = now.hand; current = now.current; some = now.some }
@@ -185,11 +179,7 @@ module _ (setup : Setup) (c : CpuId) where
       by_line empty t (Recv b r k) = by_room t _ ((length p.trace + open_calls p (home_threads setup c)) == setup.trace_room) empty
       by_line empty t (Close b) = by_room t _ ((length p.trace + open_calls p (home_threads setup c)) == setup.trace_room) empty
       by_line empty t YieldLine = filled
-      by_line empty t Exit = λ u full runs_now. refuted (ap is_some empty) full
-      by_line empty t (Set r n) = λ u full runs_now. refuted (ap is_some empty) full
-      by_line empty t (Add r q) = λ u full runs_now. refuted (ap is_some empty) full
-      by_line empty t (Sub r q) = λ u full runs_now. refuted (ap is_some empty) full
-      by_line empty t (Jnz r k) = λ u full runs_now. refuted (ap is_some empty) full
+      by_line empty t line = λ u full runs_now. refuted (ap is_some empty) full
 
       by_call : p.hand ≡ None → (t : Tid) (call : Option Call) → FilledChoice (at_call setup c p t call)
       by_call empty t None = by_line empty t (stands_at setup p t)

@@ -155,9 +155,7 @@ one_list b list other x apart on =
 
 list_sleeps : (b : BufId) (list : WaitList) (x : Where) → sleeps_in b list x ≡ true → sleeps_at b x ≡ true
 list_sleeps b list (Asleep (At lock other)) on = (and_parts (same_lock lock (AtBuffer b)) (same_list other list) on).0
-list_sleeps b list Home on = absurd (cc on)
-list_sleeps b list (Hand c) on = absurd (cc on)
-list_sleeps b list (IsPending q) on = absurd (cc on)
+list_sleeps b list x on = absurd (cc on)
 
 acquire_wakes_none : (o : Option Tid) → (answer_of_acquire o).woke ≡ None
 acquire_wakes_none None = refl
@@ -181,16 +179,11 @@ module _ (b : BufId) (u : Tid) (k : Buffer) (g : Progress) (visit : Visit) (post
   -- whoever is woken sleeps at the buffer, and its number is a thread's
   pub woken_sleeps : (name : Name) → is_thread u (answer_of_buffer name k).woke ≡ true → (nat_lt u.0 THREADS ≡ true) × (sleeps_at b post ≡ true)
   woken_sleeps (AcqQ t) is = refuted (ap (is_thread u) (acquire_wakes_none k.busy)) is
-  woken_sleeps (Enter t side) is = absurd (cc is)
-  woken_sleeps (TryPut t m) is = absurd (cc is)
-  woken_sleeps (TryTake t) is = absurd (cc is)
-  woken_sleeps (Shut t) is = absurd (cc is)
   woken_sleeps (WaitOn t side) is = let at = first_sleeps is in (at.0, list_sleeps b wait_list.Sleepers post at.1)
   woken_sleeps (SigRecv t) is = let at = due_receives is in (at.0, list_sleeps b wait_list.Receivers post at.1)
   woken_sleeps (SigSend t) is = let at = due_sends is in (at.0, list_sleeps b wait_list.Senders post at.1)
   woken_sleeps (RelQ t) is = let at = first_sleeps is in (at.0, list_sleeps b wait_list.Sleepers post at.1)
-  woken_sleeps (Pend s) is = absurd (cc is)
-  woken_sleeps TakeAll is = absurd (cc is)
+  woken_sleeps name is = absurd (cc is)
 
 -- A section of another thread on the buffer.
 
@@ -440,8 +433,7 @@ other_section setup c b u (WaitOn t side) k g visit post other may pair = other_
 other_section setup c b u (SigRecv t) k g visit post other may pair = other_sig_recv setup c b u t other visit post k g (receivers_signalled g) may.0 pair
 other_section setup c b u (SigSend t) k g visit post other may pair = other_sig_send setup c b u t other visit post k g (senders_signalled g) may.0 pair
 other_section setup c b u (RelQ t) k g visit post other may pair = other_release setup c b u t other visit post k g may.0 pair
-other_section setup c b u (Pend s) k g visit post other may pair = absurd may
-other_section setup c b u TakeAll k g visit post other may pair = absurd may
+other_section setup c b u name k g visit post other may pair = absurd may
 
 post_of_other : (setup : Setup) (c : CpuId) (b : BufId) (u : Tid) (name : Name) (slept : Bool) (woke : Option Tid) (x : Where) → is_caller u name ≡ false
     → post_moved setup c b u name slept woke x ≡ (if is_thread u woke then post_woken setup c u else x)

@@ -47,8 +47,7 @@ IsPlaced setup visit (Asleep (At (Pending d) list)) = ⊥
 -- who is inside a call has a home
 abbrev pub HasHome : Setup → Tid → Visit → Type 0
 HasHome setup u Outside = Unit {0}
-HasHome setup u (In b progress) = nat_lt u.0 (length setup.homes) ≡ true
-HasHome setup u (Waiting b side) = nat_lt u.0 (length setup.homes) ≡ true
+HasHome setup u visit = nat_lt u.0 (length setup.homes) ≡ true
 
 pub record Placed (setup : Setup) (past : List (Section Name)) : Type 0 where
   pub posts : (u : Tid) → IsPlaced setup (visit setup u past) (post setup u past)
@@ -100,8 +99,7 @@ placed_waiters setup d name k visit within = (within, tt)
 
 has_home : (setup : Setup) (u : Tid) (visit : Visit) → nat_lt u.0 (length setup.homes) ≡ true → HasHome setup u visit
 has_home setup u Outside known = tt
-has_home setup u (In b progress) known = known
-has_home setup u (Waiting b side) known = known
+has_home setup u visit known = known
 
 module _ (setup : Setup) (past : List (Section Name)) (placed : Placed setup past) (c : CpuId) (within : c.0 < setup.cpus)
     (d : BufId) (name : Name) (callers : CallersAre setup past c d name) where
@@ -135,10 +133,8 @@ module _ (setup : Setup) (past : List (Section Name)) (placed : Placed setup pas
 
 module _ (setup : Setup) (past : List (Section Name)) (placed : Placed setup past) (c d : CpuId) where
   placed_drained : (visit : Visit) (x : Where) → IsPlaced setup visit x → IsPlaced setup visit (post_drained x)
-  placed_drained visit Home at = tt
-  placed_drained visit (Hand e) at = at
   placed_drained visit (IsPending q) at = tt
-  placed_drained visit (Asleep p) at = at
+  placed_drained visit x at = at
 
   posts_pending : (name : Name) → MayComeTo setup past c d name → (u : Tid)
       → IsPlaced setup (visit setup u past) (post_pending setup d u name (post setup u past))

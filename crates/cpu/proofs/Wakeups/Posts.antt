@@ -50,23 +50,18 @@ sleeps_in b list x = is_at (AtBuffer b) list (wait_channel_of x)
 
 -- it sleeps at the buffer
 abbrev pub sleeps_at : BufId → Where → Bool
-sleeps_at b Home = false
-sleeps_at b (Hand c) = false
-sleeps_at b (IsPending q) = false
 sleeps_at b (Asleep (At lock list)) = same_lock lock (AtBuffer b)
+sleeps_at b x = false
 
 abbrev pub is_pending : Where → Bool
-is_pending Home = false
-is_pending (Hand c) = false
 is_pending (IsPending q) = true
-is_pending (Asleep p) = false
+is_pending x = false
 
 -- it was woken by another CPU and is not at home yet
 abbrev pub is_moved : Where → Bool
-is_moved Home = false
 is_moved (Hand c) = true
 is_moved (IsPending q) = true
-is_moved (Asleep p) = false
+is_moved x = false
 
 -- Marks of a visit.
 
@@ -77,9 +72,8 @@ names b (Waiting d side) = is_buffer b d
 
 -- it owns the lock, or will own it before it does anything else
 abbrev pub goes_on : Visit → Bool
-goes_on Outside = false
 goes_on (In d progress) = true
-goes_on (Waiting d side) = false
+goes_on visit = false
 
 abbrev pub is_inside : BufId → Visit → Bool
 is_inside b visit = names b visit && goes_on visit
@@ -128,8 +122,7 @@ caller_in (WaitOn t side) = Some t
 caller_in (SigRecv t) = Some t
 caller_in (SigSend t) = Some t
 caller_in (RelQ t) = Some t
-caller_in (Pend s) = None
-caller_in TakeAll = None
+caller_in name = None
 
 abbrev pub is_caller : Tid → Name → Bool
 is_caller u name = is_thread u (caller_in name)
@@ -156,10 +149,8 @@ abbrev pub post_moved : Setup → CpuId → BufId → Tid → Name → Bool → 
 post_moved setup c b u name slept woke x = if is_thread u woke then post_woken setup c u else post_slept b u name slept x
 
 abbrev pub post_drained : Where → Where
-post_drained Home = Home
-post_drained (Hand c) = Hand c
 post_drained (IsPending q) = Home
-post_drained (Asleep p) = Asleep p
+post_drained x = x
 
 abbrev pub post_pending : Setup → CpuId → Tid → Name → Where → Where
 post_pending setup d u (Pend s) x = if same_tid s u then IsPending d else x

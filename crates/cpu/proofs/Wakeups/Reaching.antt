@@ -38,9 +38,8 @@ use Rattle.cpu.proofs.Wakeups.Chosen.{ChoiceOk, choice_ok}
 
 -- an action that ends a section ends one that may come
 abbrev pub IsFair : Setup → List (Action Name) → Action Name → Type 0
-IsFair setup past (Take cpu lock) = Unit {0}
-IsFair setup past (Try cpu lock hit) = Unit {0}
 IsFair setup past (Give cpu lock name) = MayComeAt setup (sections_in past) cpu lock name
+IsFair setup past other = Unit {0}
 
 abbrev pub IsFairLog : Setup → List (Action Name) → Type 0
 IsFairLog setup log = IsLawful (IsFair setup) log
@@ -140,8 +139,7 @@ module _ (setup : Setup) (c : CpuId) (log : List (Action Name)) (fair : IsFairLo
 
   rests_nowhere : {A : Type 0} (now : Phase) (lock : LockId) → is_in_section now ≡ false → lock_in now ≡ Some lock → A
   rests_nowhere Rests lock off at = no_lock at
-  rests_nowhere (WaitsAt there) lock off at = absurd (cc off)
-  rests_nowhere (Holds there) lock off at = absurd (cc off)
+  rests_nowhere other lock off at = absurd (cc off)
 
   pub step_ok : (p : Private) → Ok setup c p log → StepOk setup c log (cpu_step setup c p log)
   step_ok p ok = by_section (is_in_section (phase c log)) refl

@@ -34,33 +34,23 @@ use Rattle.cpu.proofs.Wakeups.Lists.{refuted}
 use Rattle.cpu.proofs.Wakeups.Agreement.{at_same, at_other}
 
 abbrev pub is_before : Stage → Bool
-is_before Acquires = true
-is_before Enters = true
-is_before Tries = true
-is_before Waits = true
-is_before AcquiresAgain = true
 is_before Signals = false
 is_before SignalsOwn = false
 is_before Releases = false
 is_before Idle = false
+is_before stage = true
 
 -- what a call asks that has a line
 abbrev pub HasLine : Group → Type 0
-HasLine Sends = Unit {0}
-HasLine Receives = Unit {0}
 HasLine Closes = ⊥
+HasLine asks = Unit {0}
 
 -- only a call that has a line tries and waits
 abbrev pub FitsGroup : Group → Stage → Type 0
 FitsGroup asks Tries = HasLine asks
 FitsGroup asks Waits = HasLine asks
 FitsGroup asks AcquiresAgain = HasLine asks
-FitsGroup asks Acquires = Unit {0}
-FitsGroup asks Enters = Unit {0}
-FitsGroup asks Signals = Unit {0}
-FitsGroup asks SignalsOwn = Unit {0}
-FitsGroup asks Releases = Unit {0}
-FitsGroup asks Idle = Unit {0}
+FitsGroup asks stage = Unit {0}
 
 -- what a call says before its effect
 abbrev pub SaysCall : List Instruction → State → Call → Type 0
@@ -134,9 +124,8 @@ module _ (setup : Setup) (c : CpuId) where
       by_shut (Drained threads) = fine
 
       by_asks : (asks : Group) → call.asks ≡ asks → (told : Reported) → AllFine setup (recorded_entry c p t call asks told)
-      by_asks Sends asked told = by_report (subst HasLine (sym asked) tt) told
-      by_asks Receives asked told = by_report (subst HasLine (sym asked) tt) told
       by_asks Closes asked told = by_shut told
+      by_asks asks asked told = by_report (subst HasLine (sym asked) tt) told
   fine_recorded p t call known fine is Tries at (Done op m) =
       fine_call p t call (record call { message = m; effect = Some op; stage = Signals }) known fine is (λ says e. absurd (cc e))
   fine_recorded p t call known fine is Tries at (WasClosed op) =

@@ -111,27 +111,16 @@ section_caller t call stage = by_asks call.asks stage
     by_first Closes = refl
 
     by_asks : (asks : Group) (stage : Stage) → caller_in (section_at t call stage) ≡ Some t
-    by_asks asks Acquires = refl
     by_asks asks Enters = by_first call.asks
     by_asks asks Tries = (by_side (side_of call.asks)).0
-    by_asks asks Waits = refl
-    by_asks asks AcquiresAgain = refl
     by_asks asks Signals = (by_side (side_of call.asks)).1
     by_asks asks SignalsOwn = (by_side (side_of call.asks)).2
-    by_asks asks Releases = refl
-    by_asks asks Idle = refl
+    by_asks asks stage = refl
 
 -- whether the section is the last of its call
 abbrev pub is_release : Stage → Bool
 is_release Releases = true
-is_release Acquires = false
-is_release Enters = false
-is_release Tries = false
-is_release Waits = false
-is_release AcquiresAgain = false
-is_release Signals = false
-is_release SignalsOwn = false
-is_release Idle = false
+is_release stage = false
 
 -- the state after a section was heard: all but the call is as it was, and the call stands where its next visit says
 pub record Recorded (p q : Private) (t : Tid) (next : Visit) (ends : Bool) : Type 0 where
@@ -247,14 +236,7 @@ module _ (p : Private) (t : Tid) (known : t.0 < length p.threads) where
 pub release_awake : (t : Tid) (call : Call) (k : Buffer) (stage : Stage) → is_release stage ≡ true
     → (answer_of_buffer (section_at t call stage) k).slept ≡ false
 release_awake t call k Releases on = refl
-release_awake t call k Acquires on = absurd (cc on)
-release_awake t call k Enters on = absurd (cc on)
-release_awake t call k Tries on = absurd (cc on)
-release_awake t call k Waits on = absurd (cc on)
-release_awake t call k AcquiresAgain on = absurd (cc on)
-release_awake t call k Signals on = absurd (cc on)
-release_awake t call k SignalsOwn on = absurd (cc on)
-release_awake t call k Idle on = absurd (cc on)
+release_awake t call k stage on = absurd (cc on)
 
 -- A section of the current thread's call.
 
@@ -388,10 +370,8 @@ module _ (setup : Setup) (c : CpuId) (p : Private) (T : Tid → Visit) (P : Tid 
 -- A section on pending threads.
 
 pub hand_not_home : (c : CpuId) (x : Where) → is_hand c x ≡ true → is_home x ≡ false
-hand_not_home c (Hand d) on = refl
 hand_not_home c Home on = absurd (cc on)
-hand_not_home c (IsPending q) on = refl
-hand_not_home c (Asleep p) on = refl
+hand_not_home c x on = refl
 
 pub drained_hand : (c : CpuId) (x : Where) → is_hand c (post_drained x) ≡ is_hand c x
 drained_hand c Home = refl
@@ -400,10 +380,9 @@ drained_hand c (IsPending q) = refl
 drained_hand c (Asleep p) = refl
 
 drained_stays_home : (x : Where) → is_home x ≡ true → is_home (post_drained x) ≡ true
-drained_stays_home Home on = refl
 drained_stays_home (Hand d) on = absurd (cc on)
-drained_stays_home (IsPending q) on = refl
 drained_stays_home (Asleep p) on = absurd (cc on)
+drained_stays_home x on = refl
 
 module _ (setup : Setup) (c : CpuId) (p : Private) (T : Tid → Visit) (P : Tid → Where)
     (agrees : Agrees setup c p T P) (settled_before : IsSettled setup c p) where

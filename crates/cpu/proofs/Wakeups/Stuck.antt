@@ -126,14 +126,8 @@ waits_again call b side is = by_stage call.stage refl is
     by_stage : (stage : Stage) → call.stage ≡ stage → visit_of_stage call.buffer (side_of call.asks) stage ≡ Waiting b side
         → (is_before call.stage ≡ true) × (call.buffer ≡ b) × (side_of call.asks ≡ side) × (call.stage ≡ AcquiresAgain)
     by_stage AcquiresAgain at now = (ap is_before at, ap (buffer_or b) now, ap (side_or side) now, at)
-    by_stage Acquires at now = absurd (cc now)
-    by_stage Enters at now = absurd (cc now)
-    by_stage Tries at now = absurd (cc now)
-    by_stage Waits at now = absurd (cc now)
-    by_stage Signals at now = absurd (cc now)
     by_stage SignalsOwn at now = refuted (owing_waits_not call.buffer (side_of call.asks)) (ap is_waiting now)
-    by_stage Releases at now = absurd (cc now)
-    by_stage Idle at now = absurd (cc now)
+    by_stage stage at now = absurd (cc now)
 
 -- an instruction asks for one effect
 same_effect : (line : Instruction) (s : State) (a x : Group) (b d : BufId) (m n : Message)
@@ -141,17 +135,11 @@ same_effect : (line : Instruction) (s : State) (a x : Group) (b d : BufId) (m n 
 same_effect (Send e r i) s a x b d m n one other = (one.0 ∙ sym other.0, one.1 ∙ sym other.1)
 same_effect (Recv e r i) s a x b d m n one other = (one.0 ∙ sym other.0, one.1 ∙ sym other.1)
 same_effect (Close e) s a x b d m n one other = (one.0 ∙ sym other.0, one.1 ∙ sym other.1)
-same_effect (Set r i) s a x b d m n one other = absurd one
-same_effect (Add r q) s a x b d m n one other = absurd one
-same_effect (Sub r q) s a x b d m n one other = absurd one
-same_effect (Jnz r i) s a x b d m n one other = absurd one
-same_effect YieldLine s a x b d m n one other = absurd one
-same_effect Exit s a x b d m n one other = absurd one
+same_effect line s a x b d m n one other = absurd one
 
 inside_known : (setup : Setup) (u : Tid) (b : BufId) (visit : Visit) → names b visit ≡ true → HasHome setup u visit → nat_lt u.0 (length setup.homes) ≡ true
 inside_known setup u b Outside on home = absurd (cc on)
-inside_known setup u b (In d g) on home = home
-inside_known setup u b (Waiting d side) on home = home
+inside_known setup u b visit on home = home
 
 same_named : (b d : BufId) (visit : Visit) → names b visit ≡ true → names d visit ≡ true → b ≡ d
 same_named b d Outside on other = absurd (cc on)

@@ -37,9 +37,8 @@ short : (setup : Setup) (c : CpuId) (p : Private) (past : List (Action Name)) �
 short setup c p past = by_section (is_in_section (phase c past))
   where
     by_choice : (what : Choice) → IsShort (chosen setup c p what past).acts
-    by_choice (Halts reason) = inl refl
-    by_choice (Alone q) = inl refl
     by_choice (Goes q) = inr (_, refl)
+    by_choice other = inl refl
 
     by_section : (inside : Bool) → IsShort (step_in setup c p past inside).acts
     by_section true = inr (_, refl)
