@@ -16,7 +16,7 @@ use Rattle.thread_blocks.specs.Queues.{same_tid}
 use Rattle.thread_blocks.proofs.Members.{same_tid_self, same_tid_true}
 use Rattle.layer_traits.specs.declared.locked.Side.{Side}
 use Rattle.layer_traits.specs.declared.locked.Side.TheVariants.{Receivers, Senders}
-use Rattle.layer_traits.specs.Places.{Where, Home, Hand, Pend as IsPending, Asleep, is_home, is_hand, is_thread, count_in}
+use Rattle.layer_traits.specs.Places.{Where, Hand, Pend as IsPending, is_home, is_hand, is_thread, count_in}
 use Rattle.layer_traits.proofs.PlaceLemmas.{is_hand_true, is_home_true}
 use Rattle.cpu.specs.Table.Blocks.{Block, OfBuffer, OfPending, Name, Pend, TakeAll, side_of}
 use Rattle.cpu.specs.Table.Edits.{edited, answer, answer_of_buffer}

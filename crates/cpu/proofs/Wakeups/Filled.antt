@@ -6,10 +6,10 @@ use Rattle.event_log.specs.declared.ids.CpuId.{CpuId}
 use Rattle.event_log.specs.declared.ids.Tid.{Tid}
 use Rattle.event_log.specs.History.{same_cpu}
 use Rattle.event_log.specs.Actions.{Action, phase}
-use Rattle.event_log.specs.Runs.{Group, Sends, Receives, Closes}
+use Rattle.event_log.specs.Runs.{Group, Closes}
 use Rattle.event_log.specs.Sections.{sections_in}
 use Rattle.guest.specs.declared.instructions.Instruction.{Instruction}
-use Rattle.guest.specs.declared.instructions.Instruction.TheVariants.{Set, Add, Sub, Jnz, Send, Recv, Close, Yield as YieldLine, Exit}
+use Rattle.guest.specs.declared.instructions.Instruction.TheVariants.{Send, Recv, Close, Yield as YieldLine}
 use Rattle.layer_traits.specs.declared.steps.Reason.TheVariants.{AllEnded, TraceFull}
 use Rattle.layer_traits.specs.Plans.{is_in_section, reply}
 use Rattle.cpu.specs.Table.Blocks.{Name, Reported, Nothing, Position, Done, WasClosed, DidShut, NotYet, Drained, Answer}

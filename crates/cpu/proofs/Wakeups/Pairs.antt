@@ -19,12 +19,12 @@ use Rattle.layer_traits.specs.declared.locked.Side.TheVariants.{Receivers, Sende
 use Rattle.layer_traits.specs.declared.moves.WaitList.{WaitList}
 use Rattle.layer_traits.specs.declared.moves.WaitList.TheVariants as wait_list
 use Rattle.layer_traits.specs.ListsAgree.{is_at, same_list}
-use Rattle.layer_traits.specs.Places.{Where, Home, Hand, Pend as IsPending, Asleep, At, wait_channel_of, is_thread, one_if, count_in}
+use Rattle.layer_traits.specs.Places.{Where, Asleep, At, wait_channel_of, is_thread, one_if, count_in}
 use Rattle.layer_traits.specs.Sleeping.{joined}
 use Rattle.layer_traits.specs.BufferBlocks.{may_join, is_first}
 use Rattle.layer_traits.proofs.CountLemmas.{same_tid_sym, count_append, count_front, in_counted, not_counted, count_behind}
 use Rattle.layer_traits.proofs.ListsLemmas.{count_without, at_wait_channel, wait_channel_here}
-use Rattle.cpu.specs.Table.Blocks.{Buffer, Name, AcqQ, Enter, TryPut, TryTake, Shut, WaitOn, SigRecv, SigSend, RelQ, Pend, TakeAll, front_stands_in}
+use Rattle.cpu.specs.Table.Blocks.{Buffer, Name, AcqQ, Enter, TryPut, TryTake, Shut, WaitOn, SigRecv, SigSend, RelQ, front_stands_in}
 use Rattle.cpu.specs.Table.Edits.{can_put, can_take, may_put, may_take, due_sender, due_receiver, without_any}
 use Rattle.cpu.specs.Table.Edits.{acquired, line_of, entered, put, taken, shut, waiting, released, edited_buffer, answer_of_acquire, answer_of_buffer}
 use Rattle.cpu.specs.Table.Setups.{Setup, home_of}

@@ -21,7 +21,7 @@ use Rattle.cpu.specs.Table.Blocks.{Buffer, Block, OfBuffer, OfPending, Name, Wai
 use Rattle.cpu.specs.Table.Edits.{edited, answer_of_buffer}
 use Rattle.cpu.specs.Table.Setups.{Setup, home_of, opening_buffer}
 use Rattle.cpu.specs.Wakeups.Order.{block_of}
-use Rattle.cpu.proofs.Wakeups.Posts.{Waiting, Visit, Outside, In, list_of}
+use Rattle.cpu.proofs.Wakeups.Posts.{Waiting, Visit, Outside, list_of}
 use Rattle.cpu.proofs.Wakeups.Posts.{is_caller, waiters_of, post_by, post_woken, post_drained, post_pending, post_buffer, post, next_visit, visit_buffer, visit}
 use Rattle.cpu.proofs.Wakeups.Posts.{MayComeTo, MayComeAt}
 use Rattle.cpu.proofs.Wakeups.Called.{CallersAre, callers_are, is_the_caller}

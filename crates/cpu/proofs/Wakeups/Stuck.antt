@@ -15,7 +15,7 @@ use Rattle.event_log.specs.History.{same_cpu}
 use Rattle.event_log.specs.Sections.{sections_in}
 use Rattle.event_log.proofs.Same.{same_cpu_self}
 use Rattle.guest.specs.declared.instructions.Instruction.{Instruction}
-use Rattle.guest.specs.declared.instructions.Instruction.TheVariants.{Set, Add, Sub, Jnz, Send, Recv, Close, Yield as YieldLine, Exit}
+use Rattle.guest.specs.declared.instructions.Instruction.TheVariants.{Send, Recv, Close}
 use Rattle.guest.specs.State.{State}
 use Rattle.thread_blocks.specs.Queues.{is_in, first}
 use Rattle.thread_blocks.proofs.Members.{same_tid_self}
@@ -28,7 +28,7 @@ use Rattle.layer_traits.proofs.ListsLemmas.{counted_in}
 use Rattle.cpu.specs.Table.Blocks.{Buffer, OfBuffer, side_of}
 use Rattle.cpu.specs.Table.Edits.{line_of}
 use Rattle.layer_traits.specs.declared.call_states.Stage.{Stage}
-use Rattle.layer_traits.specs.declared.call_states.Stage.TheVariants.{Idle, Acquires, Enters, Tries, Waits, AcquiresAgain, Signals, SignalsOwn, Releases}
+use Rattle.layer_traits.specs.declared.call_states.Stage.TheVariants.{AcquiresAgain, SignalsOwn}
 use Rattle.cpu.specs.Table.Setups.{Setup}
 use Rattle.cpu.specs.Table.Setups.{Call, Private, thread_at, home_of, stands_at}
 use Rattle.cpu.specs.Table.Choice.{at_hand}

@@ -11,7 +11,7 @@ use Rattle.layer_traits.specs.Plans.{is_in_section}
 use Rattle.layer_traits.specs.Along.{starts, others, steps}
 use Rattle.cpu.specs.Table.Blocks.{Name}
 use Rattle.cpu.specs.Table.Setups.{Setup, Private}
-use Rattle.cpu.specs.Table.Choice.{Choice, Halts, Alone, Goes, choice}
+use Rattle.cpu.specs.Table.Choice.{Choice, Goes, choice}
 use Rattle.cpu.specs.Table.Steps.{chosen, step_in, cpu_step, AlongTable}
 use Rattle.cpu.specs.Wakeups.Lost.{IsWorked, CpusLoseNoWakeUp}
 use Rattle.cpu.proofs.Wakeups.Lists.{refuted}

@@ -56,16 +56,8 @@ position_of position None = position
 -- whether its effect found the buffer closed
 abbrev pub closed_by : TowerCall → Kind → Bool
 closed_by (asks.Send b m) kind.SendClosed = true
-closed_by (asks.Send b m) kind.Send = false
-closed_by (asks.Send b m) kind.Recv = false
-closed_by (asks.Send b m) kind.Close = false
-closed_by (asks.Send b m) kind.RecvClosed = false
 closed_by (asks.Recv b) kind.RecvClosed = true
-closed_by (asks.Recv b) kind.Send = false
-closed_by (asks.Recv b) kind.Recv = false
-closed_by (asks.Recv b) kind.Close = false
-closed_by (asks.Recv b) kind.SendClosed = false
-closed_by (asks.Close b) kind = false
+closed_by call other = false
 
 abbrev pub was_closed : TowerCall → Option Effect → Bool
 was_closed call (Some f) = closed_by call f.kind
@@ -145,8 +137,7 @@ guests_after setup t (Some reply) guests =
 -- the trace after a poll: an effect writes its entry in the poll in which it comes
 abbrev pub trace_after : CpuId → Tid → BufId → (before after : Option Effect) → List Entry → List Entry
 trace_after c t b None (Some f) trace = trace ++ entry_of c t b f ∷ []
-trace_after c t b None None trace = trace
-trace_after c t b (Some f) after trace = trace
+trace_after c t b before after trace = trace
 
 -- the private state after a poll of a call
 abbrev pub private_after : Setup → CpuId → Tid → TowerCall → Buffering → List State → List Entry → Left Buffering Reply → Private
@@ -157,12 +148,7 @@ private_after setup c t call own guests trace left = private_of left.own (guests
 abbrev pub guests_passed : Setup → Pass → Option Tid → Option (Unit {0}) → List State → List State
 guests_passed setup pass.YieldNow (Some t) (Some answer) guests =
     slice_set guests t.0 (after_yield (next_of (program_of setup t) (guest_at guests t)) (guest_at guests t))
-guests_passed setup pass.YieldNow (Some t) None guests = guests
-guests_passed setup pass.YieldNow None answer guests = guests
-guests_passed setup pass.Switch current answer guests = guests
-guests_passed setup pass.Drain current answer guests = guests
-guests_passed setup (pass.MakeReady u) current answer guests = guests
-guests_passed setup pass.End current answer guests = guests
+guests_passed setup other current answer guests = guests
 
 -- the private state after a poll of a pass
 abbrev pub private_passed : Setup → Buffering → List State → List Entry → Pass → Left Buffering (Unit {0}) → Private
