@@ -121,15 +121,6 @@ homes_more plan t h xs within is before =
     ap (λ (l : List CpuId). l ++ h ∷ []) before ∙ ap (λ (x : CpuId). take t (homes_for plan) ++ x ∷ []) same
     ∙ sym (take_more (homes_for plan) t h (omega (arith, count, within)))
 
-pub guests_more : (plan : BootPlan) (c t : ℕ) (guest : Option Guest) (xs : List (Option Guest))
-    → t < length plan.tasks → guest ≡ slice_index_or (guests_for plan c) t None
-    → xs ≡ take t (guests_for plan c)
-    → xs ++ guest ∷ [] ≡ take (t + 1) (guests_for plan c)
-guests_more plan c t guest xs within is before =
-    let count = length-map plan.tasks (guest_for c) in
-    ap (λ (l : List (Option Guest)). l ++ guest ∷ []) before ∙ ap (λ (x : Option Guest). take t (guests_for plan c) ++ x ∷ []) is
-    ∙ sym (take_more (guests_for plan c) t None (omega (arith, count, within)))
-
 -- What a CPU has at the number of a thread.
 
 guest_there : (plan : BootPlan) (c t : ℕ) → t < length plan.tasks → (b : Bool) → (plan_home plan t == c) ≡ b

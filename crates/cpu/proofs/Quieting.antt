@@ -1,19 +1,18 @@
 -- When nobody is pending: by the places of the threads, and by the pending queues.
-use Rattle.std.proofs.Common.{◌≡◌, ◌≢◌, ◌⊎◌, inl, inr, ℕ, ◌+◌, ◌<◌, Bool, true, false, ◌||◌, List, [], ◌∷◌, length, Some, refl, ap, sym}
+use Rattle.std.proofs.Common.{◌≡◌, ◌≢◌, ◌⊎◌, inl, inr, ℕ, ◌+◌, ◌<◌, Bool, true, false, ◌||◌, List, [], ◌∷◌, length, refl, ap, sym}
 use Rattle.std.proofs.Common.{◌∙◌, subst, arith}
 use Rattle.std.proofs.lemmas.Bool.{and_right, cases_eq}
 use Rattle.std.proofs.lemmas.Option.{slice_get_within, same_Some}
 use Rattle.event_log.specs.declared.ids.CpuId.{CpuId}
 use Rattle.event_log.specs.declared.ids.Tid.{Tid}
-use Rattle.event_log.specs.declared.ids.LockId.TheVariants.{Buffer, Pending}
+use Rattle.event_log.specs.declared.ids.LockId.TheVariants.{Pending}
 use Rattle.event_log.proofs.Same.{same_cpu_self}
 use Rattle.thread_blocks.specs.Queues.{is_in}
 use Rattle.thread_blocks.proofs.Members.{same_tid_self}
 use Rattle.layer_traits.specs.declared.calls.Place.{Place}
 use Rattle.layer_traits.specs.declared.calls.Place.TheVariants as place
-use Rattle.layer_traits.specs.declared.moves.WaitList.TheVariants.{Receivers, Senders, Sleepers}
 use Rattle.layer_traits.specs.OnePlace.{cpu_at}
-use Rattle.layer_traits.specs.Places.{AreMoves, Asleep, At, Hand, Home, Pend, Stands, Step, Threads, Where, count_in, home_of, is_cpu, is_hand, is_home}
+use Rattle.layer_traits.specs.Places.{AreMoves, Hand, Pend, Stands, Step, Threads, count_in, home_of, is_cpu, is_hand, is_home}
 use Rattle.layer_traits.specs.Places.{is_pend, is_thread, one_if, pending_by, where_is}
 use Rattle.layer_traits.specs.Observed.{IsOwnPlace, queue_place}
 use Rattle.layer_traits.proofs.CountLemmas.{in_counted, is_thread_self}
@@ -59,19 +58,6 @@ pub place_pends : (s : Shown) (t : Tid) (p : Place) → MovesAgree s → IsPlace
 place_pends s t p agree (inl (k, q, at, own)) d pends =
     absurd (no_own_place s.homes (cpu_at k) s.moves q.own agree.lawful (agree.stands k q at) t d pends p own)
 place_pends s t p agree (inr told) d pends = ap is_pending (sym (same_Some (place.Pending d) p (sym (ap queue_place pends) ∙ told)))
-
-queue_pends : (w : Where) (c : CpuId) → queue_place w ≡ Some (place.Pending c) → w ≡ Pend c
-queue_pends Home c is = absurd (cc is)
-queue_pends (Hand e) c is = absurd (cc is)
-queue_pends (Pend d) c is = let same : d ≡ c = cc is in ap Pend same
-queue_pends (Asleep (At (Pending e) line)) c is = absurd (cc is)
-queue_pends (Asleep (At (Buffer b) Sleepers)) c is = absurd (cc is)
-queue_pends (Asleep (At (Buffer b) Receivers)) c is = absurd (cc is)
-queue_pends (Asleep (At (Buffer b) Senders)) c is = absurd (cc is)
-
-pub pends_place : (s : Shown) (t : Tid) (c : CpuId) → IsPlaceOf s t (place.Pending c) → where_is s.homes s.moves t ≡ Pend c
-pends_place s t c (inl (k, q, at, own)) = absurd own
-pends_place s t c (inr told) = queue_pends (where_is s.homes s.moves t) c told
 
 -- all pending queues are empty exactly where nobody is in one
 pub empty_of : (s : Shown) → MovesAgree s → ((t : Tid) → t.0 < length s.homes → (d : CpuId) → where_is s.homes s.moves t ≢ Pend d) → AllQueuesEmpty s

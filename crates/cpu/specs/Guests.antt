@@ -19,12 +19,11 @@ use Rattle.layer_traits.specs.declared.calls.Call.TheVariants.{Send, Recv, Close
 use Rattle.layer_traits.specs.declared.calls.Effect.{Effect}
 use Rattle.layer_traits.specs.declared.calls.Reply.{Reply}
 use Rattle.layer_traits.specs.declared.calls.Reply.TheVariants.{Sent, Got, Shut, Closed, NoBuffer}
-use Rattle.layer_traits.specs.declared.calls.ReplyKind.{ReplyKind}
 use Rattle.layer_traits.specs.declared.passes.Pass.{Pass}
-use Rattle.layer_traits.specs.declared.passes.Pass.TheVariants.{Switch, YieldNow, Drain, MakeReady, End}
+use Rattle.layer_traits.specs.declared.passes.Pass.TheVariants.{YieldNow, End}
 use Rattle.layer_traits.specs.declared.call_states.CallState.{CallState}
 use Rattle.layer_traits.specs.declared.call_states.Stage.TheVariants as call_state_stage
-use Rattle.layer_traits.specs.BufferLaw.{IsEffectOf, begun_of, entry_of, reply_with}
+use Rattle.layer_traits.specs.BufferLaw.{IsEffectOf, begun_of, entry_of}
 use Rattle.cpu.specs.declared.guests.Guest.{Guest}
 use Rattle.cpu.specs.declared.guests.GuestStage.{GuestStage}
 use Rattle.cpu.specs.declared.guests.GuestStage.TheVariants.{Idle, Begun, Done, Ended}
@@ -65,22 +64,14 @@ ended g = record g { stage = Ended }
 
 -- the guest of the thread that runs, after a pass is done
 abbrev pub after_pass : Pass → Guest → Guest
-after_pass Switch g = g
 after_pass YieldNow g = passed g
-after_pass Drain g = g
-after_pass (MakeReady t) g = g
 after_pass End g = ended g
+after_pass other g = g
 
 -- the effect that came in a poll, after which the thread's call state has this one: a call whose effect has come has no other
 abbrev pub fresh_effect : GuestStage → Option Effect → Option Effect
-fresh_effect Idle effect = effect
-fresh_effect Begun effect = effect
 fresh_effect Done effect = None
-fresh_effect Ended effect = effect
-
--- the answer of a poll that told this kind, and after which the call has had this effect
-abbrev pub answer_with : Option Effect → Option ReplyKind → Option Reply
-answer_with effect answer = option_map (λ kind. reply_with kind effect) answer
+fresh_effect stage effect = effect
 
 -- the stage after a poll of the call
 abbrev pub stage_after : Option Effect → Option Reply → GuestStage
@@ -107,31 +98,20 @@ polled g effect answer = record {
 
 -- after the effect of a send: one that found the buffer closed goes to the target
 abbrev pub after_sent : Kind → Option ℕ → State → State
-after_sent kind.Send k s = moved_on s
-after_sent kind.Recv k s = moved_on s
-after_sent kind.Close k s = moved_on s
 after_sent kind.SendClosed k s = moved_aside s k
-after_sent kind.RecvClosed k s = moved_on s
+after_sent other k s = moved_on s
 
 -- after the effect of a receive: one that found the buffer closed and empty goes to the target, and the registers stay
 abbrev pub after_received : Kind → Into → Option ℕ → Message → State → State
-after_received kind.Send into k message s = moved_into s into message
-after_received kind.Recv into k message s = moved_into s into message
-after_received kind.Close into k message s = moved_into s into message
-after_received kind.SendClosed into k message s = moved_into s into message
 after_received kind.RecvClosed into k message s = moved_aside s k
+after_received other into k message s = moved_into s into message
 
 -- the private state that an effect will leave once its call replies
 abbrev pub after_effect : Instruction → Effect → State → State
 after_effect (ins.Send b from k) f s = after_sent f.kind k s
 after_effect (ins.Recv b into k) f s = after_received f.kind into k f.value s
 after_effect (ins.Close b) f s = moved_on s
-after_effect ins.Exit f s = s
-after_effect ins.Yield f s = s
-after_effect (ins.Set r n) f s = s
-after_effect (ins.Add r q) f s = s
-after_effect (ins.Sub r q) f s = s
-after_effect (ins.Jnz r k) f s = s
+after_effect other f s = s
 
 -- a guest has come by its entries to where it stands, by its stage: before its effect they lead to its state; after it, to the state
 -- after the effect
@@ -162,21 +142,16 @@ entries_of cpu t b effect = option_to_list (option_map (entry_of cpu t b) effect
 
 -- whether a stage is that of a call without an effect
 abbrev pub is_begun : GuestStage → Bool
-is_begun Idle = false
 is_begun Begun = true
-is_begun Done = false
-is_begun Ended = false
+is_begun stage = false
 
 -- whether a stage is the last one
 abbrev pub is_ended : GuestStage → Bool
-is_ended Idle = false
-is_ended Begun = false
-is_ended Done = false
 is_ended Ended = true
+is_ended stage = false
 
 -- whether a stage is inside a call
 abbrev pub is_calling : GuestStage → Bool
-is_calling Idle = false
 is_calling Begun = true
 is_calling Done = true
-is_calling Ended = false
+is_calling stage = false

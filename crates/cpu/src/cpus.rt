@@ -1,7 +1,7 @@
 //! One CPU over a layer of message calls. No call takes memory or waits.
 
 ghost use Rattle.std.specs.Prelude.{◌≡◌, ◌+◌, ◌<◌, true, false, ◌≤◌, [], ◌∷◌, ◌++◌, Some, None, if◌then◌else◌, length, vec_capacity};
-ghost use Rattle.layer_traits.specs.BufferLaw.{buffer_of, entry_of};
+ghost use Rattle.layer_traits.specs.BufferLaw.{entry_of};
 ghost use Rattle.cpu.specs.Guests.{entries_of};
 ghost use Rattle.layer_traits.specs.declared.calls.Call.{Call};
 ghost use Rattle.cpu.specs.Cpus.{begins_at, begun_count, chosen_for, guest_at};
@@ -127,7 +127,7 @@ impl<I: CallLayer<IpcLaw>> Cpu<I> {
         ensures steps { I.IsStepwise → WentAt ⟦<I as CallLayer<IpcLaw>>⟧ m.old self.old m.new self.new Stepped }
     {
         let call = self.guests.call_of(thread, asked);
-        let buffer = buffer_of(call);
+        let buffer = call.buffer();
         let answer = self.part.poll_kind(m, thread, call);
         let effect = self.part.effect_here(thread);
         let fresh = self.guests.note_poll(thread, effect, answer);
@@ -341,15 +341,6 @@ fn put_entry(trace: &mut Vec<Entry>, entry: Entry)
     ensures capacity { vec_capacity trace.old ≤ vec_capacity trace.new }
 {
     trace.push_reserved(entry);
-}
-
-/// The buffer of a message call.
-#[inline(always)]
-fn buffer_of(call: &Call) -> BufId
-    ensures { result ≡ buffer_of call.now }
-{
-    let (Call::Send(buffer, _) | Call::Recv(buffer) | Call::Close(buffer)) = *call;
-    buffer
 }
 
 /// The entry of an effect on this buffer.

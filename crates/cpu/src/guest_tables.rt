@@ -3,7 +3,8 @@
 ghost use Rattle.std.specs.Prelude.{◌≡◌, ◌+◌, ◌^◌, ◌<◌, ◌≤◌, not, length, if◌then◌else◌, Some, None};
 ghost use Rattle.std.specs.List.{count_by, list_all};
 ghost use Rattle.layer_traits.specs.Places.{one_if};
-ghost use Rattle.cpu.specs.Guests.{answer_with, computed, is_begun, is_ended, polled};
+ghost use Rattle.layer_traits.specs.BufferLaw.{answer_with};
+ghost use Rattle.cpu.specs.Guests.{computed, is_begun, is_ended, polled};
 ghost use Rattle.layer_traits.specs.declared.calls.Call.{Call};
 ghost use Rattle.cpu.specs.Cpus.{begun_count, fresh_at, guest_at, is_begun_guest, is_over, passed_by, stands_at, with_guest};
 

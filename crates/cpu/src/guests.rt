@@ -3,12 +3,12 @@
 ghost use Rattle.std.specs.Prelude.{◌≡◌, Option, None, if◌then◌else◌};
 ghost use Rattle.layer_traits.specs.declared.calls.Call.{Call};
 ghost use Rattle.layer_traits.specs.declared.calls.Effect.{Effect};
-ghost use Rattle.layer_traits.specs.BufferLaw.{message_of};
+ghost use Rattle.layer_traits.specs.BufferLaw.{answer_with};
 ghost use Rattle.cpu.specs.declared.guests.Todo.TheVariants.{Calls};
 
-use event_log::{BufId, Msg};
+use event_log::BufId;
 use guest::{Instruction, Program, Thread};
-use layer_traits::{Call, Effect, Ghost, Pass, ReplyKind};
+use layer_traits::{Call, Effect, Ghost, Pass, ReplyKind, message_of};
 
 /// How a guest stands to its program.
 #[derive(Clone, Copy, Debug, PartialEq, Eq)]
@@ -75,7 +75,7 @@ pub struct Guest {
 }
 
 impl Guest {
-    ghost use Rattle.cpu.specs.Guests.{todo_of, new_guest, computed, passed, ended, after_pass, answer_with, fresh_effect, polled, is_calling};
+    ghost use Rattle.cpu.specs.Guests.{todo_of, new_guest, computed, passed, ended, after_pass, fresh_effect, polled, is_calling};
 
     /// A guest before its first instruction.
     pub(crate) fn new(program: Program) -> Guest
@@ -201,16 +201,5 @@ impl Guest {
             Some(ReplyKind::Shut) => self.thread.after_close(&self.program),
             Some(ReplyKind::Closed) => self.thread.after_closed(&self.program),
         }
-    }
-}
-
-/// The message of an effect; none where there is no effect.
-#[inline(always)]
-fn message_of(effect: &Option<Effect>) -> Msg
-    ensures { result ≡ message_of effect.now }
-{
-    match effect {
-        Some(effect) => effect.value,
-        None => Msg::none(),
     }
 }

@@ -15,7 +15,7 @@ ghost use Rattle.layer_traits.specs.Queues.{buffer_sections};
 ghost use Rattle.fifo_buffer.specs.SectionPolls.{MayPollSection, Sizes, SectionPolled, calling_after, reply_at};
 
 use crate::call_state_table::CallStates;
-use crate::sections::{answers_at_once, buffer_in, reply, section};
+use crate::sections::{answers_at_once, reply, section};
 use arrayvec::ArrayVec;
 use event_log::{BufId, CAPACITY, CpuId, Msg, Tid};
 use layer_traits::{
@@ -72,7 +72,7 @@ impl<C: ThreadLayer<CvLaw<BufferEdit>>> Fifo<C> {
             }) }
     {
         let edit = section(t, call, stage, &mut self.payload.parcel);
-        let buffer = buffer_in(call);
+        let buffer = call.buffer();
         let answer = self
             .lower
             .poll(m, BufferCall { buffer, edit }, &mut self.payload);

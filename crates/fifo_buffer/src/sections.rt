@@ -3,25 +3,15 @@
 ghost use Rattle.std.specs.Prelude.{◌≡◌, Option, option_map};
 ghost use Rattle.layer_traits.specs.declared.calls.Effect.{Effect};
 ghost use Rattle.layer_traits.specs.declared.payloads.Parcel.{Parcel};
-ghost use Rattle.layer_traits.specs.BufferLaw.{buffer_of, first_of, going, message_of, recorded, other_side, enlisted, reply_by, reply_with, section_at, side_of, reported_by, tried, try_of};
+ghost use Rattle.layer_traits.specs.BufferLaw.{first_of, going, message_of, recorded, other_side, enlisted, reply_by, reply_with, section_at, side_of, reported_by, tried, try_of};
 ghost use Rattle.layer_traits.specs.Payloads.{buffer_meant, buffer_told, cv_meant, cv_told, lock_meant, lock_told};
 ghost use Rattle.fifo_buffer.specs.SectionPolls.{is_at_once, reply_at};
 
-use event_log::{BufId, Kind, Msg, Tid};
+use event_log::{Kind, Msg, Tid};
 use layer_traits::{
     BareBufferEdit, BareBufferOut, Call, CallState, CvEdit, CvLeave, CvOut, Effect, Parcel, QEdit,
     QOut, ReplyKind, Side, Stage,
 };
-
-/// The buffer of a call.
-#[inline(always)]
-pub fn buffer_in(call: &Call) -> BufId
-    ensures { result ≡ buffer_of call.now }
-{
-    match call {
-        Call::Send(buffer, _) | Call::Recv(buffer) | Call::Close(buffer) => *buffer,
-    }
-}
 
 /// A call's own side; a close signals to the senders last.
 #[inline(always)]

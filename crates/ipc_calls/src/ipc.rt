@@ -6,7 +6,6 @@ ghost use Rattle.event_log.specs.declared.ids.LockId.TheVariants.{Pending};
 ghost use Rattle.event_log.specs.declared.ids.Tid.{Tid};
 ghost use Rattle.event_log.specs.declared.ids.TheConstants.{THREADS};
 ghost use Rattle.layer_traits.specs.declared.calls.Place.{Place};
-ghost use Rattle.layer_traits.specs.BufferLaw.{buffer_of};
 ghost use Rattle.layer_traits.specs.Places.{home_of, is_thread};
 ghost use Rattle.layer_traits.specs.Observed.{IsOwnPlace};
 ghost use Rattle.ipc_calls.specs.Parts.{IsAway, asleep_at, wait_list_read, pends_read, said};
@@ -19,15 +18,6 @@ use layer_traits::{
     ReplyKind, WaitList, kept_homes,
 };
 use std::alloc::Global;
-
-/// The buffer of a call.
-fn buffer_in(call: &Call) -> BufId
-    ensures { result ≡ buffer_of call.now }
-{
-    match *call {
-        Call::Send(buffer, _) | Call::Recv(buffer) | Call::Close(buffer) => buffer,
-    }
-}
 
 /// Whether it is this thread.
 fn is_it(t: Tid, other: Option<Tid>) -> bool
@@ -154,7 +144,7 @@ impl<B: CallLayer<BufferLaw>> CallLayer<IpcLaw> for Ipc<B> {
     }
 
     fn poll_kind(&mut self, m: &mut B::Machine, t: Tid, call: &Call) -> Option<ReplyKind> {
-        let buffer = buffer_in(call);
+        let buffer = call.buffer();
         if buffer.0 >= self.buffers {
             return Some(ReplyKind::NoBuffer);
         }

@@ -119,6 +119,10 @@ reply_with bare.Shut effect = reply.Shut
 reply_with bare.Closed effect = reply.Closed
 reply_with bare.NoBuffer effect = reply.NoBuffer
 
+-- the answer of a poll that told this kind, and after which the call has had this effect
+abbrev pub answer_with : Option Effect → Option ReplyKind → Option Reply
+answer_with effect answer = option_map (λ kind. reply_with kind effect) answer
+
 -- the entry of an effect on a buffer, by a thread of a CPU
 abbrev pub entry_of : CpuId → Tid → BufId → Effect → Entry
 entry_of cpu t b f = entry cpu t f.kind b f.value f.op f.pos
@@ -171,7 +175,7 @@ call_state_of call_states t = slice_index_or call_states t.0 no_call
 
 -- the answer of a poll that told this kind and left these call states
 abbrev pub answer_in : List CallState → Tid → Option ReplyKind → Option Reply
-answer_in left t answer = option_map (λ kind. reply_with kind (call_state_of left t).effect) answer
+answer_in left t answer = answer_with (call_state_of left t).effect answer
 
 -- an answer agrees with the call state: the call goes on, or it is over and the answer is its effect's
 abbrev pub Answered : Call → CallState → Option Reply → Type 0

@@ -371,9 +371,9 @@ fn whole_reply(kind: ReplyKind, effect: &Option<Effect>) -> Reply
     }
 }
 
-/// The message of an effect; none where there is no effect.
+/// The message of an effect; none if there is no effect.
 #[inline(always)]
-fn message_of(effect: &Option<Effect>) -> Msg
+pub fn message_of(effect: &Option<Effect>) -> Msg
     ensures { result ≡ message_of effect.now }
 {
     match effect {

@@ -15,6 +15,21 @@ pub enum Call {
     Close(BufId),
 }
 
+impl Call {
+    ghost use Rattle.std.specs.Prelude.{◌≡◌};
+    ghost use Rattle.layer_traits.specs.BufferLaw.{buffer_of};
+
+    /// The buffer that the call names.
+    #[inline(always)]
+    pub fn buffer(&self) -> BufId
+        ensures { result ≡ buffer_of self.now }
+    {
+        match self {
+            Call::Send(buffer, _) | Call::Recv(buffer) | Call::Close(buffer) => *buffer,
+        }
+    }
+}
+
 /// What a message call answers.
 #[derive(Clone, Copy, Debug, PartialEq, Eq)]
 pub enum Reply {

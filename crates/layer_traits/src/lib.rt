@@ -55,7 +55,7 @@ pub use block_box::BlockBox;
 pub use buffer_blocks::BufferBlock;
 pub use buffer_edits::{BareBufferEdit, BareBufferOut, BufferEdit, BufferOut};
 pub use buffer_layers::{BufferLaw, BufferLayer};
-pub use call_layers::{CallLaw, CallLayer};
+pub use call_layers::{CallLaw, CallLayer, message_of};
 pub use call_states::{CallState, Stage};
 pub use calls::{Call, Effect, Place, Reply, ReplyKind};
 pub use conditions::{CvEdit, CvLeave, CvOut, Guarded, WholeGuarded};

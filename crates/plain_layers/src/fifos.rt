@@ -24,15 +24,6 @@ pub struct PlainFifo<S> {
     call_states: [CallState; THREADS],
 }
 
-/// The buffer of a call.
-fn buffer_in(call: &Call) -> BufId
-    ensures { result ≡ buffer_of call.now }
-{
-    match *call {
-        Call::Send(buffer, _) | Call::Recv(buffer) | Call::Close(buffer) => buffer,
-    }
-}
-
 /// What a call asks of its buffer.
 fn ask_in(call: &Call) -> Ask
     ensures { result ≡ ask_of call.now }
@@ -200,7 +191,7 @@ impl<S: ThreadLayer<SleepLaw<Attempt>>> CallLayer<BufferLaw> for PlainFifo<S> {
         let outcome = whole::<Attempt, S>(
             &mut self.lower,
             m,
-            buffer_in(call),
+            call.buffer(),
             attempt_in(t, call),
             &mut payload,
         );

@@ -15,8 +15,6 @@ use Rattle.layer_traits.specs.declared.calls.Call.{Call}
 use Rattle.layer_traits.specs.declared.calls.Effect.{Effect}
 use Rattle.layer_traits.specs.declared.calls.Reply.{Reply}
 use Rattle.layer_traits.specs.declared.steps.Step.TheVariants.{Stepped}
-use Rattle.layer_traits.specs.declared.call_states.Stage.{Stage}
-use Rattle.layer_traits.specs.declared.call_states.Stage.TheVariants as at
 use Rattle.layer_traits.specs.declared.call_states.CallState.{CallState}
 use Rattle.layer_traits.specs.Along.{IsStep}
 use Rattle.layer_traits.specs.LockLaw.{slept_for}
@@ -24,7 +22,9 @@ use Rattle.layer_traits.specs.Places.{is_thread}
 use Rattle.layer_traits.specs.Plans.{Left, Follows, is_in_section}
 use Rattle.layer_traits.specs.BufferLaw.{Buffering, begun_at, fifo_plan, going, going_at, plan_at, call_state_of}
 use Rattle.event_log.specs.Runs.{Sends, Receives, Closes}
-use Rattle.cpu.specs.Table.Setups.{Setup, Acquires, Call as TableCall, Private, new_thread, program_of, thread_at}
+use Rattle.layer_traits.specs.declared.call_states.Stage.{Stage}
+use Rattle.layer_traits.specs.declared.call_states.Stage.TheVariants.{Idle, Acquires}
+use Rattle.cpu.specs.Table.Setups.{Setup, Call as TableCall, Private, new_thread, program_of, thread_at}
 use Rattle.cpu.specs.Table.Choice.{Goes, at_instruction, choice, new_call}
 use Rattle.cpu.specs.Table.Steps.{cpu_step, halted_at, halted_by}
 use Rattle.cpu.specs.Tower.Views.{TowerOut, tower}
@@ -152,7 +152,7 @@ module _ (site : Site) (had : HasHad site None) (first_position : site.position 
   begins_at (instruction.Sub r q) is halted = absurd is
   begins_at (instruction.Jnz r k) is halted = absurd is
 
-  pub choice_begins : (call_state_of site.call_states site.t).stage ≡ at.Idle → AsksFor (next_of (program_of site.setup site.t) g) g site.call
+  pub choice_begins : (call_state_of site.call_states site.t).stage ≡ Idle → AsksFor (next_of (program_of site.setup site.t) g) g site.call
       → halted_at site.setup site.c p ≡ None → choice site.setup site.c p ≡ Goes (from site None had Acquires)
   choice_begins at_idle begins_here halted =
       let no_call : (thread_at p site.t).call ≡ None
@@ -192,7 +192,7 @@ module _ (polled : Polled) (own : Buffering) (guests : List State) (trace : List
   by_pieces halted follow =
       let p : Private = private_of pieces guests trace in
       let q : Private = from site None had Acquires in
-      let plan : fifo_plan setup.homes c t call pieces ≡ plan_at setup.homes c t call at.Acquires (call_state site None had at.Acquires) pieces
+      let plan : fifo_plan setup.homes c t call pieces ≡ plan_at setup.homes c t call Acquires (call_state site None had Acquires) pieces
       = ap (λ s. plan_at setup.homes c t call (going_at s (call_state_of own.call_states t) call).stage
       (going_at s (call_state_of own.call_states t) call) pieces) beginning.at_idle in
       let line = subst (λ x. IsLine setup c q x (private_after setup c t call pieces guests trace)) (sym plan) (asks_line site had) in

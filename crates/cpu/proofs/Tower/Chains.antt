@@ -17,8 +17,6 @@ use Rattle.layer_traits.specs.declared.locked.QEdit.TheVariants.{Acquire, Releas
 use Rattle.layer_traits.specs.declared.conditions.CvLeave.TheVariants.{Wait}
 use Rattle.layer_traits.specs.declared.buffer_edits.BufferEdit.{BufferEdit}
 use Rattle.layer_traits.specs.declared.buffer_edits.BufferOut.{BufferOut}
-use Rattle.layer_traits.specs.declared.call_states.Stage.{Stage}
-use Rattle.layer_traits.specs.declared.call_states.Stage.TheVariants as at
 use Rattle.layer_traits.specs.declared.call_states.CallState.{CallState}
 use Rattle.layer_traits.specs.BufferProtocol.{buffer_rules}
 use Rattle.layer_traits.specs.BufferLaw.{BufferPlan, Buffering, buffer_of, chained, fifo_plan, going, left_recorded, plan_at, plan_of, plan_on, no_call}
@@ -28,7 +26,9 @@ use Rattle.layer_traits.specs.CvLaw.{Waiting, cv_plan, cv_plan_for, left_waiting
 use Rattle.layer_traits.specs.LockLaw.{plan_for, slept_for}
 use Rattle.layer_traits.specs.Locking.{lock_moves}
 use Rattle.layer_traits.specs.Plans.{Plan, raised}
-use Rattle.cpu.specs.Table.Setups.{Setup, Acquires, Enters, Tries, Waits, AcquiresAgain, Signals, SignalsOwn, Releases, CallStage}
+use Rattle.layer_traits.specs.declared.call_states.Stage.{Stage}
+use Rattle.layer_traits.specs.declared.call_states.Stage.TheVariants.{Acquires, Enters, Tries, Waits, AcquiresAgain, Signals, SignalsOwn, Releases}
+use Rattle.cpu.specs.Table.Setups.{Setup}
 use Rattle.cpu.specs.Tower.Views.{TowerAnswer, TowerName, TowerOut}
 use Rattle.cpu.specs.Tower.Privates.{guest_at, guests_after, private_after, private_of, thread_from, tid, trace_after}
 use Rattle.cpu.specs.Tower.Composed.{IsLine, IsLined}
@@ -67,15 +67,15 @@ fifo_at setup c t call own call_state is = ap (λ x. plan_at setup.homes c t cal
 -- a line of a begun call
 module _ (site : Site) (effect : Option Effect) (had : HasHad site effect) (stage : Stage)
     (is : call_state_of site.call_states site.t ≡ call_state site effect had stage) where
-  pub going_line : (at : CallStage) → thread_from (call_state site effect had stage) None None false (e site effect had) (g site effect had)
-      ≡ with_call site effect had (k site effect had at)
+  pub going_line : thread_from (call_state site effect had stage) None None false (e site effect had) (g site effect had)
+      ≡ with_call site effect had (k site effect had stage)
       → (plan : BufferPlan Reply)
       → plan_at site.setup.homes site.c site.t site.call (going (call_state site effect had stage) site.call).stage (going
       (call_state site effect had stage) site.call)
       (own site effect had) ≡ plan
-      → IsLine site.setup site.c (from site effect had at) plan (after site effect had)
+      → IsLine site.setup site.c (from site effect had stage) plan (after site effect had)
       → LineOf site.setup site.c site.t site.call (own site effect had) site.guests site.trace
-  going_line at same plan is_plan line =
+  going_line same plan is_plan line =
       let here = private_here site.runner None None site.trace (call_state site effect had stage) None None is site.is_slept site.is_waits
       ∙ ap (λ x. parts (Some site.t) site.ready None (slice_set (threads site effect had) site.t.0 x) site.trace) same in
       let way = fifo_at site.setup site.c site.t site.call (own site effect had) (call_state site effect had stage) is ∙ is_plan in
@@ -91,36 +91,36 @@ module _ (site : Site) where
       → HasHad site None
   had_none stage so is = ap (λ x. (going x call).effect) is ∙ so
 
-  pub site_asks : call_state_of call_states t ≡ call_state_at caller at.Acquires None → SiteLine
-  site_asks is = let had = had_none at.Acquires refl is in going_line site None had at.Acquires is Acquires refl _ refl (asks_line site had)
+  pub site_asks : call_state_of call_states t ≡ call_state_at caller Acquires None → SiteLine
+  site_asks is = let had = had_none Acquires refl is in going_line site None had Acquires is refl _ refl (asks_line site had)
 
-  pub site_enters : call_state_of call_states t ≡ call_state_at caller at.Enters None → SiteLine
-  site_enters is = let had = had_none at.Enters refl is in going_line site None had at.Enters is Enters refl _ refl (enters_line site had)
+  pub site_enters : call_state_of call_states t ≡ call_state_at caller Enters None → SiteLine
+  site_enters is = let had = had_none Enters refl is in going_line site None had Enters is refl _ refl (enters_line site had)
 
-  pub site_tries : IsLined call → call_state_of call_states t ≡ call_state_at caller at.Tries None → SiteLine
-  site_tries lined is = let had = had_none at.Tries refl is in going_line site None had at.Tries is Tries refl _ refl (tries_line site had lined)
+  pub site_tries : IsLined call → call_state_of call_states t ≡ call_state_at caller Tries None → SiteLine
+  site_tries lined is = let had = had_none Tries refl is in going_line site None had Tries is refl _ refl (tries_line site had lined)
 
-  pub site_waits : call_state_of call_states t ≡ call_state_at caller at.Waits None → SiteLine
-  site_waits is = let had = had_none at.Waits refl is in going_line site None had at.Waits is Waits refl _ refl (waits_line site had)
+  pub site_waits : call_state_of call_states t ≡ call_state_at caller Waits None → SiteLine
+  site_waits is = let had = had_none Waits refl is in going_line site None had Waits is refl _ refl (waits_line site had)
 
-  pub site_asks_again : call_state_of call_states t ≡ call_state_at caller at.AcquiresAgain None → SiteLine
+  pub site_asks_again : call_state_of call_states t ≡ call_state_at caller AcquiresAgain None → SiteLine
   site_asks_again is =
-      let had = had_none at.AcquiresAgain refl is in going_line site None had at.AcquiresAgain is AcquiresAgain refl _ refl (asks_again_line site had)
+      let had = had_none AcquiresAgain refl is in going_line site None had AcquiresAgain is refl _ refl (asks_again_line site had)
 
-  pub site_signals : (f : Effect) → call_state_of call_states t ≡ call_state_at caller at.Signals (Some f) → SiteLine
+  pub site_signals : (f : Effect) → call_state_of call_states t ≡ call_state_at caller Signals (Some f) → SiteLine
   site_signals f is =
       let had : HasHad site (Some f) = ap (λ x. (going x call).effect) is in
-      going_line site (Some f) had at.Signals is Signals refl _ refl (signals_line site f had)
+      going_line site (Some f) had Signals is refl _ refl (signals_line site f had)
 
-  pub site_own_signals : (f : Effect) → call_state_of call_states t ≡ call_state_at caller at.SignalsOwn (Some f) → SiteLine
+  pub site_own_signals : (f : Effect) → call_state_of call_states t ≡ call_state_at caller SignalsOwn (Some f) → SiteLine
   site_own_signals f is =
       let had : HasHad site (Some f) = ap (λ x. (going x call).effect) is in
-      going_line site (Some f) had at.SignalsOwn is SignalsOwn refl _ refl (own_signals_line site f had)
+      going_line site (Some f) had SignalsOwn is refl _ refl (own_signals_line site f had)
 
-  pub site_releases : (f : Effect) → call_state_of call_states t ≡ call_state_at caller at.Releases (Some f) → SiteLine
+  pub site_releases : (f : Effect) → call_state_of call_states t ≡ call_state_at caller Releases (Some f) → SiteLine
   site_releases f is =
       let had : HasHad site (Some f) = ap (λ x. (going x call).effect) is in
-      going_line site (Some f) had at.Releases is Releases refl _ refl (releases_line site f had)
+      going_line site (Some f) had Releases is refl _ refl (releases_line site f had)
 
 -- Chains: the thread slept for the lock and was handed it, or waited and was woken.
 
@@ -189,66 +189,66 @@ module _ (caller : Caller) where
   waits_long = subst (λ n. t.0 < n) (sym (length-set waits t.0 None)) in_waits
 
   -- the plan of a thread that was handed the lock is that of its next section
-  pub handed_plan : (b : BufId) → call_state_of call_states t ≡ so at.Acquires → slept_for slept t ≡ Some b → slept_for waits t ≡ None
-      → fifo_plan setup.homes c t call was ≡ fifo_plan setup.homes c t call (then_own (slice_set slept t.0 None) waits at.Enters)
+  pub handed_plan : (b : BufId) → call_state_of call_states t ≡ so Acquires → slept_for slept t ≡ Some b → slept_for waits t ≡ None
+      → fifo_plan setup.homes c t call was ≡ fifo_plan setup.homes c t call (then_own (slice_set slept t.0 None) waits Enters)
   handed_plan b is s w =
-      let own2 = then_own (slice_set slept t.0 None) waits at.Enters in
-      fifo_at setup c t call was (so at.Acquires) is
-      ∙ (ap (chained (λ left. plan_of setup.homes c t call at.Enters (call_state_of left.call_states t) left) (left_recorded t call
-      (so at.Acquires) call_states at.Acquires))
+      let own2 = then_own (slice_set slept t.0 None) waits Enters in
+      fifo_at setup c t call was (so Acquires) is
+      ∙ (ap (chained (λ left. plan_of setup.homes c t call Enters (call_state_of left.call_states t) left) (left_recorded t call
+      (so Acquires) call_states Acquires))
       (handed_now b w s)
-      ∙ (ap (λ x. plan_of setup.homes c t call at.Enters x own2) (now_call_state at.Enters)
-      ∙ sym (fifo_at setup c t call own2 (so at.Enters) (now_call_state at.Enters))))
+      ∙ (ap (λ x. plan_of setup.homes c t call Enters x own2) (now_call_state Enters)
+      ∙ sym (fifo_at setup c t call own2 (so Enters) (now_call_state Enters))))
 
-  pub handed_line : (b : BufId) → call_state_of call_states t ≡ so at.Acquires → slept_for slept t ≡ Some b → slept_for waits t ≡ None
+  pub handed_line : (b : BufId) → call_state_of call_states t ≡ so Acquires → slept_for slept t ≡ Some b → slept_for waits t ≡ None
       → LineOf setup c t call was guests trace
   handed_line b is s w =
-      let own2 = then_own (slice_set slept t.0 None) waits at.Enters in
-      chained_line at.Acquires at.Enters own2 is (now_call_state at.Enters) refl refl
-      (same_private at.Acquires at.Enters (slice_set slept t.0 None) waits (Some b) None is s w
+      let own2 = then_own (slice_set slept t.0 None) waits Enters in
+      chained_line Acquires Enters own2 is (now_call_state Enters) refl refl
+      (same_private Acquires Enters (slice_set slept t.0 None) waits (Some b) None is s w
       (λ j other. get_or-set_other slept t.0 j None None other) (λ j other. refl) slept_set w refl)
       (handed_plan b is s w)
-      (site_enters (awake (at_next caller (slice_set slept t.0 None) waits at.Enters slept_long in_waits) slept_set w) (now_call_state at.Enters))
+      (site_enters (awake (at_next caller (slice_set slept t.0 None) waits Enters slept_long in_waits) slept_set w) (now_call_state Enters))
 
-  pub handed_again_plan : (b : BufId) → call_state_of call_states t ≡ so at.AcquiresAgain → slept_for slept t ≡ Some b → slept_for waits t ≡ None
-      → fifo_plan setup.homes c t call was ≡ fifo_plan setup.homes c t call (then_own (slice_set slept t.0 None) waits at.Tries)
+  pub handed_again_plan : (b : BufId) → call_state_of call_states t ≡ so AcquiresAgain → slept_for slept t ≡ Some b → slept_for waits t ≡ None
+      → fifo_plan setup.homes c t call was ≡ fifo_plan setup.homes c t call (then_own (slice_set slept t.0 None) waits Tries)
   handed_again_plan b is s w =
-      let own2 = then_own (slice_set slept t.0 None) waits at.Tries in
-      fifo_at setup c t call was (so at.AcquiresAgain) is
-      ∙ (ap (chained (λ left. plan_of setup.homes c t call at.Tries (call_state_of left.call_states t) left)
-      (left_recorded t call (so at.AcquiresAgain) call_states at.AcquiresAgain)) (handed_now b w s)
-      ∙ (ap (λ x. plan_of setup.homes c t call at.Tries x own2) (now_call_state at.Tries)
-      ∙ sym (fifo_at setup c t call own2 (so at.Tries) (now_call_state at.Tries))))
+      let own2 = then_own (slice_set slept t.0 None) waits Tries in
+      fifo_at setup c t call was (so AcquiresAgain) is
+      ∙ (ap (chained (λ left. plan_of setup.homes c t call Tries (call_state_of left.call_states t) left)
+      (left_recorded t call (so AcquiresAgain) call_states AcquiresAgain)) (handed_now b w s)
+      ∙ (ap (λ x. plan_of setup.homes c t call Tries x own2) (now_call_state Tries)
+      ∙ sym (fifo_at setup c t call own2 (so Tries) (now_call_state Tries))))
 
-  pub handed_again_line : (b : BufId) → IsLined call → call_state_of call_states t ≡ so at.AcquiresAgain → slept_for slept t ≡ Some b → slept_for waits t ≡ None
+  pub handed_again_line : (b : BufId) → IsLined call → call_state_of call_states t ≡ so AcquiresAgain → slept_for slept t ≡ Some b → slept_for waits t ≡ None
       → LineOf setup c t call was guests trace
   handed_again_line b lined is s w =
-      let own2 = then_own (slice_set slept t.0 None) waits at.Tries in
-      chained_line at.AcquiresAgain at.Tries own2 is (now_call_state at.Tries) refl refl
-      (same_private at.AcquiresAgain at.Tries (slice_set slept t.0 None) waits (Some b) None is s w
+      let own2 = then_own (slice_set slept t.0 None) waits Tries in
+      chained_line AcquiresAgain Tries own2 is (now_call_state Tries) refl refl
+      (same_private AcquiresAgain Tries (slice_set slept t.0 None) waits (Some b) None is s w
       (λ j other. get_or-set_other slept t.0 j None None other) (λ j other. refl) slept_set w refl)
       (handed_again_plan b is s w)
-      (site_tries (awake (at_next caller (slice_set slept t.0 None) waits at.Tries slept_long in_waits) slept_set w) lined (now_call_state at.Tries))
+      (site_tries (awake (at_next caller (slice_set slept t.0 None) waits Tries slept_long in_waits) slept_set w) lined (now_call_state Tries))
 
   -- the plan of a thread that was woken is to ask for the lock again
-  pub woken_plan : (b : BufId) → call_state_of call_states t ≡ so at.Waits → slept_for slept t ≡ None → slept_for waits t ≡ Some b
-      → fifo_plan setup.homes c t call was ≡ fifo_plan setup.homes c t call (then_own slept (slice_set waits t.0 None) at.AcquiresAgain)
+  pub woken_plan : (b : BufId) → call_state_of call_states t ≡ so Waits → slept_for slept t ≡ None → slept_for waits t ≡ Some b
+      → fifo_plan setup.homes c t call was ≡ fifo_plan setup.homes c t call (then_own slept (slice_set waits t.0 None) AcquiresAgain)
   woken_plan b is s w =
-      let own2 = then_own slept (slice_set waits t.0 None) at.AcquiresAgain in
-      fifo_at setup c t call was (so at.Waits) is
-      ∙ (ap (chained (λ left. plan_on setup.homes c t call at.AcquiresAgain (plan_of setup.homes c t call at.Tries) (call_state_of left.call_states t) left)
-      (left_recorded t call (so at.Waits) call_states at.Waits))
+      let own2 = then_own slept (slice_set waits t.0 None) AcquiresAgain in
+      fifo_at setup c t call was (so Waits) is
+      ∙ (ap (chained (λ left. plan_on setup.homes c t call AcquiresAgain (plan_of setup.homes c t call Tries) (call_state_of left.call_states t) left)
+      (left_recorded t call (so Waits) call_states Waits))
       (ap (cv_plan_for (lock_moves buffer_rules) setup.homes c (buffer_of call) (Release (Wait t (tower_side call))) was.cv) w)
-      ∙ (ap (λ x. plan_on setup.homes c t call at.AcquiresAgain (plan_of setup.homes c t call at.Tries) x own2) (now_call_state at.AcquiresAgain)
-      ∙ sym (fifo_at setup c t call own2 (so at.AcquiresAgain) (now_call_state at.AcquiresAgain))))
+      ∙ (ap (λ x. plan_on setup.homes c t call AcquiresAgain (plan_of setup.homes c t call Tries) x own2) (now_call_state AcquiresAgain)
+      ∙ sym (fifo_at setup c t call own2 (so AcquiresAgain) (now_call_state AcquiresAgain))))
 
-  pub woken_line : (b : BufId) → call_state_of call_states t ≡ so at.Waits → slept_for slept t ≡ None → slept_for waits t ≡ Some b
+  pub woken_line : (b : BufId) → call_state_of call_states t ≡ so Waits → slept_for slept t ≡ None → slept_for waits t ≡ Some b
       → LineOf setup c t call was guests trace
   woken_line b is s w =
-      let own2 = then_own slept (slice_set waits t.0 None) at.AcquiresAgain in
-      chained_line at.Waits at.AcquiresAgain own2 is (now_call_state at.AcquiresAgain) refl refl
-      (same_private at.Waits at.AcquiresAgain slept (slice_set waits t.0 None) None (Some b) is s w
+      let own2 = then_own slept (slice_set waits t.0 None) AcquiresAgain in
+      chained_line Waits AcquiresAgain own2 is (now_call_state AcquiresAgain) refl refl
+      (same_private Waits AcquiresAgain slept (slice_set waits t.0 None) None (Some b) is s w
       (λ j other. refl) (λ j other. get_or-set_other waits t.0 j None None other) s waits_set refl)
       (woken_plan b is s w)
-      (site_asks_again (awake (at_next caller slept (slice_set waits t.0 None) at.AcquiresAgain in_slept waits_long) s waits_set)
-      (now_call_state at.AcquiresAgain))
+      (site_asks_again (awake (at_next caller slept (slice_set waits t.0 None) AcquiresAgain in_slept waits_long) s waits_set)
+      (now_call_state AcquiresAgain))

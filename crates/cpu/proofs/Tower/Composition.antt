@@ -18,8 +18,6 @@ use Rattle.layer_traits.specs.declared.conditions.CvOut.TheVariants as cv
 use Rattle.layer_traits.specs.declared.buffer_edits.BufferOut.{BufferOut}
 use Rattle.layer_traits.specs.declared.buffer_edits.BufferOut.TheVariants.{Entered, NotYet, Done, WasShut}
 use Rattle.layer_traits.specs.declared.queues.QueueAnswer.TheVariants as told
-use Rattle.layer_traits.specs.declared.call_states.Stage.{Stage}
-use Rattle.layer_traits.specs.declared.call_states.Stage.TheVariants as at
 use Rattle.layer_traits.specs.declared.call_states.CallState.{CallState}
 use Rattle.layer_traits.specs.BufferBlocks.{BufferState, buffer_answer}
 use Rattle.layer_traits.specs.BufferProtocol.{buffer_rules}
@@ -30,7 +28,9 @@ use Rattle.layer_traits.specs.LockLaw.{slept_for}
 use Rattle.layer_traits.specs.Locking.{LockState, wait_list_asked, lock_answer, asker_report}
 use Rattle.layer_traits.specs.Plans.{Left, Plan, raised}
 use Rattle.cpu.specs.Table.Blocks.{Position, effect_of}
-use Rattle.cpu.specs.Table.Setups.{Acquires, Enters, Tries, Waits, AcquiresAgain, Signals, SignalsOwn, Releases, Returns, Private, program_of}
+use Rattle.layer_traits.specs.declared.call_states.Stage.{Stage}
+use Rattle.layer_traits.specs.declared.call_states.Stage.TheVariants.{Idle, Acquires, Enters, Tries, Waits, AcquiresAgain, Signals, SignalsOwn, Releases}
+use Rattle.cpu.specs.Table.Setups.{Private, program_of}
 use Rattle.cpu.specs.Table.Choice.{after_section, settled, slept_if}
 use Rattle.cpu.specs.Tower.Views.{TowerAnswer, TowerName, TowerOut, answer_view}
 use Rattle.cpu.specs.Tower.Privates.{asks_in, call_from, message_of}
@@ -68,56 +68,56 @@ module _ (site : Site) (had : HasHad site None) where
   at_buf stage next p = chained next (left_recorded site.t site.call (call_state site None had stage) site.call_states stage) p
 
   -- it asks for the lock
-  ask : (o : Option Tid) → after site None had (react site None had at.Acquires (Acquire site.t) (Some (told.Answer (asked_out o))))
+  ask : (o : Option Tid) → after site None had (react site None had Acquires (Acquire site.t) (Some (told.Answer (asked_out o))))
       ≡ after_section site.setup site.c (from site None had Acquires) (answer_view (told.Answer (asked_out o)))
   ask None =
-      runs_on site None had None site.ready None (at_stage at.Enters (call_state site None had at.Acquires)) None
+      runs_on site None had None site.ready None (at_stage Enters (call_state site None had Acquires)) None
       ∙ sym (by_table site None had Acquires (answer_view (told.Answer (asked_out None))) (k site None had Enters) site.trace refl
       ∙ stays_so site None had (k site None had Enters) site.ready site.trace (λ p. refl))
   ask (Some owner) =
-      sleeps_now site None had at.Acquires
+      sleeps_now site None had Acquires
       ∙ sym (by_table site None had Acquires (answer_view (told.Answer (asked_out (Some owner)))) (k site None had Enters) site.trace refl)
 
-  pub asks_plan : plan at.Acquires ≡ fresh site None had at.Acquires (Acquire site.t)
+  pub asks_plan : plan Acquires ≡ fresh site None had Acquires (Acquire site.t)
   asks_plan =
-      ap (at_buf at.Acquires (λ l. plan_of site.setup.homes site.c site.t site.call at.Enters (call_state_of l.call_states site.t) l))
+      ap (at_buf Acquires (λ l. plan_of site.setup.homes site.c site.t site.call Enters (call_state_of l.call_states site.t) l))
       (beneath_is site None had (Acquire site.t) site.is_waits site.is_slept)
 
-  pub asks_line : IsLine site.setup site.c (from site None had Acquires) (plan at.Acquires) (after site None had)
+  pub asks_line : IsLine site.setup site.c (from site None had Acquires) (plan Acquires) (after site None had)
   asks_line =
-      line site None had at.Acquires (Acquire site.t) Acquires (plan at.Acquires)
+      line site None had Acquires (Acquire site.t) (plan Acquires)
       asks_plan
-      refl (runs_on site None had None site.ready None (call_state site None had at.Acquires) None) (λ x known. ask x.owner)
+      refl (runs_on site None had None site.ready None (call_state site None had Acquires) None) (λ x known. ask x.owner)
 
-  ask_again : (o : Option Tid) → after site None had (react site None had at.AcquiresAgain (Acquire site.t) (Some (told.Answer (asked_out o))))
+  ask_again : (o : Option Tid) → after site None had (react site None had AcquiresAgain (Acquire site.t) (Some (told.Answer (asked_out o))))
       ≡ after_section site.setup site.c (from site None had AcquiresAgain) (answer_view (told.Answer (asked_out o)))
   ask_again None =
-      runs_on site None had None site.ready None (at_stage at.Tries (call_state site None had at.AcquiresAgain)) None
+      runs_on site None had None site.ready None (at_stage Tries (call_state site None had AcquiresAgain)) None
       ∙ sym (by_table site None had AcquiresAgain (answer_view (told.Answer (asked_out None))) (k site None had Tries) site.trace refl
       ∙ stays_so site None had (k site None had Tries) site.ready site.trace (λ p. refl))
   ask_again (Some owner) =
-      sleeps_now site None had at.AcquiresAgain
+      sleeps_now site None had AcquiresAgain
       ∙ sym (by_table site None had AcquiresAgain (answer_view (told.Answer (asked_out (Some owner)))) (k site None had Tries) site.trace refl)
 
-  pub asks_again_plan : plan at.AcquiresAgain ≡ fresh site None had at.AcquiresAgain (Acquire site.t)
+  pub asks_again_plan : plan AcquiresAgain ≡ fresh site None had AcquiresAgain (Acquire site.t)
   asks_again_plan =
-      ap (at_buf at.AcquiresAgain (λ l. plan_of site.setup.homes site.c site.t site.call at.Tries (call_state_of l.call_states site.t) l))
+      ap (at_buf AcquiresAgain (λ l. plan_of site.setup.homes site.c site.t site.call Tries (call_state_of l.call_states site.t) l))
       (beneath_is site None had (Acquire site.t) site.is_waits site.is_slept)
 
-  pub asks_again_line : IsLine site.setup site.c (from site None had AcquiresAgain) (plan at.AcquiresAgain) (after site None had)
+  pub asks_again_line : IsLine site.setup site.c (from site None had AcquiresAgain) (plan AcquiresAgain) (after site None had)
   asks_again_line =
-      line site None had at.AcquiresAgain (Acquire site.t) AcquiresAgain (plan at.AcquiresAgain)
+      line site None had AcquiresAgain (Acquire site.t) (plan AcquiresAgain)
       asks_again_plan
-      refl (runs_on site None had None site.ready None (call_state site None had at.AcquiresAgain) None) (λ x known. ask_again x.owner)
+      refl (runs_on site None had None site.ready None (call_state site None had AcquiresAgain) None) (λ x known. ask_again x.owner)
 
   -- it enters its line, or closes the buffer
   abbrev first_fits : BufferOut → Type 0
-  first_fits o = after site None had (react site None had at.Enters (Inside (Edit (first_of site.t site.call))) (Some (told.Answer (did_out o))))
+  first_fits o = after site None had (react site None had Enters (Inside (Edit (first_of site.t site.call))) (Some (told.Answer (did_out o))))
       ≡ after_section site.setup site.c (from site None had Enters) (answer_view (told.Answer (did_out o)))
 
   enter : (pos : ℕ) → IsLined site.call → first_fits (Entered pos)
   enter pos lined =
-      runs_on site None had None site.ready None (record { stage = at.Tries; call = Some site.call; position = pos; effect = None }) None
+      runs_on site None had None site.ready None (record { stage = Tries; call = Some site.call; position = pos; effect = None }) None
       ∙ sym (by_table site None had Enters (answer_view (told.Answer (did_out (Entered pos)))) (call_from site.call pos None Tries) site.trace
       (entry_recorded site.c (from site None had Enters) site.t (k site None had Enters) site.call (Position pos) lined)
       ∙ stays_so site None had (call_from site.call pos None Tries) site.ready site.trace (λ p. refl))
@@ -126,14 +126,14 @@ module _ (site : Site) (had : HasHad site None) where
   abbrev effects_so : Effect → Type 0
   effects_so f = after site None had (record {
     own = own_at (Some site.t) None site.ready site.ended None site.slept site.waits
-        (slice_set site.call_states site.t.0 (record { stage = at.Signals; call = Some site.call; position = site.position; effect = Some f }));
+        (slice_set site.call_states site.t.0 (record { stage = Signals; call = Some site.call; position = site.position; effect = Some f }));
     answer = None;
   })
       ≡ stands site None had site.ready None (call_from site.call site.position (Some f) Signals)
       (site.trace ++ entry_of site.c site.t (buffer_of site.call) f ∷ [])
 
   effects : (f : Effect) → effects_so f
-  effects f = runs_on site None had None site.ready None (record { stage = at.Signals; call = Some site.call; position = site.position; effect = Some f }) None
+  effects f = runs_on site None had None site.ready None (record { stage = Signals; call = Some site.call; position = site.position; effect = Some f }) None
 
   signals_next : (f : Effect) → settled site.setup (stands site None had site.ready None (call_from site.call site.position (Some f) Signals)
       (site.trace ++ entry_of site.c site.t (buffer_of site.call) f ∷ []))
@@ -155,23 +155,23 @@ module _ (site : Site) (had : HasHad site None) where
   first_by x (inl draws) = subst first_fits (sym draws.is) (enter draws.pos draws.lined)
   first_by x (inr shuts) = subst first_fits (sym shuts.is) (shut shuts.op shuts.pos shuts.shuts)
 
-  pub enters_plan : plan at.Enters ≡ fresh site None had at.Enters (Inside (Edit (first_of site.t site.call)))
+  pub enters_plan : plan Enters ≡ fresh site None had Enters (Inside (Edit (first_of site.t site.call)))
   enters_plan =
-      ap (raised (left_recorded site.t site.call (call_state site None had at.Enters) site.call_states at.Enters))
+      ap (raised (left_recorded site.t site.call (call_state site None had Enters) site.call_states Enters))
       (beneath_is site None had (Inside (Edit (first_of site.t site.call)))
       (ap (slept_for site.waits) (thread_of_first site.t site.call) ∙ site.is_waits) (ap (slept_for site.slept) (thread_of_first site.t site.call)
       ∙ site.is_slept))
 
-  pub enters_line : IsLine site.setup site.c (from site None had Enters) (plan at.Enters) (after site None had)
+  pub enters_line : IsLine site.setup site.c (from site None had Enters) (plan Enters) (after site None had)
   enters_line =
-      line site None had at.Enters (Inside (Edit (first_of site.t site.call))) Enters (plan at.Enters)
+      line site None had Enters (Inside (Edit (first_of site.t site.call))) (plan Enters)
       enters_plan
-      (first_name site.t site.call) (runs_on site None had None site.ready None (call_state site None had at.Enters) None)
+      (first_name site.t site.call) (runs_on site None had None site.ready None (call_state site None had Enters) None)
       (λ x known. first_by x.above (first_answer site.t site.call x.above))
 
   -- it tries
   abbrev try_fits : BufferOut → Type 0
-  try_fits o = after site None had (react site None had at.Tries (Inside (Edit (try_of site.t site.call))) (Some (told.Answer (did_out o))))
+  try_fits o = after site None had (react site None had Tries (Inside (Edit (try_of site.t site.call))) (Some (told.Answer (did_out o))))
       ≡ after_section site.setup site.c (from site None had Tries) (answer_view (told.Answer (did_out o)))
 
   abbrev pub effect_is : Bool → ℕ → Message → Effect
@@ -189,7 +189,7 @@ module _ (site : Site) (had : HasHad site None) where
 
   tries_vain : try_fits NotYet
   tries_vain =
-      runs_on site None had None site.ready None (call_state site None had at.Waits) None
+      runs_on site None had None site.ready None (call_state site None had Waits) None
       ∙ sym (by_table site None had Tries (answer_view (told.Answer (did_out NotYet))) (k site None had Waits) site.trace refl
       ∙ stays_so site None had (k site None had Waits) site.ready site.trace (λ p. refl))
 
@@ -198,22 +198,22 @@ module _ (site : Site) (had : HasHad site None) where
   tries_by x lined (inl vain) = subst try_fits (sym vain) tries_vain
   tries_by x lined (inr tried) = subst try_fits (sym tried.is) (tries_done tried.closed tried.op tried.message lined tried.same)
 
-  pub tries_plan : plan at.Tries ≡ fresh site None had at.Tries (Inside (Edit (try_of site.t site.call)))
+  pub tries_plan : plan Tries ≡ fresh site None had Tries (Inside (Edit (try_of site.t site.call)))
   tries_plan =
-      ap (raised (left_recorded site.t site.call (call_state site None had at.Tries) site.call_states at.Tries))
+      ap (raised (left_recorded site.t site.call (call_state site None had Tries) site.call_states Tries))
       (beneath_is site None had (Inside (Edit (try_of site.t site.call)))
       (ap (slept_for site.waits) (thread_of_try site.t site.call) ∙ site.is_waits) (ap (slept_for site.slept) (thread_of_try site.t site.call) ∙ site.is_slept))
 
-  pub tries_line : IsLined site.call → IsLine site.setup site.c (from site None had Tries) (plan at.Tries) (after site None had)
+  pub tries_line : IsLined site.call → IsLine site.setup site.c (from site None had Tries) (plan Tries) (after site None had)
   tries_line lined =
-      line site None had at.Tries (Inside (Edit (try_of site.t site.call))) Tries (plan at.Tries)
+      line site None had Tries (Inside (Edit (try_of site.t site.call))) (plan Tries)
       tries_plan
-      (try_name site.t site.call site.position lined) (runs_on site None had None site.ready None (call_state site None had at.Tries) None)
+      (try_name site.t site.call site.position lined) (runs_on site None had None site.ready None (call_state site None had Tries) None)
       (λ x known. tries_by x.above lined (try_answer site.t site.call x.above lined))
 
   -- it waits
   abbrev pub wait_react : Side → Option Tid → Left Buffering Reply
-  wait_react side o = react site None had at.Waits (Release (Wait site.t side)) (Some (told.Answer (wait_out side o)))
+  wait_react side o = react site None had Waits (Release (Wait site.t side)) (Some (told.Answer (wait_out side o)))
 
   -- its caller gone, with the thread that it woke at home or in the hand
   abbrev gone_so : Private
@@ -223,47 +223,47 @@ module _ (site : Site) (had : HasHad site None) where
   woken_to u b = if b then record gone_so { ready = site.ready ++ u ∷ [] } else record gone_so { hand = Some u }
 
   waits_by : (side : Side) (u : Tid) (b : Bool)
-      → after site None had (lift site None had at.Waits (wait_out side (Some u)) (waking site None had None u b)) ≡ settled site.setup (woken_to u b)
-  waits_by side u true = waits_now site None had None (site.ready ++ u ∷ []) at.Waits
-  waits_by side u false = waits_now site None had (Some u) site.ready at.Waits
+      → after site None had (lift site None had Waits (wait_out side (Some u)) (waking site None had None u b)) ≡ settled site.setup (woken_to u b)
+  waits_by side u true = waits_now site None had None (site.ready ++ u ∷ []) Waits
+  waits_by side u false = waits_now site None had (Some u) site.ready Waits
 
   wait_now : (side : Side) (o : Option Tid) → HandIsKnown site.setup (wait_react side o).own
       → after site None had (wait_react side o) ≡ after_section site.setup site.c (from site None had Waits) (answer_view (told.Answer (wait_out side o)))
   wait_now Receivers None known =
-      waits_now site None had None site.ready at.Waits
+      waits_now site None had None site.ready Waits
       ∙ sym (by_table site None had Waits (answer_view (told.Answer (wait_out Receivers None))) (k site None had AcquiresAgain) site.trace refl)
   wait_now Senders None known =
-      waits_now site None had None site.ready at.Waits
+      waits_now site None had None site.ready Waits
       ∙ sym (by_table site None had Waits (answer_view (told.Answer (wait_out Senders None))) (k site None had AcquiresAgain) site.trace refl)
   wait_now Receivers (Some u) known =
-      by_home site None had u (λ b. lift site None had at.Waits (wait_out Receivers (Some u)) (waking site None had None u b))
+      by_home site None had u (λ b. lift site None had Waits (wait_out Receivers (Some u)) (waking site None had None u b))
       (λ b. settled site.setup (woken_to u b)) (waits_by Receivers u) (λ hand. hand u refl) known
       ∙ sym (by_table site None had Waits (answer_view (told.Answer (wait_out Receivers (Some u)))) (k site None had AcquiresAgain) site.trace refl)
   wait_now Senders (Some u) known =
-      by_home site None had u (λ b. lift site None had at.Waits (wait_out Senders (Some u)) (waking site None had None u b))
+      by_home site None had u (λ b. lift site None had Waits (wait_out Senders (Some u)) (waking site None had None u b))
       (λ b. settled site.setup (woken_to u b)) (waits_by Senders u) (λ hand. hand u refl) known
       ∙ sym (by_table site None had Waits (answer_view (told.Answer (wait_out Senders (Some u)))) (k site None had AcquiresAgain) site.trace refl)
 
   waits_at : (side : Side) (x : LockState BufferState)
-      → HandIsKnown site.setup (react site None had at.Waits (Release (Wait site.t side))
+      → HandIsKnown site.setup (react site None had Waits (Release (Wait site.t side))
       (Some (told.Answer (lock_answer buffer_rules (Release (Wait site.t side)) x)))).own
-      → after site None had (react site None had at.Waits (Release (Wait site.t side))
+      → after site None had (react site None had Waits (Release (Wait site.t side))
       (Some (told.Answer (lock_answer buffer_rules (Release (Wait site.t side)) x))))
       ≡ after_section site.setup site.c (from site None had Waits) (answer_view (told.Answer (lock_answer buffer_rules (Release (Wait site.t side)) x)))
   waits_at Receivers x known = wait_now Receivers (first x.sleepers) known
   waits_at Senders x known = wait_now Senders (first x.sleepers) known
 
-  pub waits_plan : plan at.Waits ≡ fresh site None had at.Waits (Release (Wait site.t (tower_side site.call)))
+  pub waits_plan : plan Waits ≡ fresh site None had Waits (Release (Wait site.t (tower_side site.call)))
   waits_plan =
-      ap (at_buf at.Waits (λ l. plan_on site.setup.homes site.c site.t site.call at.AcquiresAgain
-      (plan_of site.setup.homes site.c site.t site.call at.Tries) (call_state_of l.call_states site.t) l))
+      ap (at_buf Waits (λ l. plan_on site.setup.homes site.c site.t site.call AcquiresAgain
+      (plan_of site.setup.homes site.c site.t site.call Tries) (call_state_of l.call_states site.t) l))
       (beneath_is site None had (Release (Wait site.t (tower_side site.call))) site.is_waits site.is_slept)
 
-  pub waits_line : IsLine site.setup site.c (from site None had Waits) (plan at.Waits) (after site None had)
+  pub waits_line : IsLine site.setup site.c (from site None had Waits) (plan Waits) (after site None had)
   waits_line =
-      line site None had at.Waits (Release (Wait site.t (tower_side site.call))) Waits (plan at.Waits)
+      line site None had Waits (Release (Wait site.t (tower_side site.call))) (plan Waits)
       waits_plan
-      (wait_name site.t site.call site.position) (runs_on site None had None site.ready None (call_state site None had at.Waits) None)
+      (wait_name site.t site.call site.position) (runs_on site None had None site.ready None (call_state site None had Waits) None)
       (λ x known. waits_at (tower_side site.call) x known)
 
 -- After the effect.
@@ -273,87 +273,87 @@ module _ (site : Site) (f : Effect) (had : HasHad site (Some f)) where
   plan_to stage = plan_at site.setup.homes site.c site.t site.call stage (call_state site (Some f) had stage) (own site (Some f) had)
 
   signal_by : (v : CvOut BufferOut) (u : Tid) (b : Bool)
-      → after site (Some f) had (lift site (Some f) had at.Signals (signal_out v (Some u)) (waking site (Some f) had (Some site.t) u b))
+      → after site (Some f) had (lift site (Some f) had Signals (signal_out v (Some u)) (waking site (Some f) had (Some site.t) u b))
       ≡ settled site.setup (if b then stands site (Some f) had (site.ready ++ u ∷ []) None (k site (Some f) had SignalsOwn) site.trace
       else stands site (Some f) had site.ready (Some u) (k site (Some f) had SignalsOwn) site.trace)
   signal_by v u true =
-      runs_on site (Some f) had None (site.ready ++ u ∷ []) None (at_stage at.SignalsOwn (call_state site (Some f) had at.Signals)) None
+      runs_on site (Some f) had None (site.ready ++ u ∷ []) None (at_stage SignalsOwn (call_state site (Some f) had Signals)) None
       ∙ sym (stays_so site (Some f) had (k site (Some f) had SignalsOwn) (site.ready ++ u ∷ []) site.trace (λ p. refl))
-  signal_by v u false = runs_on site (Some f) had (Some u) site.ready (Some (signal_out v (Some u))) (call_state site (Some f) had at.Signals) None
+  signal_by v u false = runs_on site (Some f) had (Some u) site.ready (Some (signal_out v (Some u))) (call_state site (Some f) had Signals) None
 
   signal : (side : Side) (v : CvOut BufferOut) (o : Option Tid)
-      → HandIsKnown site.setup (react site (Some f) had at.Signals (Inside (SignalFront site.t side)) (Some (told.Answer (signal_out v o)))).own
-      → after site (Some f) had (react site (Some f) had at.Signals (Inside (SignalFront site.t side)) (Some (told.Answer (signal_out v o))))
+      → HandIsKnown site.setup (react site (Some f) had Signals (Inside (SignalFront site.t side)) (Some (told.Answer (signal_out v o)))).own
+      → after site (Some f) had (react site (Some f) had Signals (Inside (SignalFront site.t side)) (Some (told.Answer (signal_out v o))))
       ≡ after_section site.setup site.c (from site (Some f) had Signals) (answer_view (told.Answer (signal_out v o)))
   signal side v None known =
-      runs_on site (Some f) had None site.ready None (at_stage at.SignalsOwn (call_state site (Some f) had at.Signals)) None
+      runs_on site (Some f) had None site.ready None (at_stage SignalsOwn (call_state site (Some f) had Signals)) None
       ∙ sym (by_table site (Some f) had Signals (answer_view (told.Answer (signal_out v None))) (k site (Some f) had SignalsOwn) site.trace refl
       ∙ stays_so site (Some f) had (k site (Some f) had SignalsOwn) site.ready site.trace (λ p. refl))
   signal side v (Some u) known =
-      by_home site (Some f) had u (λ b. lift site (Some f) had at.Signals (signal_out v (Some u)) (waking site (Some f) had (Some site.t) u b))
+      by_home site (Some f) had u (λ b. lift site (Some f) had Signals (signal_out v (Some u)) (waking site (Some f) had (Some site.t) u b))
       (λ b. settled site.setup (if b then stands site (Some f) had (site.ready ++ u ∷ []) None (k site (Some f) had SignalsOwn) site.trace
       else stands site (Some f) had site.ready (Some u) (k site (Some f) had SignalsOwn) site.trace))
       (signal_by v u) (λ hand. hand u refl) known
       ∙ sym (by_table site (Some f) had Signals (answer_view (told.Answer (signal_out v (Some u)))) (k site (Some f) had SignalsOwn) site.trace refl)
 
-  pub signals_plan : plan_to at.Signals ≡ fresh site (Some f) had at.Signals (Inside (SignalFront site.t (other_side site.call)))
+  pub signals_plan : plan_to Signals ≡ fresh site (Some f) had Signals (Inside (SignalFront site.t (other_side site.call)))
   signals_plan =
-      ap (raised (left_recorded site.t site.call (call_state site (Some f) had at.Signals) site.call_states at.Signals))
+      ap (raised (left_recorded site.t site.call (call_state site (Some f) had Signals) site.call_states Signals))
       (beneath_is site (Some f) had (Inside (SignalFront site.t (other_side site.call))) site.is_waits site.is_slept)
 
-  pub signals_line : IsLine site.setup site.c (from site (Some f) had Signals) (plan_to at.Signals) (after site (Some f) had)
+  pub signals_line : IsLine site.setup site.c (from site (Some f) had Signals) (plan_to Signals) (after site (Some f) had)
   signals_line =
-      line site (Some f) had at.Signals (Inside (SignalFront site.t (other_side site.call))) Signals (plan_to at.Signals)
+      line site (Some f) had Signals (Inside (SignalFront site.t (other_side site.call))) (plan_to Signals)
       signals_plan
-      (signal_name site.t site.call site.position f) (runs_on site (Some f) had None site.ready None (call_state site (Some f) had at.Signals) None)
+      (signal_name site.t site.call site.position f) (runs_on site (Some f) had None site.ready None (call_state site (Some f) had Signals) None)
       (λ x known. signal (other_side site.call) _ _ known)
 
   own_signal_by : (v : CvOut BufferOut) (u : Tid) (b : Bool)
-      → after site (Some f) had (lift site (Some f) had at.SignalsOwn (signal_out v (Some u)) (waking site (Some f) had (Some site.t) u b))
+      → after site (Some f) had (lift site (Some f) had SignalsOwn (signal_out v (Some u)) (waking site (Some f) had (Some site.t) u b))
       ≡ settled site.setup (if b then stands site (Some f) had (site.ready ++ u ∷ []) None (k site (Some f) had Releases) site.trace
       else stands site (Some f) had site.ready (Some u) (k site (Some f) had Releases) site.trace)
   own_signal_by v u true =
-      runs_on site (Some f) had None (site.ready ++ u ∷ []) None (at_stage at.Releases (call_state site (Some f) had at.SignalsOwn)) None
+      runs_on site (Some f) had None (site.ready ++ u ∷ []) None (at_stage Releases (call_state site (Some f) had SignalsOwn)) None
       ∙ sym (stays_so site (Some f) had (k site (Some f) had Releases) (site.ready ++ u ∷ []) site.trace (λ p. refl))
-  own_signal_by v u false = runs_on site (Some f) had (Some u) site.ready (Some (signal_out v (Some u))) (call_state site (Some f) had at.SignalsOwn) None
+  own_signal_by v u false = runs_on site (Some f) had (Some u) site.ready (Some (signal_out v (Some u))) (call_state site (Some f) had SignalsOwn) None
 
   own_signal : (side : Side) (v : CvOut BufferOut) (o : Option Tid)
-      → HandIsKnown site.setup (react site (Some f) had at.SignalsOwn (Inside (SignalFront site.t side)) (Some (told.Answer (signal_out v o)))).own
-      → after site (Some f) had (react site (Some f) had at.SignalsOwn (Inside (SignalFront site.t side)) (Some (told.Answer (signal_out v o))))
+      → HandIsKnown site.setup (react site (Some f) had SignalsOwn (Inside (SignalFront site.t side)) (Some (told.Answer (signal_out v o)))).own
+      → after site (Some f) had (react site (Some f) had SignalsOwn (Inside (SignalFront site.t side)) (Some (told.Answer (signal_out v o))))
       ≡ after_section site.setup site.c (from site (Some f) had SignalsOwn) (answer_view (told.Answer (signal_out v o)))
   own_signal side v None known =
-      runs_on site (Some f) had None site.ready None (at_stage at.Releases (call_state site (Some f) had at.SignalsOwn)) None
+      runs_on site (Some f) had None site.ready None (at_stage Releases (call_state site (Some f) had SignalsOwn)) None
       ∙ sym (by_table site (Some f) had SignalsOwn (answer_view (told.Answer (signal_out v None))) (k site (Some f) had Releases) site.trace refl
       ∙ stays_so site (Some f) had (k site (Some f) had Releases) site.ready site.trace (λ p. refl))
   own_signal side v (Some u) known =
-      by_home site (Some f) had u (λ b. lift site (Some f) had at.SignalsOwn (signal_out v (Some u)) (waking site (Some f) had (Some site.t) u b))
+      by_home site (Some f) had u (λ b. lift site (Some f) had SignalsOwn (signal_out v (Some u)) (waking site (Some f) had (Some site.t) u b))
       (λ b. settled site.setup (if b then stands site (Some f) had (site.ready ++ u ∷ []) None (k site (Some f) had Releases) site.trace
       else stands site (Some f) had site.ready (Some u) (k site (Some f) had Releases) site.trace))
       (own_signal_by v u) (λ hand. hand u refl) known
       ∙ sym (by_table site (Some f) had SignalsOwn (answer_view (told.Answer (signal_out v (Some u)))) (k site (Some f) had Releases) site.trace refl)
 
-  pub own_signals_plan : plan_to at.SignalsOwn ≡ fresh site (Some f) had at.SignalsOwn (Inside (SignalFront site.t (tower_side site.call)))
+  pub own_signals_plan : plan_to SignalsOwn ≡ fresh site (Some f) had SignalsOwn (Inside (SignalFront site.t (tower_side site.call)))
   own_signals_plan =
-      ap (raised (left_recorded site.t site.call (call_state site (Some f) had at.SignalsOwn) site.call_states at.SignalsOwn))
+      ap (raised (left_recorded site.t site.call (call_state site (Some f) had SignalsOwn) site.call_states SignalsOwn))
       (beneath_is site (Some f) had (Inside (SignalFront site.t (tower_side site.call))) site.is_waits site.is_slept)
 
-  pub own_signals_line : IsLine site.setup site.c (from site (Some f) had SignalsOwn) (plan_to at.SignalsOwn) (after site (Some f) had)
+  pub own_signals_line : IsLine site.setup site.c (from site (Some f) had SignalsOwn) (plan_to SignalsOwn) (after site (Some f) had)
   own_signals_line =
-      line site (Some f) had at.SignalsOwn (Inside (SignalFront site.t (tower_side site.call))) SignalsOwn (plan_to at.SignalsOwn)
+      line site (Some f) had SignalsOwn (Inside (SignalFront site.t (tower_side site.call))) (plan_to SignalsOwn)
       own_signals_plan
-      (own_signal_name site.t site.call site.position f) (runs_on site (Some f) had None site.ready None (call_state site (Some f) had at.SignalsOwn) None)
+      (own_signal_name site.t site.call site.position f) (runs_on site (Some f) had None site.ready None (call_state site (Some f) had SignalsOwn) None)
       (λ x known. own_signal (tower_side site.call) _ _ known)
 
   -- it releases the lock, and its call returns
   abbrev pub over : CallState
-  over = record { stage = at.Idle; call = None; position = site.position; effect = Some f }
+  over = record { stage = Idle; call = None; position = site.position; effect = Some f }
 
   returned_so : (ready2 : List Tid)
       → after site (Some f) had (record {
         own = own_at (Some site.t) None ready2 site.ended None site.slept site.waits (slice_set site.call_states site.t.0 over);
         answer = Some (reply_of site.call f);
       })
-      ≡ settled site.setup (stands site (Some f) had ready2 None (k site (Some f) had Returns) site.trace)
+      ≡ settled site.setup (stands site (Some f) had ready2 None (k site (Some f) had Idle) site.trace)
   returned_so ready2 =
       runs_on site (Some f) had None ready2 None over (Some (reply_of site.call f))
       ∙ (ap (λ x. parts (Some site.t) ready2 None (slice_set (threads site (Some f) had) site.t.0
@@ -362,34 +362,34 @@ module _ (site : Site) (f : Effect) (had : HasHad site (Some f)) where
       ∙ sym (has_returned site (Some f) had (k site (Some f) had Releases) ready2 site.trace))
 
   release_by : (u : Tid) (b : Bool)
-      → after site (Some f) had (lift site (Some f) had at.Releases (left_out (Some u)) (waking site (Some f) had (Some site.t) u b))
-      ≡ settled site.setup (if b then stands site (Some f) had (site.ready ++ u ∷ []) None (k site (Some f) had Returns) site.trace
-      else stands site (Some f) had site.ready (Some u) (k site (Some f) had Returns) site.trace)
+      → after site (Some f) had (lift site (Some f) had Releases (left_out (Some u)) (waking site (Some f) had (Some site.t) u b))
+      ≡ settled site.setup (if b then stands site (Some f) had (site.ready ++ u ∷ []) None (k site (Some f) had Idle) site.trace
+      else stands site (Some f) had site.ready (Some u) (k site (Some f) had Idle) site.trace)
   release_by u true = returned_so (site.ready ++ u ∷ [])
-  release_by u false = runs_on site (Some f) had (Some u) site.ready (Some (left_out (Some u))) (call_state site (Some f) had at.Releases) None
+  release_by u false = runs_on site (Some f) had (Some u) site.ready (Some (left_out (Some u))) (call_state site (Some f) had Releases) None
 
   release : (o : Option Tid)
-      → HandIsKnown site.setup (react site (Some f) had at.Releases (Release (Leave site.t)) (Some (told.Answer (left_out o)))).own
-      → after site (Some f) had (react site (Some f) had at.Releases (Release (Leave site.t)) (Some (told.Answer (left_out o))))
+      → HandIsKnown site.setup (react site (Some f) had Releases (Release (Leave site.t)) (Some (told.Answer (left_out o)))).own
+      → after site (Some f) had (react site (Some f) had Releases (Release (Leave site.t)) (Some (told.Answer (left_out o))))
       ≡ after_section site.setup site.c (from site (Some f) had Releases) (answer_view (told.Answer (left_out o)))
   release None known =
       returned_so site.ready
-      ∙ sym (by_table site (Some f) had Releases (answer_view (told.Answer (left_out None))) (k site (Some f) had Returns) site.trace refl)
+      ∙ sym (by_table site (Some f) had Releases (answer_view (told.Answer (left_out None))) (k site (Some f) had Idle) site.trace refl)
   release (Some u) known =
-      by_home site (Some f) had u (λ b. lift site (Some f) had at.Releases (left_out (Some u)) (waking site (Some f) had (Some site.t) u b))
-      (λ b. settled site.setup (if b then stands site (Some f) had (site.ready ++ u ∷ []) None (k site (Some f) had Returns) site.trace
-      else stands site (Some f) had site.ready (Some u) (k site (Some f) had Returns) site.trace))
+      by_home site (Some f) had u (λ b. lift site (Some f) had Releases (left_out (Some u)) (waking site (Some f) had (Some site.t) u b))
+      (λ b. settled site.setup (if b then stands site (Some f) had (site.ready ++ u ∷ []) None (k site (Some f) had Idle) site.trace
+      else stands site (Some f) had site.ready (Some u) (k site (Some f) had Idle) site.trace))
       (release_by u) (λ hand. hand u refl) known
-      ∙ sym (by_table site (Some f) had Releases (answer_view (told.Answer (left_out (Some u)))) (k site (Some f) had Returns) site.trace refl)
+      ∙ sym (by_table site (Some f) had Releases (answer_view (told.Answer (left_out (Some u)))) (k site (Some f) had Idle) site.trace refl)
 
-  pub releases_plan : plan_to at.Releases ≡ fresh site (Some f) had at.Releases (Release (Leave site.t))
+  pub releases_plan : plan_to Releases ≡ fresh site (Some f) had Releases (Release (Leave site.t))
   releases_plan =
-      ap (raised (left_recorded site.t site.call (call_state site (Some f) had at.Releases) site.call_states at.Releases))
+      ap (raised (left_recorded site.t site.call (call_state site (Some f) had Releases) site.call_states Releases))
       (beneath_is site (Some f) had (Release (Leave site.t)) site.is_waits site.is_slept)
 
-  pub releases_line : IsLine site.setup site.c (from site (Some f) had Releases) (plan_to at.Releases) (after site (Some f) had)
+  pub releases_line : IsLine site.setup site.c (from site (Some f) had Releases) (plan_to Releases) (after site (Some f) had)
   releases_line =
-      line site (Some f) had at.Releases (Release (Leave site.t)) Releases (plan_to at.Releases)
+      line site (Some f) had Releases (Release (Leave site.t)) (plan_to Releases)
       releases_plan
-      refl (runs_on site (Some f) had None site.ready None (call_state site (Some f) had at.Releases) None)
+      refl (runs_on site (Some f) had None site.ready None (call_state site (Some f) had Releases) None)
       (λ x known. release (first x.sleepers) known)

@@ -31,7 +31,6 @@ use Rattle.layer_traits.specs.declared.buffer_edits.BufferOut.TheVariants.{Enter
 use Rattle.layer_traits.specs.declared.queue_edits.QueueBlock.TheVariants as block
 use Rattle.layer_traits.specs.declared.queue_edits.QueueEdit.TheVariants as queue
 use Rattle.layer_traits.specs.declared.queues.QueueAnswer.TheVariants as told
-use Rattle.layer_traits.specs.declared.call_states.Stage.{Stage}
 use Rattle.layer_traits.specs.declared.call_states.CallState.{CallState}
 use Rattle.layer_traits.specs.BufferBlocks.{BufferState, buffer_answer, thread_of_edit, is_next}
 use Rattle.layer_traits.specs.BufferProtocol.{buffer_rules}
@@ -48,7 +47,9 @@ use Rattle.layer_traits.specs.SleepLaw.{Sleeping, left_done, sleep_plan}
 use Rattle.layer_traits.specs.Passes.{or_else}
 use Rattle.cpu.specs.Guests.{after_answer}
 use Rattle.cpu.specs.Table.Blocks.{Answer, DidShut, Reported, effect_of}
-use Rattle.cpu.specs.Table.Setups.{Enters, Tries, Waits, Signals, SignalsOwn, Returns, CallStage, Call, Thread, Private, home_of, program_of, thread_at}
+use Rattle.layer_traits.specs.declared.call_states.Stage.{Stage}
+use Rattle.layer_traits.specs.declared.call_states.Stage.TheVariants.{Idle, Enters, Tries, Waits, Signals, SignalsOwn}
+use Rattle.cpu.specs.Table.Setups.{Call, Thread, Private, home_of, program_of, thread_at}
 use Rattle.cpu.specs.Table.Choice.{after_section, at_buffer, first_section, guest_after, recorded, recorded_entry, recorded_position, recorded_try, returned_at}
 use Rattle.cpu.specs.Table.Choice.{section_at}
 use Rattle.cpu.specs.Table.Choice.{settled, slept_if, with_call as call_put, woken}
@@ -251,11 +252,11 @@ module _ (site : Site) (effect : Option Effect) (is_effect : HasHad site effect)
   abbrev pub call_state : Stage → CallState
   call_state stage = record { stage = stage; call = Some site.call; position = site.position; effect = effect }
 
-  abbrev pub k : CallStage → Call
+  abbrev pub k : Stage → Call
   k stage = call_from site.call site.position effect stage
 
   -- the table's private state with the call at this stage
-  abbrev pub from : CallStage → Private
+  abbrev pub from : Stage → Private
   from stage = from_t site.setup site.c site.ready threads site.trace site.t g e within (k stage)
 
   abbrev pub after : Left Buffering Reply → Private
@@ -345,18 +346,18 @@ module _ (site : Site) (effect : Option Effect) (is_effect : HasHad site effect)
   abbrev pub react : Stage → CvCall BufferEdit → Option TowerAnswer → Left Buffering Reply
   react stage s = react_in (fresh stage s)
 
-  pub line : (stage : Stage) (s : CvCall BufferEdit) (at : CallStage) (plan : BufferPlan Reply) → plan ≡ fresh stage s
-      → section_at site.t (k at) at ≡ name_of (queue.Above s) → after (react stage s None) ≡ from at
+  pub line : (stage : Stage) (s : CvCall BufferEdit) (plan : BufferPlan Reply) → plan ≡ fresh stage s
+      → section_at site.t (k stage) stage ≡ name_of (queue.Above s) → after (react stage s None) ≡ from stage
       → ((x : LockState BufferState) → HandIsKnown site.setup (react stage s (Some (told.Answer (lock_answer buffer_rules s x)))).own
       → after (react stage s (Some (told.Answer (lock_answer buffer_rules s x))))
-      ≡ after_section site.setup site.c (from at) (answer_view (told.Answer (lock_answer buffer_rules s x))))
-      → IsLine site.setup site.c (from at) plan after
-  line stage s at plan is name stays gives = record {
+      ≡ after_section site.setup site.c (from stage) (answer_view (told.Answer (lock_answer buffer_rules s x))))
+      → IsLine site.setup site.c (from stage) plan after
+  line stage s plan is name stays gives = record {
     lock = Buffer buf;
     name = queue.Above s;
     react = react stage s;
     is = is;
-    asks = asks_for site.setup site.c site.ready threads site.trace site.t g e within (k at) ∙ ap (at_buffer buf) name;
+    asks = asks_for site.setup site.c site.ready threads site.trace site.t g e within (k stage) ∙ ap (at_buffer buf) name;
     used = tt;
     stays = stays;
     gives = by_block;
@@ -364,7 +365,7 @@ module _ (site : Site) (effect : Option Effect) (is_effect : HasHad site effect)
     where
       by_block : (x : TowerBlock) → IsKind (Buffer buf) x → HandIsKnown site.setup (react stage s (Some (tower.answer (queue.Above s) x))).own
           → after (react stage s (Some (tower.answer (queue.Above s) x)))
-          ≡ after_section site.setup site.c (from at) (answer_view (tower.answer (queue.Above s) x))
+          ≡ after_section site.setup site.c (from stage) (answer_view (tower.answer (queue.Above s) x))
       by_block (block.Above x) kind = gives x
       by_block (block.Queue queue homes) kind = absurd kind
 
@@ -406,7 +407,7 @@ module _ (site : Site) (effect : Option Effect) (is_effect : HasHad site effect)
   abbrev pub putting : Call → Call → List Entry → Thread → Private
   putting now next trace2 x = put site.setup site.c site.ready threads site.trace site.t g e within now next trace2 x
 
-  pub by_table : (stage : CallStage) (a : Answer) (next : Call) (trace2 : List Entry)
+  pub by_table : (stage : Stage) (a : Answer) (next : Call) (trace2 : List Entry)
       → recorded site.c (from stage) site.t (k stage) (k stage).stage a.told ≡ putting (k stage) next trace2 (thread_at (from stage) site.t)
       → after_section site.setup site.c (from stage) a
       ≡ settled site.setup (woken site.setup site.c a.woke (slept_if a.slept (stands site.ready None next trace2)))
@@ -417,6 +418,6 @@ module _ (site : Site) (effect : Option Effect) (is_effect : HasHad site effect)
   stays_so next ready2 trace2 is = goes_on site.setup site.c site.ready threads site.trace site.t g e within next ready2 trace2 is
 
   pub has_returned : (now : Call) (ready2 : List Tid) (trace2 : List Entry)
-      → settled site.setup (stands ready2 None (record now { stage = Returns }) trace2)
+      → settled site.setup (stands ready2 None (record now { stage = Idle }) trace2)
       ≡ parts (Some site.t) ready2 None (slice_set threads site.t.0 (done_with site.setup site.c site.ready threads site.trace site.t g e within now)) trace2
   has_returned now ready2 trace2 = returns site.setup site.c site.ready threads site.trace site.t g e within now ready2 trace2

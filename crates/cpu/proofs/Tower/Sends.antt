@@ -18,8 +18,6 @@ use Rattle.layer_traits.specs.declared.buffer_edits.BufferEdit.{BufferEdit}
 use Rattle.layer_traits.specs.declared.buffer_edits.BufferOut.{BufferOut}
 use Rattle.layer_traits.specs.declared.queue_edits.QueueEdit.TheVariants as queue
 use Rattle.layer_traits.specs.declared.queues.QueueAnswer.TheVariants as told
-use Rattle.layer_traits.specs.declared.call_states.Stage.{Stage}
-use Rattle.layer_traits.specs.declared.call_states.Stage.TheVariants as at
 use Rattle.layer_traits.specs.declared.call_states.CallState.{CallState}
 use Rattle.layer_traits.specs.BufferProtocol.{buffer_rules}
 use Rattle.layer_traits.specs.BufferLaw.{BufferPlan, Buffering, at_stage, buffer_of, going, left_recorded, other_side, plan_at, no_call, reply_of}
@@ -31,7 +29,9 @@ use Rattle.layer_traits.specs.Locking.{lock_moves}
 use Rattle.layer_traits.specs.Plans.{Left, Plan, raised}
 use Rattle.layer_traits.specs.SleepLaw.{sleep_plan}
 use Rattle.cpu.specs.Guests.{after_answer}
-use Rattle.cpu.specs.Table.Setups.{SignalsOwn, Releases, Returns, Call, Thread, Private, program_of}
+use Rattle.layer_traits.specs.declared.call_states.Stage.{Stage}
+use Rattle.layer_traits.specs.declared.call_states.Stage.TheVariants.{Idle, Signals, SignalsOwn, Releases}
+use Rattle.cpu.specs.Table.Setups.{Call, Thread, Private, program_of}
 use Rattle.cpu.specs.Table.Choice.{settled, at_pending}
 use Rattle.cpu.specs.Tower.Views.{TowerAnswer, TowerName, TowerOut}
 use Rattle.cpu.specs.Tower.Privates.{call_from, guest_at, guests_after, private_after, private_of, thread_from, trace_after}
@@ -147,44 +147,44 @@ module _ (site : Site) (u : Tid) (f : Effect) (known : IsSome (slice_get site.se
       gives = λ x kind hand. ap (after outcome) done ∙ gives;
     }
 
-  pub has_signalled_line : (v : CvOut BufferOut) → call_state_of call_states t ≡ here at.Signals
+  pub has_signalled_line : (v : CvOut BufferOut) → call_state_of call_states t ≡ here Signals
       → LineOf setup c t call (own_with (outcome_of (lock.Did v) u)) guests trace
   has_signalled_line v is =
       let out : TowerOut = outcome_of (lock.Did v) u in
       let next : Call = call_from call position (Some f) SignalsOwn in
-      line out at.Signals is refl (Inside (SignalFront t (other_side call))) _
-      (ap (raised (left_recorded t call (here at.Signals) call_states at.Signals)) (beneath_is out (Inside (SignalFront t
+      line out Signals is refl (Inside (SignalFront t (other_side call))) _
+      (ap (raised (left_recorded t call (here Signals) call_states Signals)) (beneath_is out (Inside (SignalFront t
       (other_side call))) is_waits is_slept))
       refl refl
-      (sent out at.Signals is refl (at_stage at.SignalsOwn (here at.Signals)) None
+      (sent out Signals is refl (at_stage SignalsOwn (here Signals)) None
       ∙ sym (ap (λ l. settled setup (parts (Some t) ready None l trace))
-      (threads_are out at.Signals is refl (calling setup c ready (threads out) trace t g e (long out) next) refl)
+      (threads_are out Signals is refl (calling setup c ready (threads out) trace t g e (long out) next) refl)
       ∙ goes_on setup c ready (threads out) trace t g e (long out) next ready trace (λ p. refl)))
 
-  pub has_signalled_own_line : (v : CvOut BufferOut) → call_state_of call_states t ≡ here at.SignalsOwn
+  pub has_signalled_own_line : (v : CvOut BufferOut) → call_state_of call_states t ≡ here SignalsOwn
       → LineOf setup c t call (own_with (outcome_of (lock.Did v) u)) guests trace
   has_signalled_own_line v is =
       let out : TowerOut = outcome_of (lock.Did v) u in
       let next : Call = call_from call position (Some f) Releases in
-      line out at.SignalsOwn is refl (Inside (SignalFront t (tower_side call))) _
-      (ap (raised (left_recorded t call (here at.SignalsOwn) call_states at.SignalsOwn)) (beneath_is out (Inside (SignalFront t
+      line out SignalsOwn is refl (Inside (SignalFront t (tower_side call))) _
+      (ap (raised (left_recorded t call (here SignalsOwn) call_states SignalsOwn)) (beneath_is out (Inside (SignalFront t
       (tower_side call))) is_waits is_slept))
       refl refl
-      (sent out at.SignalsOwn is refl (at_stage at.Releases (here at.SignalsOwn)) None
+      (sent out SignalsOwn is refl (at_stage Releases (here SignalsOwn)) None
       ∙ sym (ap (λ l. settled setup (parts (Some t) ready None l trace))
-      (threads_are out at.SignalsOwn is refl (calling setup c ready (threads out) trace t g e (long out) next) refl)
+      (threads_are out SignalsOwn is refl (calling setup c ready (threads out) trace t g e (long out) next) refl)
       ∙ goes_on setup c ready (threads out) trace t g e (long out) next ready trace (λ p. refl)))
 
-  pub has_released_line : call_state_of call_states t ≡ here at.Releases → LineOf setup c t call (own_with (outcome_of (lock.Released cv.Left) u)) guests trace
+  pub has_released_line : call_state_of call_states t ≡ here Releases → LineOf setup c t call (own_with (outcome_of (lock.Released cv.Left) u)) guests trace
   has_released_line is =
       let out : TowerOut = outcome_of (lock.Released cv.Left) u in
       let now : Call = call_from call position (Some f) Releases in
-      line out at.Releases is refl (Release (Leave t)) _
-      (ap (raised (left_recorded t call (here at.Releases) call_states at.Releases)) (beneath_is out (Release (Leave t)) is_waits is_slept))
+      line out Releases is refl (Release (Leave t)) _
+      (ap (raised (left_recorded t call (here Releases) call_states Releases)) (beneath_is out (Release (Leave t)) is_waits is_slept))
       refl refl
-      (sent out at.Releases is refl (record { stage = at.Idle; call = None; position = position; effect = Some f }) (Some (reply_of call f))
+      (sent out Releases is refl (record { stage = Idle; call = None; position = position; effect = Some f }) (Some (reply_of call f))
       ∙ (ap (λ x. parts (Some t) ready None (slice_set (threads out) t.0 (record { guest = x; call = None; ended = e })) trace)
       (reply_guest call f (next_of (program_of setup t) g) g)
       ∙ sym (ap (λ l. settled setup (parts (Some t) ready None l trace))
-      (threads_are out at.Releases is refl (calling setup c ready (threads out) trace t g e (long out) (record now { stage = Returns })) refl)
+      (threads_are out Releases is refl (calling setup c ready (threads out) trace t g e (long out) (record now { stage = Idle })) refl)
       ∙ returns setup c ready (threads out) trace t g e (long out) now ready trace)))

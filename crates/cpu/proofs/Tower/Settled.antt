@@ -6,7 +6,8 @@ use Rattle.event_log.specs.declared.ids.CpuId.{CpuId}
 use Rattle.event_log.specs.declared.ids.Tid.{Tid}
 use Rattle.guest.specs.State.{State, next_of}
 use Rattle.cpu.specs.Table.Blocks.{Answer}
-use Rattle.cpu.specs.Table.Setups.{Setup, Returns, Call, Thread, Private, new_thread, program_of, thread_at}
+use Rattle.layer_traits.specs.declared.call_states.Stage.TheVariants.{Idle}
+use Rattle.cpu.specs.Table.Setups.{Setup, Call, Thread, Private, new_thread, program_of, thread_at}
 use Rattle.cpu.specs.Table.Choice.{after_by, after_section, asked, asked_by, at_buffer, guest_after}
 use Rattle.cpu.specs.Table.Choice.{recorded, returned_at, returned_by, section_at, settled, slept_if, woken}
 use Rattle.cpu.proofs.Tower.Numbered.{parts}
@@ -55,9 +56,9 @@ module _ (setup : Setup) (c : CpuId) (ready : List Tid) (threads : List Thread) 
 
   -- a call that has none left returns
   pub returns : (call : Call) (ready2 : List Tid) (trace2 : List Entry)
-      → settled setup (with_t ready2 None (calling (record call { stage = Returns })) trace2) ≡ with_t ready2 None (done_with call) trace2
+      → settled setup (with_t ready2 None (calling (record call { stage = Idle })) trace2) ≡ with_t ready2 None (done_with call) trace2
   returns call ready2 trace2 =
-      let next : Call = record call { stage = Returns } in
+      let next : Call = record call { stage = Idle } in
       let p : Private = with_t ready2 None (calling next) trace2 in
       ap (λ x. returned_by setup p t x.call) (there (calling next) ready2 None trace2)
       ∙ (ap (λ x. parts (Some t) ready2 None (slice_set (slice_set threads t.0 (calling next)) t.0

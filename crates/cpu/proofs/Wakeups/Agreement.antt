@@ -8,63 +8,60 @@ use Rattle.event_log.specs.declared.ids.CpuId.{CpuId}
 use Rattle.event_log.specs.declared.ids.Tid.{Tid}
 use Rattle.event_log.specs.declared.ids.BufId.{BufId}
 use Rattle.event_log.specs.History.{same_cpu}
-use Rattle.event_log.proofs.Same.{same_cpu_self, same_cpu_true}
+use Rattle.event_log.proofs.Same.{same_cpu_self}
 use Rattle.thread_blocks.specs.Queues.{same_tid}
 use Rattle.thread_blocks.proofs.Members.{same_tid_self, same_tid_true}
 use Rattle.layer_traits.specs.declared.locked.Side.{Side}
 use Rattle.layer_traits.specs.declared.locked.Side.TheVariants.{Receivers, Senders}
-use Rattle.layer_traits.specs.Places.{is_thread, one_if, count_in}
+use Rattle.layer_traits.specs.Places.{Where, Home, Hand, is_home, is_hand, is_thread, one_if, count_in}
 use Rattle.layer_traits.proofs.CountLemmas.{same_tid_sym, count_append}
+use Rattle.layer_traits.proofs.PlaceLemmas.{is_home_true}
 use Rattle.cpu.specs.Table.Blocks.{side_of}
-use Rattle.cpu.specs.Table.Setups.{Setup, CallStage, Acquires, Enters, Tries, Waits, AcquiresAgain, Signals, SignalsOwn}
-use Rattle.cpu.specs.Table.Setups.{Releases, Returns, Call, Thread, Private, new_thread, thread_at, with_thread, home_of}
+use Rattle.layer_traits.specs.declared.call_states.Stage.{Stage}
+use Rattle.layer_traits.specs.declared.call_states.Stage.TheVariants.{Idle, Acquires, Enters, Tries, Waits, AcquiresAgain, Signals, SignalsOwn, Releases}
+use Rattle.cpu.specs.Table.Setups.{Setup}
+use Rattle.cpu.specs.Table.Setups.{Call, Thread, Private, new_thread, thread_at, with_thread, home_of}
 use Rattle.cpu.specs.Table.Choice.{slept_if, woken}
+use Rattle.cpu.specs.Wakeups.Order.{Progress, Begins, HasEntered, WasRefused, Owes}
 use Rattle.cpu.proofs.Wakeups.Lists.{refuted}
-use Rattle.cpu.proofs.Wakeups.Posts.{Post, Home, InHand, IsPending, AtLock, AtWait, CallPhase, GotIt, Trying, Failed, Waiting, Owing, Visit, Outside, In}
-use Rattle.cpu.proofs.Wakeups.Posts.{is_home, is_hand, post_by, post_woken, is_local}
+use Rattle.cpu.proofs.Wakeups.Posts.{Waiting, Visit, Outside, In}
+use Rattle.cpu.proofs.Wakeups.Posts.{post_by, post_woken, is_local}
 
 -- once the other side is signalled, the own side is owed its signal
-abbrev pub owing_own : Side → CallPhase
-owing_own Senders = Owing false true
-owing_own Receivers = Owing true false
+abbrev pub owing_own : Side → Progress
+owing_own Senders = Owes false true
+owing_own Receivers = Owes true false
 
 -- the visit of a call at each stage
-abbrev pub visit_of_stage : BufId → Side → CallStage → Visit
-visit_of_stage b side Acquires = Outside
-visit_of_stage b side Enters = In b GotIt
-visit_of_stage b side Tries = In b (Trying side)
-visit_of_stage b side Waits = In b (Failed side)
-visit_of_stage b side AcquiresAgain = In b (Waiting side)
-visit_of_stage b side Signals = In b (Owing true true)
+abbrev pub visit_of_stage : BufId → Side → Stage → Visit
+visit_of_stage b side Enters = In b Begins
+visit_of_stage b side Tries = In b (HasEntered side)
+visit_of_stage b side Waits = In b (WasRefused side)
+visit_of_stage b side AcquiresAgain = Waiting b side
+visit_of_stage b side Signals = In b (Owes true true)
 visit_of_stage b side SignalsOwn = In b (owing_own side)
-visit_of_stage b side Releases = In b (Owing false false)
-visit_of_stage b side Returns = Outside
+visit_of_stage b side Releases = In b (Owes false false)
+visit_of_stage b side Acquires = Outside
+visit_of_stage b side Idle = Outside
 
 abbrev pub visit_of_call : Option Call → Visit
 visit_of_call None = Outside
 visit_of_call (Some call) = visit_of_stage call.buffer (side_of call.asks) call.stage
 
 -- a call that has done its last section
-abbrev pub is_last : CallStage → Bool
-is_last Returns = true
-is_last Acquires = false
-is_last Enters = false
-is_last Tries = false
-is_last Waits = false
-is_last AcquiresAgain = false
-is_last Signals = false
-is_last SignalsOwn = false
-is_last Releases = false
+abbrev pub is_last : Stage → Bool
+is_last Idle = true
+is_last stage = false
 
 abbrev pub is_done : Option Call → Bool
 is_done None = false
 is_done (Some call) = is_last call.stage
 
 -- a thread at home that has not ended runs or is ready, once
-abbrev pub seat : Setup → CpuId → Tid → Post → Bool → Bool
+abbrev pub seat : Setup → CpuId → Tid → Where → Bool → Bool
 seat setup c u x ended = is_local setup c u && (is_home x && not ended)
 
-pub record Agrees (setup : Setup) (c : CpuId) (p : Private) (T : Tid → Visit) (P : Tid → Post) : Type 0 where
+pub record Agrees (setup : Setup) (c : CpuId) (p : Private) (T : Tid → Visit) (P : Tid → Where) : Type 0 where
   pub size : length p.threads ≡ length setup.homes
   pub calls : (u : Tid) → is_local setup c u ≡ true → T u ≡ visit_of_call (thread_at p u).call
   pub seats : (u : Tid) → one_if (is_thread u p.current) + count_in u p.ready ≡ one_if (seat setup c u (P u) (thread_at p u).ended)
@@ -92,9 +89,6 @@ pub record Same (p q : Private) (t : Tid) : Type 0 where
   pub ended : (u : Tid) → (thread_at q u).ended ≡ (thread_at p u).ended
   pub others : (u : Tid) → same_tid t u ≡ false → (thread_at q u).call ≡ (thread_at p u).call
 
-pub same_refl : (p : Private) (t : Tid) → Same p p t
-same_refl p t = record { current = refl; ready = refl; hand = refl; size = refl; ended = λ u. refl; others = λ u other. refl }
-
 pub same_with : (p : Private) (t : Tid) (x : Thread) → t.0 < length p.threads → x.ended ≡ (thread_at p t).ended → Same p (with_thread p t x) t
 same_with p t x known ended = record {
   current = refl;
@@ -111,7 +105,7 @@ same_with p t x known ended = record {
     by_test u false other = ap (λ y. y.ended) (at_other p t u x other)
 
 -- what a thread stands at does not matter where it has a call, nor what the trace is
-pub agrees_same : (setup : Setup) (c : CpuId) (p q : Private) (t : Tid) (T N : Tid → Visit) (P : Tid → Post) → Agrees setup c p T P → Same p q t
+pub agrees_same : (setup : Setup) (c : CpuId) (p q : Private) (t : Tid) (T N : Tid → Visit) (P : Tid → Where) → Agrees setup c p T P → Same p q t
     → ((u : Tid) → same_tid t u ≡ false → N u ≡ T u) → N t ≡ visit_of_call (thread_at q t).call → Agrees setup c q N P
 agrees_same setup c p q t T N P agrees same others mine = record {
   size = same.size ∙ agrees.size;
@@ -130,7 +124,7 @@ agrees_same setup c p q t T N P agrees same others mine = record {
 -- The thread that runs.
 
 -- a seat that is taken is one of a thread at home here that has not ended
-pub seated : (setup : Setup) (c : CpuId) (p : Private) (T : Tid → Visit) (P : Tid → Post) → Agrees setup c p T P → (t : Tid)
+pub seated : (setup : Setup) (c : CpuId) (p : Private) (T : Tid → Visit) (P : Tid → Where) → Agrees setup c p T P → (t : Tid)
     → 0 < one_if (is_thread t p.current) + count_in t p.ready
     → (is_local setup c t ≡ true) × (is_home (P t) ≡ true) × ((thread_at p t).ended ≡ false) × (one_if (is_thread t p.current) + count_in t p.ready ≡ 1)
 seated setup c p T P agrees t some = by_test (seat setup c t (P t) (thread_at p t).ended) refl
@@ -149,40 +143,26 @@ seated setup c p T P agrees t some = by_test (seat setup c t (P t) (thread_at p 
         let none : one_if (is_thread t p.current) + count_in t p.ready ≡ 0 = agrees.seats t ∙ ap one_if is in
         absurd (omega (arith, some, none))
 
-pub runs : (setup : Setup) (c : CpuId) (p : Private) (T : Tid → Visit) (P : Tid → Post) → Agrees setup c p T P → (t : Tid) → p.current ≡ Some t
+pub runs : (setup : Setup) (c : CpuId) (p : Private) (T : Tid → Visit) (P : Tid → Where) → Agrees setup c p T P → (t : Tid) → p.current ≡ Some t
     → (is_local setup c t ≡ true) × (is_home (P t) ≡ true) × ((thread_at p t).ended ≡ false) × (count_in t p.ready ≡ 0)
 runs setup c p T P agrees t is =
     let one : one_if (is_thread t p.current) ≡ 1 = ap one_if (ap (is_thread t) is ∙ same_tid_self t) in
     let at = seated setup c p T P agrees t (omega (arith, one)) in
     (at.0, at.1, at.2, omega (arith, one, at.3))
 
-pub home_is : (x : Post) → is_home x ≡ true → x ≡ Home
-home_is Home on = refl
-home_is (InHand c) on = absurd (cc on)
-home_is IsPending on = absurd (cc on)
-home_is (AtLock b) on = absurd (cc on)
-home_is (AtWait b side) on = absurd (cc on)
-
-pub hand_is : (c : CpuId) (x : Post) → is_hand c x ≡ true → x ≡ InHand c
-hand_is c (InHand d) on = ap InHand (same_cpu_true d c on)
-hand_is c Home on = absurd (cc on)
-hand_is c IsPending on = absurd (cc on)
-hand_is c (AtLock b) on = absurd (cc on)
-hand_is c (AtWait b side) on = absurd (cc on)
-
 pub known_of : (setup : Setup) (c : CpuId) (t : Tid) → is_local setup c t ≡ true → t.0 < length setup.homes
 known_of setup c t local = ltb-true t.0 (length setup.homes) (and_parts (same_cpu (home_of setup t) c) (nat_lt t.0 (length setup.homes)) local).1
 
-pub within : (setup : Setup) (c : CpuId) (p : Private) (T : Tid → Visit) (P : Tid → Post) → Agrees setup c p T P
+pub within : (setup : Setup) (c : CpuId) (p : Private) (T : Tid → Visit) (P : Tid → Where) → Agrees setup c p T P
     → (t : Tid) → is_local setup c t ≡ true → t.0 < length p.threads
 within setup c p T P agrees t local = subst (λ n. t.0 < n) (sym agrees.size) (known_of setup c t local)
 
 -- The caller goes to sleep.
 
-seat_off : (setup : Setup) (c : CpuId) (u : Tid) (x : Post) (ended : Bool) → is_home x ≡ false → one_if (seat setup c u x ended) ≡ 0
+seat_off : (setup : Setup) (c : CpuId) (u : Tid) (x : Where) (ended : Bool) → is_home x ≡ false → one_if (seat setup c u x ended) ≡ 0
 seat_off setup c u x ended off = ap one_if (and_right (is_local setup c u) (is_home x && not ended) (and_left (is_home x) (not ended) off))
 
-pub agrees_slept : (setup : Setup) (c : CpuId) (p : Private) (t : Tid) (T : Tid → Visit) (P N : Tid → Post) (slept : Bool)
+pub agrees_slept : (setup : Setup) (c : CpuId) (p : Private) (t : Tid) (T : Tid → Visit) (P N : Tid → Where) (slept : Bool)
     → Agrees setup c p T P → p.current ≡ Some t
     → ((u : Tid) → same_tid t u ≡ false → N u ≡ P u) → (slept ≡ false → N t ≡ P t) → (slept ≡ true → (is_home (N t) ≡ false) × (is_hand c (N t) ≡ false))
     → Agrees setup c (slept_if slept p) T N
@@ -225,7 +205,7 @@ agrees_slept setup c p t T P N true agrees runs_now others stays sleeps = record
     held : (u : Tid) (mine : Bool) → same_tid t u ≡ mine → is_thread u p.hand ≡ is_hand c (N u)
     held u true is =
         subst (λ v. is_thread v p.hand ≡ is_hand c (N v)) (same_tid_true t u is)
-        (agrees.hands t ∙ ap (is_hand c) (home_is (P t) at_work.1) ∙ sym (sleeps refl).1)
+        (agrees.hands t ∙ ap (is_hand c) (is_home_true (P t) at_work.1) ∙ sym (sleeps refl).1)
     held u false other = agrees.hands u ∙ ap (is_hand c) (sym (others u other))
 
     at_home : (u : Tid) → is_local setup c u ≡ true → (thread_at p u).ended ≡ true → (mine : Bool) → same_tid t u ≡ mine → is_home (N u) ≡ true
@@ -234,13 +214,13 @@ agrees_slept setup c p t T P N true agrees runs_now others stays sleeps = record
 
 -- A thread is woken.
 
-pub agrees_woken : (setup : Setup) (c : CpuId) (p : Private) (T : Tid → Visit) (P : Tid → Post) (woke : Option Tid) → Agrees setup c p T P → p.hand ≡ None
+pub agrees_woken : (setup : Setup) (c : CpuId) (p : Private) (T : Tid → Visit) (P : Tid → Where) (woke : Option Tid) → Agrees setup c p T P → p.hand ≡ None
     → ((s : Tid) → woke ≡ Some s → (is_home (P s) ≡ false) × (nat_lt s.0 (length setup.homes) ≡ true))
     → Agrees setup c (woken setup c woke p) T (λ u. if is_thread u woke then post_woken setup c u else P u)
 agrees_woken setup c p T P None agrees empty asleep = agrees
 agrees_woken setup c p T P (Some s) agrees empty asleep = by_home (same_cpu (home_of setup s) c) refl
   where
-    N : Tid → Post
+    N : Tid → Where
     N u = if same_tid s u then post_woken setup c u else P u
 
     by_home : (here : Bool) → same_cpu (home_of setup s) c ≡ here
@@ -297,7 +277,7 @@ agrees_woken setup c p T P (Some s) agrees empty asleep = by_home (same_cpu (hom
       ends = λ u local ended. at_home u local ended (same_tid s u) refl;
     }
       where
-        in_hand : post_woken setup c s ≡ InHand c
+        in_hand : post_woken setup c s ≡ Hand c
         in_hand = ap (λ b. post_by b c) away
 
         sits : (u : Tid) (mine : Bool) → same_tid s u ≡ mine

@@ -86,8 +86,7 @@ calm_put t k (HasEntered Senders) owner may fits vain = (
   fits.1,
 )
 calm_put t k (HasEntered Receivers) owner may fits vain = absurd (cc may)
-calm_put t k (WasRefused side) owner may fits vain = absurd may
-calm_put t k (Owes receivers senders) owner may fits vain = absurd may
+calm_put t k g owner may fits vain = absurd may
 
 calm_take : (t : Tid) (k : Buffer) (g : Progress) → k.busy ≡ Some t → MayTry Receivers g → Fits k g → may_take t k ≡ false → IsCalm k
 calm_take t k Begins owner may fits vain = fits
@@ -98,8 +97,7 @@ calm_take t k (HasEntered Receivers) owner may fits vain = (
       (and_parts (front_stands_in k.receive_line k.waiting_receivers) (can_take k) due).1)),
 )
 calm_take t k (HasEntered Senders) owner may fits vain = absurd (cc may)
-calm_take t k (WasRefused side) owner may fits vain = absurd may
-calm_take t k (Owes receivers senders) owner may fits vain = absurd may
+calm_take t k g owner may fits vain = absurd may
 
 after_put : (t : Tid) (m : Message) (k : Buffer) (g : Progress) (may : Bool) → may_put t k ≡ may → k.busy ≡ Some t → MayTry Senders g → Fits k g
     → IsAwake (if may then put m k else k) (if may then Owes true true else WasRefused Senders)

@@ -1,35 +1,34 @@
 -- What holds after any section log in which each section may come: every buffer with every thread, and where each thread is.
 use Rattle.std.proofs.Common.{◌≡◌, ℕ, Bool, true, false, ◌&&◌, List, [], ◌∷◌, length, slice_get, Option}
 use Rattle.std.proofs.Common.{Some, None, option_map, nat_lt, if◌then◌else◌, refl, sym, ap, ◌∙◌, subst}
-use Rattle.std.proofs.lemmas.Bool.{and_parts, and_left, and_right}
+use Rattle.std.proofs.lemmas.Bool.{and_parts, and_left, and_right, false_from_ne_true}
 use Rattle.event_log.specs.declared.ids.CpuId.{CpuId}
 use Rattle.event_log.specs.declared.ids.Tid.{Tid}
 use Rattle.event_log.specs.declared.ids.BufId.{BufId}
 use Rattle.event_log.specs.declared.ids.LockId.{LockId}
 use Rattle.event_log.specs.declared.ids.LockId.TheVariants.{Pending, Buffer as AtBuffer}
 use Rattle.event_log.specs.declared.ids.TheConstants.{THREADS}
-use Rattle.event_log.specs.History.{same_cpu}
+use Rattle.event_log.specs.History.{same_cpu, same_lock}
 use Rattle.event_log.specs.Sections.{Section}
-use Rattle.event_log.proofs.Same.{same_cpu_self, same_cpu_true}
+use Rattle.event_log.proofs.Same.{same_cpu_self, same_cpu_true, same_lock_self, same_lock_true}
 use Rattle.thread_blocks.specs.Queues.{same_tid}
 use Rattle.thread_blocks.proofs.Members.{same_tid_true}
-use Rattle.layer_traits.specs.declared.locked.Side.{Side}
-use Rattle.layer_traits.specs.Places.{is_thread, one_if, count_in}
+use Rattle.layer_traits.specs.declared.moves.WaitList.{WaitList}
+use Rattle.layer_traits.specs.ListsAgree.{same_list}
+use Rattle.layer_traits.specs.Places.{Where, Home, Hand, Pend as IsPending, Asleep, At, is_home, is_thread, one_if, count_in}
 use Rattle.layer_traits.specs.Sleeping.{joined}
 use Rattle.layer_traits.proofs.CountLemmas.{same_cpu_sym}
-use Rattle.cpu.specs.Table.Blocks.{Buffer, Block, OfBuffer, OfPending, Name, WaitOn, Pend, TakeAll}
+use Rattle.cpu.specs.Table.Blocks.{Buffer, Block, OfBuffer, OfPending, Name, Pend, TakeAll}
 use Rattle.cpu.specs.Table.Edits.{edited, edited_buffer, answer_of_buffer}
 use Rattle.cpu.specs.Table.Setups.{Setup, home_of, opening_buffer, empty_buffer}
 use Rattle.cpu.specs.Wakeups.Order.{Progress, Begins, progress, progress_by, progress_after, block_of, MayEdit, MayEditBlock, IsInOrder}
 use Rattle.cpu.proofs.Wakeups.Lists.{refuted, none_is_not}
 use Rattle.cpu.proofs.Wakeups.Awake.{IsAwake}
 use Rattle.cpu.proofs.Wakeups.Ordered.{same_buffer, buffer_awake}
-use Rattle.cpu.proofs.Wakeups.Posts.{Post, Home, InHand, IsPending, AtLock, AtWait, Outside}
-use Rattle.cpu.proofs.Wakeups.Posts.{is_buffer, is_home, is_pending, is_lock, is_wait, is_moved, is_side}
+use Rattle.cpu.proofs.Wakeups.Posts.{Outside, is_buffer, sleeps_in, sleeps_at, is_pending, is_moved}
 use Rattle.cpu.proofs.Wakeups.Posts.{caller_in, is_caller, waiters_of, post_by, post_woken, post_moved, post_drained, post_pending, post_buffer, post}
 use Rattle.cpu.proofs.Wakeups.Posts.{next_visit, visit_moved, visit_buffer, visit, IsCallers, MayComeBy, MayComeTo, MayComeAt, MayCome, marked}
-use Rattle.cpu.proofs.Wakeups.Pairs.{Pair, marked_none, grown_list, buffer_true, sleeps_at, woken_sleeps}
-use Rattle.cpu.proofs.Wakeups.Pairs.{woken_no_lock, woken_no_wait, other_pair, thread_some, other_joined}
+use Rattle.cpu.proofs.Wakeups.Pairs.{Pair, marked_none, grown_list, buffer_self, buffer_true, woken_sleeps, woken_awake, other_pair, thread_some, other_joined}
 use Rattle.cpu.proofs.Wakeups.Owns.{ByCaller, may_edit, own_pair, away, visit_apart, post_apart}
 
 -- what holds after a section log
@@ -81,7 +80,7 @@ good_none setup = record {
 -- How a section moves a thread.
 
 -- after a section of CPU c at buffer d a thread was woken there, has gone to sleep there as the section's caller, or is where it was
-pub data Moves (setup : Setup) (c : CpuId) (d : BufId) (u : Tid) (name : Name) (post now : Post) : Type 0 where
+pub data Moves (setup : Setup) (c : CpuId) (d : BufId) (u : Tid) (name : Name) (post now : Where) : Type 0 where
   was_woken : nat_lt u.0 THREADS ≡ true → sleeps_at d post ≡ true → now ≡ post_woken setup c u → Moves setup c d u name post now
   has_slept : post ≡ Home → is_caller u name ≡ true → now ≡ waiters_of d name → Moves setup c d u name post now
   stays : now ≡ post → Moves setup c d u name post now
@@ -123,76 +122,46 @@ moves_at setup past good c d name callers u (Some (OfBuffer k)) is =
 
 -- What a move keeps.
 
--- the number of a thread that sleeps elsewhere
-sleeps_no_lock : (b d : BufId) (x : Post) → is_buffer b d ≡ false → sleeps_at d x ≡ true → is_lock b x ≡ false
-sleeps_no_lock b d (AtLock e) off on = subst (λ z. is_buffer b z ≡ false) (buffer_true d e on) off
-sleeps_no_lock b d (AtWait e side) off on = refl
-sleeps_no_lock b d Home off on = refl
-sleeps_no_lock b d (InHand c) off on = refl
-sleeps_no_lock b d IsPending off on = refl
+-- whoever sleeps at one buffer sleeps at no other
+buffer_apart : (b d : BufId) → is_buffer b d ≡ false → same_lock (AtBuffer d) (AtBuffer b) ≡ false
+buffer_apart b d off = false_from_ne_true (same_lock (AtBuffer d) (AtBuffer b)) (λ on.
+    refuted off (ap (same_lock (AtBuffer b)) (same_lock_true (AtBuffer d) (AtBuffer b) on) ∙ same_lock_self (AtBuffer b)))
 
-sleeps_no_wait : (b d : BufId) (side : Side) (x : Post) → is_buffer b d ≡ false → sleeps_at d x ≡ true → is_wait b side x ≡ false
-sleeps_no_wait b d side (AtLock e) off on = refl
-sleeps_no_wait b d side (AtWait e other) off on = and_left (is_buffer b e) (is_side side other) (subst (λ z. is_buffer b z ≡ false) (buffer_true d e on) off)
-sleeps_no_wait b d side Home off on = refl
-sleeps_no_wait b d side (InHand c) off on = refl
-sleeps_no_wait b d side IsPending off on = refl
-
-waiter_no_lock : (b d : BufId) (name : Name) → is_buffer b d ≡ false → is_lock b (waiters_of d name) ≡ false
-waiter_no_lock b d (WaitOn t side) off = refl
-waiter_no_lock b d name off = off
-
-waiter_no_wait : (b d : BufId) (side : Side) (name : Name) → is_buffer b d ≡ false → is_wait b side (waiters_of d name) ≡ false
-waiter_no_wait b d side (WaitOn t other) off = and_left (is_buffer b d) (is_side side other) off
-waiter_no_wait b d side name off = refl
-
-pub waiter_not_pending : (d : BufId) (name : Name) → is_pending (waiters_of d name) ≡ false
-waiter_not_pending d (WaitOn t side) = refl
-waiter_not_pending d name = refl
-
-pub waiter_not_moved : (d : BufId) (name : Name) → is_moved (waiters_of d name) ≡ false
-waiter_not_moved d (WaitOn t side) = refl
-waiter_not_moved d name = refl
+sleeps_elsewhere : (b d : BufId) (list : WaitList) (x : Where) → is_buffer b d ≡ false → sleeps_at d x ≡ true → sleeps_in b list x ≡ false
+sleeps_elsewhere b d list (Asleep (At lock other)) off on = and_left (same_lock lock (AtBuffer b)) (same_list other list)
+    (subst (λ l. same_lock l (AtBuffer b) ≡ false) (sym (same_lock_true lock (AtBuffer d) on)) (buffer_apart b d off))
+sleeps_elsewhere b d list Home off on = refl
+sleeps_elsewhere b d list (Hand c) off on = refl
+sleeps_elsewhere b d list (IsPending q) off on = refl
 
 pub woken_not_pending : (here : Bool) (c : CpuId) → is_pending (post_by here c) ≡ false
 woken_not_pending true c = refl
 woken_not_pending false c = refl
 
-pub sleeps_not_home : (d : BufId) (x : Post) → sleeps_at d x ≡ true → is_home x ≡ false
-sleeps_not_home d (AtLock e) on = refl
-sleeps_not_home d (AtWait e side) on = refl
+pub sleeps_not_home : (d : BufId) (x : Where) → sleeps_at d x ≡ true → is_home x ≡ false
 sleeps_not_home d Home on = absurd (cc on)
-sleeps_not_home d (InHand c) on = refl
-sleeps_not_home d IsPending on = refl
+sleeps_not_home d x on = refl
 
-pub sleeps_not_pending : (d : BufId) (x : Post) → sleeps_at d x ≡ true → is_pending x ≡ false
-sleeps_not_pending d (AtLock e) on = refl
-sleeps_not_pending d (AtWait e side) on = refl
-sleeps_not_pending d Home on = refl
-sleeps_not_pending d (InHand c) on = refl
-sleeps_not_pending d IsPending on = absurd (cc on)
+pub sleeps_not_pending : (d : BufId) (x : Where) → sleeps_at d x ≡ true → is_pending x ≡ false
+sleeps_not_pending d (IsPending q) on = absurd (cc on)
+sleeps_not_pending d x on = refl
 
-module _ (setup : Setup) (c : CpuId) (d : BufId) (u : Tid) (name : Name) (x now : Post) where
-  no_lock_moves : (b : BufId) → is_buffer b d ≡ false → Moves setup c d u name x now → is_lock b now ≡ is_lock b x
-  no_lock_moves b off (was_woken small sleeps is) =
-      ap (is_lock b) is ∙ woken_no_lock b (same_cpu (home_of setup u) c) c ∙ sym (sleeps_no_lock b d x off sleeps)
-  no_lock_moves b off (has_slept home own is) = ap (is_lock b) is ∙ waiter_no_lock b d name off ∙ ap (is_lock b) (sym home)
-  no_lock_moves b off (stays is) = ap (is_lock b) is
-
-  no_wait_moves : (b : BufId) (side : Side) → is_buffer b d ≡ false → Moves setup c d u name x now → is_wait b side now ≡ is_wait b side x
-  no_wait_moves b side off (was_woken small sleeps is) =
-      ap (is_wait b side) is ∙ woken_no_wait b side (same_cpu (home_of setup u) c) c ∙ sym (sleeps_no_wait b d side x off sleeps)
-  no_wait_moves b side off (has_slept home own is) = ap (is_wait b side) is ∙ waiter_no_wait b d side name off ∙ ap (is_wait b side) (sym home)
-  no_wait_moves b side off (stays is) = ap (is_wait b side) is
+module _ (setup : Setup) (c : CpuId) (d : BufId) (u : Tid) (name : Name) (x now : Where) where
+  lists_stay : (b : BufId) (list : WaitList) → is_buffer b d ≡ false → Moves setup c d u name x now → sleeps_in b list now ≡ sleeps_in b list x
+  lists_stay b list off (was_woken small sleeps is) =
+      ap (sleeps_in b list) is ∙ woken_awake b list (same_cpu (home_of setup u) c) c ∙ sym (sleeps_elsewhere b d list x off sleeps)
+  lists_stay b list off (has_slept home own is) =
+      ap (sleeps_in b list) is ∙ sleeps_elsewhere b d list (waiters_of d name) off (buffer_self d) ∙ ap (sleeps_in b list) (sym home)
+  lists_stay b list off (stays is) = ap (sleeps_in b list) is
 
   no_pending_moves : Moves setup c d u name x now → is_pending now ≡ is_pending x
   no_pending_moves (was_woken small sleeps is) = ap is_pending is ∙ woken_not_pending (same_cpu (home_of setup u) c) c ∙ sym (sleeps_not_pending d x sleeps)
-  no_pending_moves (has_slept home own is) = ap is_pending is ∙ waiter_not_pending d name ∙ ap is_pending (sym home)
+  no_pending_moves (has_slept home own is) = ap is_pending is ∙ ap is_pending (sym home)
   no_pending_moves (stays is) = ap is_pending is
 
   small_moves : Moves setup c d u name x now → (is_moved x ≡ true → nat_lt u.0 THREADS ≡ true) → is_moved now ≡ true → nat_lt u.0 THREADS ≡ true
   small_moves (was_woken small sleeps is) before on = small
-  small_moves (has_slept home own is) before on = refuted (ap is_moved is ∙ waiter_not_moved d name) on
+  small_moves (has_slept home own is) before on = refuted (ap is_moved is) on
   small_moves (stays is) before on = before (ap is_moved (sym is) ∙ on)
 
   known_moves : Moves setup c d u name x now → (is_caller u name ≡ true → nat_lt u.0 (length setup.homes) ≡ true)
@@ -240,7 +209,7 @@ module _ (setup : Setup) (past : List (Section Name)) (good : Good setup past) (
       (post_moved setup c d u name (answer_of_buffer name was).slept (answer_of_buffer name was).woke (post setup u past)))
       (same_buffer (edited_buffer name was) k is) (edited_pair u was block (is_caller u name) refl)
 
-  visit_there : (b : BufId) → is_buffer b d ≡ false → (u : Tid) (k : Buffer) (g : Progress) (x : Post) (o : Option Block)
+  visit_there : (b : BufId) → is_buffer b d ≡ false → (u : Tid) (k : Buffer) (g : Progress) (x : Where) (o : Option Block)
       → Pair b u k g (visit setup u past) x → Pair b u k g (visit_buffer d u name o (visit setup u past)) x
   visit_there b off u k g x None pair = pair
   visit_there b off u k g x (Some (OfPending threads)) pair = pair
@@ -261,7 +230,7 @@ module _ (setup : Setup) (past : List (Section Name)) (good : Good setup past) (
       let moves = moves_at setup past good c d name callers u o refl in
       let now = post_buffer setup c d u name o (post setup u past) in
       post_apart b u k g (visit_buffer d u name o (visit setup u past)) (post setup u past) now
-      (no_lock_moves setup c d u name (post setup u past) now b off moves) (λ side. no_wait_moves setup c d u name (post setup u past) now b side off moves)
+      (λ list. lists_stay setup c d u name (post setup u past) now b list off moves)
       (visit_there b off u k g (post setup u past) o (good.pairs b u k block))
 
   good_buffer : Good setup (record { cpu = c; lock = AtBuffer d; edit = name } ∷ past)
@@ -298,40 +267,26 @@ module _ (setup : Setup) (past : List (Section Name)) (good : Good setup past) (
 
 -- A section on pending threads.
 
-pub drained_lock : (b : BufId) (x : Post) → is_lock b (post_drained x) ≡ is_lock b x
-drained_lock b Home = refl
-drained_lock b (InHand c) = refl
-drained_lock b IsPending = refl
-drained_lock b (AtLock d) = refl
-drained_lock b (AtWait d side) = refl
+pub drained_lists : (b : BufId) (list : WaitList) (x : Where) → sleeps_in b list (post_drained x) ≡ sleeps_in b list x
+drained_lists b list Home = refl
+drained_lists b list (Hand c) = refl
+drained_lists b list (IsPending q) = refl
+drained_lists b list (Asleep p) = refl
 
-pub drained_wait : (b : BufId) (side : Side) (x : Post) → is_wait b side (post_drained x) ≡ is_wait b side x
-drained_wait b side Home = refl
-drained_wait b side (InHand c) = refl
-drained_wait b side IsPending = refl
-drained_wait b side (AtLock d) = refl
-drained_wait b side (AtWait d other) = refl
-
-pub drained_pending : (x : Post) → is_pending (post_drained x) ≡ false
+pub drained_pending : (x : Where) → is_pending (post_drained x) ≡ false
 drained_pending Home = refl
-drained_pending (InHand c) = refl
-drained_pending IsPending = refl
-drained_pending (AtLock d) = refl
-drained_pending (AtWait d other) = refl
+drained_pending (Hand c) = refl
+drained_pending (IsPending q) = refl
+drained_pending (Asleep p) = refl
 
-pub drained_moved : (x : Post) → is_moved (post_drained x) ≡ true → is_moved x ≡ true
-drained_moved Home on = on
-drained_moved (InHand c) on = refl
-drained_moved IsPending on = refl
-drained_moved (AtLock d) on = on
-drained_moved (AtWait d other) on = on
+pub drained_moved : (x : Where) → is_moved (post_drained x) ≡ true → is_moved x ≡ true
+drained_moved (Hand c) on = refl
+drained_moved (IsPending q) on = refl
+drained_moved x on = on
 
-pub drained_home : (x : Post) → is_home (post_drained x) ≡ false → is_home x ≡ false
+pub drained_home : (x : Where) → is_home (post_drained x) ≡ false → is_home x ≡ false
 drained_home Home off = off
-drained_home (InHand c) off = refl
-drained_home IsPending off = refl
-drained_home (AtLock d) off = refl
-drained_home (AtWait d other) off = refl
+drained_home x off = refl
 
 abbrev threads_or : Option Block → List Tid
 threads_or None = []
@@ -343,13 +298,13 @@ same_threads list now is = ap threads_or is
 
 -- the queue of the lock at which the section came, and the queue of another lock
 module _ (setup : Setup) (past : List (Section Name)) (good : Good setup past) (c d : CpuId) where
-  pended_list : (s : Tid) → post setup s past ≡ InHand c → home_of setup s ≡ d → (u : Tid) (list : List Tid)
+  pended_list : (s : Tid) → post setup s past ≡ Hand c → home_of setup s ≡ d → (u : Tid) (list : List Tid)
       → block_of setup (Pending d) past ≡ Some (OfPending list)
-      → count_in u (joined s list) ≡ one_if (same_cpu (home_of setup u) d && is_pending (if same_tid s u then IsPending else post setup u past))
+      → count_in u (joined s list) ≡ one_if (same_cpu (home_of setup u) d && is_pending (if same_tid s u then IsPending d else post setup u past))
   pended_list s held home u list block = by_test (same_tid s u) refl
     where
       by_test : (mine : Bool) → same_tid s u ≡ mine
-          → count_in u (joined s list) ≡ one_if (same_cpu (home_of setup u) d && is_pending (if mine then IsPending else post setup u past))
+          → count_in u (joined s list) ≡ one_if (same_cpu (home_of setup u) d && is_pending (if mine then IsPending d else post setup u past))
       by_test true same =
           let is : s ≡ u = same_tid_true s u same in
           let none : count_in s list ≡ 0 = good.pending d s list block ∙ ap (λ x. one_if (same_cpu (home_of setup s) d && is_pending x)) held
@@ -360,13 +315,13 @@ module _ (setup : Setup) (past : List (Section Name)) (good : Good setup past) (
           subst (λ v. count_in v (joined s list) ≡ one_if (same_cpu (home_of setup v) d && true)) is (one ∙ counts ∙ sym there)
       by_test false other = other_joined u s list other ∙ good.pending d u list block
 
-  pended_there : (s : Tid) → post setup s past ≡ InHand c → home_of setup s ≡ d → (u : Tid) (e : CpuId) → same_cpu e d ≡ false
-      → (same_cpu (home_of setup u) e && is_pending (if same_tid s u then IsPending else post setup u past))
+  pended_there : (s : Tid) → post setup s past ≡ Hand c → home_of setup s ≡ d → (u : Tid) (e : CpuId) → same_cpu e d ≡ false
+      → (same_cpu (home_of setup u) e && is_pending (if same_tid s u then IsPending d else post setup u past))
       ≡ (same_cpu (home_of setup u) e && is_pending (post setup u past))
   pended_there s held home u e off = by_test (same_tid s u) refl
     where
       by_test : (mine : Bool) → same_tid s u ≡ mine
-          → (same_cpu (home_of setup u) e && is_pending (if mine then IsPending else post setup u past))
+          → (same_cpu (home_of setup u) e && is_pending (if mine then IsPending d else post setup u past))
           ≡ (same_cpu (home_of setup u) e && is_pending (post setup u past))
       by_test true same =
           let is : s ≡ u = same_tid_true s u same in
@@ -415,39 +370,25 @@ module _ (setup : Setup) (past : List (Section Name)) (good : Good setup past) (
   there_pending name may u e off = absurd may
 
   -- no section on pending threads touches a buffer
-  same_lock_pending : (name : Name) → MayComeTo setup past c d name → (u : Tid) (b : BufId)
-      → is_lock b (post_pending setup d u name (post setup u past)) ≡ is_lock b (post setup u past)
-  same_lock_pending (Pend s) may u b = by_test (same_tid s u) refl
+  same_lists : (name : Name) → MayComeTo setup past c d name → (u : Tid) (b : BufId) (list : WaitList)
+      → sleeps_in b list (post_pending setup d u name (post setup u past)) ≡ sleeps_in b list (post setup u past)
+  same_lists (Pend s) may u b list = by_test (same_tid s u) refl
     where
-      by_test : (mine : Bool) → same_tid s u ≡ mine → is_lock b (if mine then IsPending else post setup u past) ≡ is_lock b (post setup u past)
-      by_test true same = sym (subst (λ v. is_lock b (post setup v past) ≡ false) (same_tid_true s u same) (ap (is_lock b) may.0))
+      by_test : (mine : Bool) → same_tid s u ≡ mine → sleeps_in b list (if mine then IsPending d else post setup u past) ≡ sleeps_in b list (post setup u past)
+      by_test true same = sym (subst (λ v. sleeps_in b list (post setup v past) ≡ false) (same_tid_true s u same) (ap (sleeps_in b list) may.0))
       by_test false other = refl
-  same_lock_pending TakeAll may u b = by_test (same_cpu (home_of setup u) d)
+  same_lists TakeAll may u b list = by_test (same_cpu (home_of setup u) d)
     where
-      by_test : (mine : Bool) → is_lock b (if mine then post_drained (post setup u past) else post setup u past) ≡ is_lock b (post setup u past)
-      by_test true = drained_lock b (post setup u past)
+      by_test : (mine : Bool) → sleeps_in b list (if mine then post_drained (post setup u past) else post setup u past) ≡ sleeps_in b list (post setup u past)
+      by_test true = drained_lists b list (post setup u past)
       by_test false = refl
-  same_lock_pending name may u b = absurd may
-
-  same_wait_pending : (name : Name) → MayComeTo setup past c d name → (u : Tid) (b : BufId) (side : Side)
-      → is_wait b side (post_pending setup d u name (post setup u past)) ≡ is_wait b side (post setup u past)
-  same_wait_pending (Pend s) may u b side = by_test (same_tid s u) refl
-    where
-      by_test : (mine : Bool) → same_tid s u ≡ mine → is_wait b side (if mine then IsPending else post setup u past) ≡ is_wait b side (post setup u past)
-      by_test true same = sym (subst (λ v. is_wait b side (post setup v past) ≡ false) (same_tid_true s u same) (ap (is_wait b side) may.0))
-      by_test false other = refl
-  same_wait_pending TakeAll may u b side = by_test (same_cpu (home_of setup u) d)
-    where
-      by_test : (mine : Bool) → is_wait b side (if mine then post_drained (post setup u past) else post setup u past) ≡ is_wait b side (post setup u past)
-      by_test true = drained_wait b side (post setup u past)
-      by_test false = refl
-  same_wait_pending name may u b side = absurd may
+  same_lists name may u b list = absurd may
 
   small_pending : (name : Name) → MayComeTo setup past c d name → (u : Tid)
       → is_moved (post_pending setup d u name (post setup u past)) ≡ true → nat_lt u.0 THREADS ≡ true
   small_pending (Pend s) may u on = by_test (same_tid s u) refl on
     where
-      by_test : (mine : Bool) → same_tid s u ≡ mine → is_moved (if mine then IsPending else post setup u past) ≡ true → nat_lt u.0 THREADS ≡ true
+      by_test : (mine : Bool) → same_tid s u ≡ mine → is_moved (if mine then IsPending d else post setup u past) ≡ true → nat_lt u.0 THREADS ≡ true
       by_test true same now = subst (λ v. nat_lt v.0 THREADS ≡ true) (same_tid_true s u same) (good.small s (ap is_moved may.0))
       by_test false other now = good.small u now
   small_pending TakeAll may u on = by_test (same_cpu (home_of setup u) d) on
@@ -461,7 +402,7 @@ module _ (setup : Setup) (past : List (Section Name)) (good : Good setup past) (
       → nat_lt u.0 (length setup.homes) ≡ true
   known_pending (Pend s) may u off = by_test (same_tid s u) refl off
     where
-      by_test : (mine : Bool) → same_tid s u ≡ mine → is_home (if mine then IsPending else post setup u past) ≡ false → nat_lt u.0 (length setup.homes) ≡ true
+      by_test : (mine : Bool) → same_tid s u ≡ mine → is_home (if mine then IsPending d else post setup u past) ≡ false → nat_lt u.0 (length setup.homes) ≡ true
       by_test true same now = subst (λ v. nat_lt v.0 (length setup.homes) ≡ true) (same_tid_true s u same) (good.known s (ap is_home may.0))
       by_test false other now = good.known u now
   known_pending TakeAll may u off = by_test (same_cpu (home_of setup u) d) off
@@ -476,7 +417,7 @@ module _ (setup : Setup) (past : List (Section Name)) (good : Good setup past) (
     ordered = (tt, good.ordered);
     pairs = λ b u k is.
         post_apart b u k (progress setup (AtBuffer b) past) (visit setup u past) (post setup u past) (post_pending setup d u name (post setup u past))
-        (same_lock_pending name may u b) (same_wait_pending name may u b) (good.pairs b u k is);
+        (same_lists name may u b) (good.pairs b u k is);
     pending = λ e u now is. by_test e u now (same_cpu e d) refl is;
     small = λ u on. small_pending name may u on;
     known = λ u off. known_pending name may u off;

@@ -6,28 +6,29 @@ use Rattle.std.proofs.lemmas.List.{length-set}
 use Rattle.event_log.specs.declared.ids.CpuId.{CpuId}
 use Rattle.event_log.specs.declared.ids.Tid.{Tid}
 use Rattle.guest.specs.declared.instructions.Instruction.{Instruction}
-use Rattle.guest.specs.declared.instructions.Instruction.TheVariants.{Set, Add, Sub, Jnz, Send, Recv, Close, Yield as YieldLine, Exit}
+use Rattle.guest.specs.declared.instructions.Instruction.TheVariants.{Send, Recv, Close, Yield as YieldLine, Exit}
 use Rattle.guest.specs.State.{State}
 use Rattle.thread_blocks.specs.Queues.{same_tid}
 use Rattle.thread_blocks.proofs.Members.{same_tid_true}
 use Rattle.layer_traits.specs.declared.steps.Reason.TheVariants.{AllEnded, TraceFull}
-use Rattle.layer_traits.specs.Places.{is_thread, one_if, count_in}
+use Rattle.layer_traits.specs.Places.{Where, is_home, is_thread, one_if, count_in}
 use Rattle.layer_traits.proofs.CountLemmas.{same_tid_sym}
-use Rattle.cpu.specs.Table.Setups.{Setup, Acquires, Call, Thread, Private, thread_at, stands_at, home_threads, open_calls, have_ended}
+use Rattle.layer_traits.specs.declared.call_states.Stage.TheVariants.{Acquires}
+use Rattle.cpu.specs.Table.Setups.{Setup, Call, Thread, Private, thread_at, stands_at, home_threads, open_calls, have_ended}
 use Rattle.cpu.specs.Table.Choice.{Choice, Halts, Alone, Goes, new_call, with_call, with_guest, begins}
 use Rattle.cpu.specs.Table.Choice.{ends, at_instruction, at_call, at_ready, at_current, at_hand, choice}
 use Rattle.cpu.proofs.Wakeups.Lists.{refuted}
-use Rattle.cpu.proofs.Wakeups.Posts.{Post, Visit, is_home, is_local}
+use Rattle.cpu.proofs.Wakeups.Posts.{Visit, is_local}
 use Rattle.cpu.proofs.Wakeups.Agreement.{visit_of_call, is_done, seat, Agrees, IsSettled, at_same, at_other, same_with, agrees_same, runs, within}
 use Rattle.cpu.proofs.Wakeups.Sits.{guest_calls}
 
 -- the state that is chosen agrees
-abbrev pub ChoiceOk : Setup → CpuId → (Tid → Visit) → (Tid → Post) → Choice → Type 0
+abbrev pub ChoiceOk : Setup → CpuId → (Tid → Visit) → (Tid → Where) → Choice → Type 0
 ChoiceOk setup c T P (Halts reason) = Unit {0}
 ChoiceOk setup c T P (Alone q) = Agrees setup c q T P × IsSettled setup c q
 ChoiceOk setup c T P (Goes q) = Agrees setup c q T P × IsSettled setup c q
 
-module _ (setup : Setup) (c : CpuId) (p : Private) (T : Tid → Visit) (P : Tid → Post)
+module _ (setup : Setup) (c : CpuId) (p : Private) (T : Tid → Visit) (P : Tid → Where)
     (agrees : Agrees setup c p T P) (settled_before : IsSettled setup c p) where
   switches : (list : List Tid) → p.ready ≡ list → p.current ≡ None → p.hand ≡ None → ChoiceOk setup c T P (at_ready p list)
   switches [] is idle empty = (agrees, settled_before)
@@ -144,10 +145,7 @@ module _ (setup : Setup) (c : CpuId) (p : Private) (T : Tid → Visit) (P : Tid 
     instructed (Close b) = begun (new_call _ b _) refl
     instructed YieldLine = (agrees, settled_before)
     instructed Exit = ended_now
-    instructed (Set r n) = computes _
-    instructed (Add r q) = computes _
-    instructed (Sub r q) = computes _
-    instructed (Jnz r k) = computes _
+    instructed line = computes _
 
   pub choice_ok : ChoiceOk setup c T P (choice setup c p)
   choice_ok = by_hand p.hand refl

@@ -16,25 +16,27 @@ use Rattle.thread_blocks.specs.Queues.{same_tid}
 use Rattle.thread_blocks.proofs.Members.{same_tid_self, same_tid_true}
 use Rattle.layer_traits.specs.declared.locked.Side.{Side}
 use Rattle.layer_traits.specs.declared.locked.Side.TheVariants.{Receivers, Senders}
-use Rattle.layer_traits.specs.Places.{is_thread, count_in}
+use Rattle.layer_traits.specs.Places.{Where, Hand, Pend as IsPending, is_home, is_hand, is_thread, count_in}
+use Rattle.layer_traits.proofs.PlaceLemmas.{is_hand_true, is_home_true}
 use Rattle.cpu.specs.Table.Blocks.{Block, OfBuffer, OfPending, Name, Pend, TakeAll, side_of}
 use Rattle.cpu.specs.Table.Edits.{edited, answer, answer_of_buffer}
-use Rattle.cpu.specs.Table.Setups.{Setup, CallStage, Acquires, Enters, Tries, Waits, AcquiresAgain, Signals, SignalsOwn}
-use Rattle.cpu.specs.Table.Setups.{Releases, Returns, Call, Private, thread_at, home_of, stands_at, opening_buffer}
+use Rattle.layer_traits.specs.declared.call_states.Stage.{Stage}
+use Rattle.layer_traits.specs.declared.call_states.Stage.TheVariants.{Idle, Acquires, Enters, Tries, Waits, AcquiresAgain, Signals, SignalsOwn, Releases}
+use Rattle.cpu.specs.Table.Setups.{Setup}
+use Rattle.cpu.specs.Table.Setups.{Call, Private, thread_at, home_of, stands_at, opening_buffer}
 use Rattle.cpu.specs.Table.Choice.{Ask, at_pending, at_buffer, section_at, first_section, try_of, first_signal}
 use Rattle.cpu.specs.Table.Choice.{second_signal, asked_by, asked_at, asked_in, asked, with_guest, settled}
 use Rattle.cpu.specs.Table.Choice.{after_call, after_by, after_at, after_in}
 use Rattle.cpu.specs.Table.Steps.{after_reply}
-use Rattle.cpu.specs.Wakeups.Order.{block_of}
+use Rattle.cpu.specs.Wakeups.Order.{block_of, Begins, HasEntered, Owes}
 use Rattle.cpu.proofs.Wakeups.Lists.{refuted}
-use Rattle.cpu.proofs.Wakeups.Posts.{Post, Home, InHand, IsPending, AtLock, AtWait, GotIt, Trying, Owing, In}
-use Rattle.cpu.proofs.Wakeups.Posts.{is_home, is_hand, caller_in, is_caller, post_by, post_drained, post_pending}
+use Rattle.cpu.proofs.Wakeups.Posts.{In, sleeps_at, caller_in, is_caller, post_by, post_drained, post_pending}
 use Rattle.cpu.proofs.Wakeups.Posts.{post_buffer, post, next_visit, visit_moved, visit_buffer, visit}
 use Rattle.cpu.proofs.Wakeups.Posts.{IsDue, is_local, IsCallers, MayComeBy, MayComeTo, MayComeAt, MayCome}
-use Rattle.cpu.proofs.Wakeups.Pairs.{sleeps_at, woken_sleeps}
+use Rattle.cpu.proofs.Wakeups.Pairs.{woken_sleeps}
 use Rattle.cpu.proofs.Wakeups.Called.{Good, Moves, was_woken, has_slept, stays, moves_at, CallersAre, callers_are, is_the_caller, sleeps_not_home}
-use Rattle.cpu.proofs.Wakeups.Agreement.{owing_own, visit_of_stage, visit_of_call, is_last, is_done, Agrees, IsSettled, runs, home_is, hand_is, within}
-use Rattle.cpu.proofs.Wakeups.Sits.{IsCalling, section_caller, waiter_not_hand, agrees_call, agrees_pended, agrees_drained}
+use Rattle.cpu.proofs.Wakeups.Agreement.{owing_own, visit_of_stage, visit_of_call, is_last, is_done, Agrees, IsSettled, runs, within}
+use Rattle.cpu.proofs.Wakeups.Sits.{IsCalling, section_caller, agrees_call, agrees_pended, agrees_drained}
 use Rattle.cpu.proofs.Wakeups.Sits.{agrees_yielded, guest_calls, agrees_foreign, drained_hand}
 
 -- The locks' blocks are of their kinds.
@@ -72,16 +74,13 @@ two_homes setup c e u off local at =
     let here : same_cpu (home_of setup u) c ≡ true = (and_parts (same_cpu (home_of setup u) c) (nat_lt u.0 (length setup.homes)) local).0 in
     refuted off (ap (λ h. same_cpu h c) (sym (same_cpu_true (home_of setup u) e at)) ∙ here)
 
-sleeps_no_hand : (c : CpuId) (d : BufId) (x : Post) → sleeps_at d x ≡ true → is_hand c x ≡ false
-sleeps_no_hand c d (AtLock b) on = refl
-sleeps_no_hand c d (AtWait b side) on = refl
-sleeps_no_hand c d Home on = refl
-sleeps_no_hand c d (InHand e) on = absurd (cc on)
-sleeps_no_hand c d IsPending on = refl
+sleeps_no_hand : (c : CpuId) (d : BufId) (x : Where) → sleeps_at d x ≡ true → is_hand c x ≡ false
+sleeps_no_hand c d (Hand e) on = absurd (cc on)
+sleeps_no_hand c d x on = refl
 
 module _ (setup : Setup) (past : List (Section Name)) (good : Good setup past) (c e : CpuId) (off : same_cpu e c ≡ false)
     (p : Private) (agrees : Agrees setup c p (λ u. visit setup u past) (λ u. post setup u past)) where
-  homes_moved : (d : BufId) (name : Name) (u : Tid) (x now : Post) → (is_caller u name ≡ true → same_cpu (home_of setup u) e ≡ true) → is_local setup c u ≡ true
+  homes_moved : (d : BufId) (name : Name) (u : Tid) (x now : Where) → (is_caller u name ≡ true → same_cpu (home_of setup u) e ≡ true) → is_local setup c u ≡ true
       → Moves setup e d u name x now → is_home now ≡ is_home x
   homes_moved d name u x now mine local (was_woken small sleeps is) =
       ap is_home is
@@ -90,13 +89,13 @@ module _ (setup : Setup) (past : List (Section Name)) (good : Good setup past) (
   homes_moved d name u x now mine local (has_slept home own is) = two_homes setup c e u off local (mine own)
   homes_moved d name u x now mine local (stays is) = ap is_home is
 
-  hands_moved : (d : BufId) (name : Name) (u : Tid) (x now : Post) → Moves setup e d u name x now → is_hand c now ≡ is_hand c x
+  hands_moved : (d : BufId) (name : Name) (u : Tid) (x now : Where) → Moves setup e d u name x now → is_hand c now ≡ is_hand c x
   hands_moved d name u x now (was_woken small sleeps is) = ap (is_hand c) is ∙ not_here (same_cpu (home_of setup u) e) ∙ sym (sleeps_no_hand c d x sleeps)
     where
       not_here : (b : Bool) → is_hand c (post_by b e) ≡ false
       not_here true = refl
       not_here false = off
-  hands_moved d name u x now (has_slept home own is) = ap (is_hand c) is ∙ waiter_not_hand c d name ∙ ap (is_hand c) (sym home)
+  hands_moved d name u x now (has_slept home own is) = ap (is_hand c) is ∙ ap (is_hand c) (sym home)
   hands_moved d name u x now (stays is) = ap (is_hand c) is
 
   turns_moved : (d : BufId) (name : Name) (u : Tid) (o : Option Block)
@@ -126,7 +125,7 @@ module _ (setup : Setup) (past : List (Section Name)) (good : Good setup past) (
       → is_home (post_pending setup d u name (post setup u past)) ≡ is_home (post setup u past)
   pending_homes d (Pend s) may u local = by_test (same_tid s u) refl
     where
-      by_test : (mine : Bool) → same_tid s u ≡ mine → is_home (if mine then IsPending else post setup u past) ≡ is_home (post setup u past)
+      by_test : (mine : Bool) → same_tid s u ≡ mine → is_home (if mine then IsPending d else post setup u past) ≡ is_home (post setup u past)
       by_test true is = subst (λ v. false ≡ is_home (post setup v past)) (same_tid_true s u is) (sym (ap is_home may.0))
       by_test false other = refl
   pending_homes d TakeAll may u local =
@@ -139,7 +138,7 @@ module _ (setup : Setup) (past : List (Section Name)) (good : Good setup past) (
       → is_hand c (post_pending setup d u name (post setup u past)) ≡ is_hand c (post setup u past)
   pending_hands d (Pend s) may u = by_test (same_tid s u) refl
     where
-      by_test : (mine : Bool) → same_tid s u ≡ mine → is_hand c (if mine then IsPending else post setup u past) ≡ is_hand c (post setup u past)
+      by_test : (mine : Bool) → same_tid s u ≡ mine → is_hand c (if mine then IsPending d else post setup u past) ≡ is_hand c (post setup u past)
       by_test true is = subst (λ v. false ≡ is_hand c (post setup v past)) (same_tid_true s u is) (sym (ap (is_hand c) may.0 ∙ off))
       by_test false other = refl
   pending_hands d TakeAll may u = by_test (same_cpu (home_of setup u) d)
@@ -167,25 +166,25 @@ foreign_step setup past good c p s off may agrees = foreign_at setup past good c
 -- The CPU's own section.
 
 -- what is due to a call at each stage
-pub due_at : (t : Tid) (call : Call) (stage : CallStage) → is_last stage ≡ false
+pub due_at : (t : Tid) (call : Call) (stage : Stage) → is_last stage ≡ false
     → IsDue call.buffer (section_at t call stage) (visit_of_stage call.buffer (side_of call.asks) stage)
 due_at t call stage going = by_stage stage going
   where
-    by_first : (asks : Group) → IsDue call.buffer (first_section t asks) (In call.buffer GotIt)
+    by_first : (asks : Group) → IsDue call.buffer (first_section t asks) (In call.buffer Begins)
     by_first Sends = refl
     by_first Receives = refl
     by_first Closes = refl
 
-    by_try : (side : Side) → IsDue call.buffer (try_of t call side) (In call.buffer (Trying side))
+    by_try : (side : Side) → IsDue call.buffer (try_of t call side) (In call.buffer (HasEntered side))
     by_try Senders = refl
     by_try Receivers = refl
 
-    by_signal : (side : Side) → IsDue call.buffer (first_signal t side) (In call.buffer (Owing true true))
+    by_signal : (side : Side) → IsDue call.buffer (first_signal t side) (In call.buffer (Owes true true))
         × IsDue call.buffer (second_signal t side) (In call.buffer (owing_own side))
     by_signal Senders = (refl, refl)
     by_signal Receivers = (refl, refl)
 
-    by_stage : (stage : CallStage) → is_last stage ≡ false → IsDue call.buffer (section_at t call stage) (visit_of_stage call.buffer (side_of call.asks) stage)
+    by_stage : (stage : Stage) → is_last stage ≡ false → IsDue call.buffer (section_at t call stage) (visit_of_stage call.buffer (side_of call.asks) stage)
     by_stage Acquires going = tt
     by_stage Enters going = by_first call.asks
     by_stage Tries going = by_try (side_of call.asks)
@@ -194,7 +193,7 @@ due_at t call stage going = by_stage stage going
     by_stage Signals going = (by_signal (side_of call.asks)).0
     by_stage SignalsOwn going = (by_signal (side_of call.asks)).1
     by_stage Releases going = (refl, refl, refl)
-    by_stage Returns going = absurd (cc going)
+    by_stage Idle going = absurd (cc going)
 
 -- a section that a CPU ends may come, and leaves the CPU in agreement
 pub record GiveOk (setup : Setup) (past : List (Section Name)) (c : CpuId) (p : Private) (lock : LockId) (name : Name) : Type 0 where
@@ -212,7 +211,7 @@ module _ (setup : Setup) (past : List (Section Name)) (good : Good setup past) (
       ≡ settled setup (record p { hand = None }) =
       ap (λ o. after_reply setup c p (option_map (answer (Pend s)) o)) there.1
       ∙ ap (λ h. after_in setup c p h (answer (Pend s) (OfPending there.0))) holds in
-      let held = hand_is c (post setup s past) (sym (agrees.hands s) ∙ ap (is_thread s) holds ∙ same_tid_self s) in
+      let held = is_hand_true c (post setup s past) (sym (agrees.hands s) ∙ ap (is_thread s) holds ∙ same_tid_self s) in
       let now = agrees_pended setup c p (λ u. visit setup u past) (λ u. post setup u past) agrees settled_before (home_of setup s) s holds in
       record {
         may = (held, refl);
@@ -277,7 +276,7 @@ module _ (setup : Setup) (past : List (Section Name)) (good : Good setup past) (
       callers : IsCallers setup c call.buffer (section_at t call call.stage) t (post setup t past) (visit setup t past)
       callers = record {
         local = at.0;
-        here = home_is (post setup t past) at.1;
+        here = is_home_true (post setup t past) at.1;
         due = subst (IsDue call.buffer (section_at t call call.stage)) (sym (agrees.calls t at.0 ∙ ap visit_of_call is)) (due_at t call call.stage going);
       }
 

@@ -1,19 +1,20 @@
 -- In every state that a system reaches each live thread has one place.
-use Rattle.std.proofs.Common.{◌≡◌, ℕ, zero, suc, ◌+◌, ◌<◌, Bool, true, false, not, ◌&&◌, List}
+use Rattle.std.proofs.Common.{◌≡◌, ℕ, zero, suc, ◌+◌, ◌<◌, Bool, true, false, not, ◌&&◌, ◌==◌, List}
 use Rattle.std.proofs.Common.{◌++◌, length, slice_get, Some, nat_lt, refl, sym, ap, ◌∙◌, subst, arith}
 use Rattle.std.proofs.lemmas.Bool.{and_from, and_left, and_right, false_from_ne_true, lt-ltb, ltb-true, ne_eqb}
 use Rattle.event_log.specs.declared.ids.CpuId.{CpuId}
 use Rattle.event_log.specs.declared.ids.Tid.{Tid}
 use Rattle.event_log.specs.declared.ids.BufId.{BufId}
-use Rattle.event_log.specs.declared.ids.LockId.TheVariants.{Buffer as AtBuffer}
+use Rattle.event_log.specs.declared.ids.LockId.TheVariants.{Pending, Buffer as AtBuffer}
 use Rattle.event_log.specs.declared.ids.TheConstants.{THREADS}
 use Rattle.event_log.specs.History.{same_cpu}
 use Rattle.event_log.specs.Sections.{Section, sections_in}
 use Rattle.event_log.proofs.Same.{same_cpu_self}
-use Rattle.layer_traits.specs.declared.locked.Side.{Side}
-use Rattle.layer_traits.specs.declared.locked.Side.TheVariants.{Receivers, Senders}
+use Rattle.layer_traits.specs.declared.moves.WaitList.{WaitList}
+use Rattle.layer_traits.specs.declared.moves.WaitList.TheVariants as wait_list
+use Rattle.layer_traits.specs.ListsAgree.{same_list}
 use Rattle.layer_traits.specs.Passes.{as_list}
-use Rattle.layer_traits.specs.Places.{is_thread, one_if, count_in}
+use Rattle.layer_traits.specs.Places.{Where, Home, Hand, Pend as IsPending, Asleep, At, is_home, is_hand, is_thread, one_if, count_in}
 use Rattle.layer_traits.proofs.CountLemmas.{count_append, count_as_list}
 use Rattle.layer_traits.specs.OnePlace.{total}
 use Rattle.layer_traits.proofs.OnePlaceLemmas.{total_at, total_none}
@@ -25,11 +26,10 @@ use Rattle.cpu.specs.Wakeups.Order.{block_of}
 use Rattle.cpu.specs.Wakeups.Quiet.{HomesExist}
 use Rattle.cpu.specs.Wakeups.OnePlace.{own_queues, queues_in, all_of, of_cpu, of_pending, of_buffer, everyone, thread_in, thread_of, is_live, StandInOnePlace}
 use Rattle.cpu.proofs.Wakeups.Lists.{refuted}
-use Rattle.cpu.proofs.Wakeups.Posts.{Post, Home, InHand, IsPending, AtLock, AtWait}
-use Rattle.cpu.proofs.Wakeups.Posts.{is_buffer, is_side, is_home, is_hand, is_pending, is_lock, is_wait, is_local, post, visit, marked}
-use Rattle.cpu.proofs.Wakeups.Pairs.{buffer_self, marked_none}
+use Rattle.cpu.proofs.Wakeups.Posts.{is_buffer, sleeps_in, is_pending, is_local, post, visit, marked}
+use Rattle.cpu.proofs.Wakeups.Pairs.{sleeps_here, marked_none}
 use Rattle.cpu.proofs.Wakeups.Called.{Good}
-use Rattle.cpu.proofs.Wakeups.Placed.{IsPlaced, buffer_there}
+use Rattle.cpu.proofs.Wakeups.Placed.{IsListed, IsPlaced, buffer_there}
 use Rattle.cpu.proofs.Wakeups.Agreement.{seat}
 use Rattle.cpu.proofs.Wakeups.CpuStep.{pending_there}
 use Rattle.cpu.proofs.Wakeups.Reaching.{fair_good}
@@ -53,7 +53,7 @@ module _ (setup : Setup) (s : Whole) (homes : HomesExist setup) (kept : SystemIn
 
   -- What each queue has of the thread, by its post.
 
-  at_cpu : (x : Post) → post setup u (sections_in s.log) ≡ x → (i : ℕ) → i < setup.cpus
+  at_cpu : (x : Where) → post setup u (sections_in s.log) ≡ x → (i : ℕ) → i < setup.cpus
       → count_in u (of_cpu s i) ≡ one_if (seat setup (cpu_numbered i) u x (ended_at i)) + one_if (is_hand (cpu_numbered i) x)
   at_cpu x is i below = by_cpu (cpu_there setup s kept (cpu_numbered i) below)
     where
@@ -75,21 +75,21 @@ module _ (setup : Setup) (s : Whole) (homes : HomesExist setup) (kept : SystemIn
           ∙ ap (λ o. one_if (seat setup (cpu_numbered i) u x (thread_in o u).ended)) (sym cpu.1) in
           omega (arith, list, parts, front, current, hand, seats)
 
-  at_pending : (x : Post) → post setup u (sections_in s.log) ≡ x → (i : ℕ)
+  at_pending : (x : Where) → post setup u (sections_in s.log) ≡ x → (i : ℕ)
       → count_in u (of_pending setup s i) ≡ one_if (same_cpu (home_of setup u) (cpu_numbered i) && is_pending x)
   at_pending x is i =
       let there = pending_there setup (cpu_numbered i) (sections_in s.log) in
       ap (λ o. count_in u (queues_in o)) there.1 ∙ good.pending (cpu_numbered i) u there.0 there.1
       ∙ ap (λ y. one_if (same_cpu (home_of setup u) (cpu_numbered i) && is_pending y)) is
 
-  at_buffer : (x : Post) → post setup u (sections_in s.log) ≡ x → (i : ℕ) → i < length setup.caps
+  at_buffer : (x : Where) → post setup u (sections_in s.log) ≡ x → (i : ℕ) → i < length setup.caps
       → count_in u (of_buffer setup s i)
-      ≡ marked u (is_lock (buffer_numbered i) x) + (marked u (is_wait (buffer_numbered i) Receivers x) + marked u (is_wait (buffer_numbered i) Senders x))
+      ≡ marked u (sleeps_in (buffer_numbered i) wait_list.Sleepers x) + (marked u (sleeps_in (buffer_numbered i) wait_list.Receivers x) + marked u (sleeps_in (buffer_numbered i) wait_list.Senders x))
   at_buffer x is i below = by_block (buffer_there setup (buffer_numbered i) (sections_in s.log) below)
     where
       by_block : ((k : Buffer) × (block_of setup (AtBuffer (buffer_numbered i)) (sections_in s.log) ≡ Some (OfBuffer k)))
           → count_in u (of_buffer setup s i)
-          ≡ marked u (is_lock (buffer_numbered i) x) + (marked u (is_wait (buffer_numbered i) Receivers x) + marked u (is_wait (buffer_numbered i) Senders x))
+          ≡ marked u (sleeps_in (buffer_numbered i) wait_list.Sleepers x) + (marked u (sleeps_in (buffer_numbered i) wait_list.Receivers x) + marked u (sleeps_in (buffer_numbered i) wait_list.Senders x))
       by_block there =
           let k = there.0 in
           let pair = good.pairs (buffer_numbered i) u k there.1 in
@@ -97,12 +97,12 @@ module _ (setup : Setup) (s : Whole) (homes : HomesExist setup) (kept : SystemIn
           ap (λ o. count_in u (queues_in o)) there.1 in
           let parts = count_append u k.sleepers (k.waiting_receivers ++ k.waiting_senders) in
           let waits = count_append u k.waiting_receivers k.waiting_senders in
-          let sleepers : count_in u k.sleepers ≡ marked u (is_lock (buffer_numbered i) x) =
-          pair.sleepers ∙ ap (λ y. marked u (is_lock (buffer_numbered i) y)) is in
-          let receivers : count_in u k.waiting_receivers ≡ marked u (is_wait (buffer_numbered i) Receivers x) =
-          pair.receivers ∙ ap (λ y. marked u (is_wait (buffer_numbered i) Receivers y)) is in
-          let senders : count_in u k.waiting_senders ≡ marked u (is_wait (buffer_numbered i) Senders x) =
-          pair.senders ∙ ap (λ y. marked u (is_wait (buffer_numbered i) Senders y)) is in
+          let sleepers : count_in u k.sleepers ≡ marked u (sleeps_in (buffer_numbered i) wait_list.Sleepers x) =
+          pair.sleepers ∙ ap (λ y. marked u (sleeps_in (buffer_numbered i) wait_list.Sleepers y)) is in
+          let receivers : count_in u k.waiting_receivers ≡ marked u (sleeps_in (buffer_numbered i) wait_list.Receivers x) =
+          pair.receivers ∙ ap (λ y. marked u (sleeps_in (buffer_numbered i) wait_list.Receivers y)) is in
+          let senders : count_in u k.waiting_senders ≡ marked u (sleeps_in (buffer_numbered i) wait_list.Senders x) =
+          pair.senders ∙ ap (λ y. marked u (sleeps_in (buffer_numbered i) wait_list.Senders y)) is in
           omega (arith, list, parts, waits, sleepers, receivers, senders)
 
   -- the three sums
@@ -124,25 +124,25 @@ module _ (setup : Setup) (s : Whole) (homes : HomesExist setup) (kept : SystemIn
       let buffers = count_all u (of_buffer setup s) (length setup.caps) in
       omega (arith, parts, rest, cpus, pending, buffers)
 
-  no_pending : (x : Post) → post setup u (sections_in s.log) ≡ x → is_pending x ≡ false → pending_sum ≡ 0
+  no_pending : (x : Where) → post setup u (sections_in s.log) ≡ x → is_pending x ≡ false → pending_sum ≡ 0
   no_pending x is off =
       total_none _ setup.cpus (λ i below. at_pending x is i ∙ ap one_if (and_right (same_cpu (home_of setup u) (cpu_numbered i)) (is_pending x) off))
 
-  no_buffers : (x : Post) → post setup u (sections_in s.log) ≡ x → ((b : BufId) → is_lock b x ≡ false)
-      → ((b : BufId) (side : Side) → is_wait b side x ≡ false) → buffers_sum ≡ 0
-  no_buffers x is no_lock no_wait =
+  no_buffers : (x : Where) → post setup u (sections_in s.log) ≡ x → ((b : BufId) (list : WaitList) → sleeps_in b list x ≡ false) → buffers_sum ≡ 0
+  no_buffers x is awake =
       total_none _ (length setup.caps) (λ i below.
       let here = at_buffer x is i below in
-      let lock = marked_none u (is_lock (buffer_numbered i) x) (no_lock (buffer_numbered i)) in
-      let receivers = marked_none u (is_wait (buffer_numbered i) Receivers x) (no_wait (buffer_numbered i) Receivers) in
-      let senders = marked_none u (is_wait (buffer_numbered i) Senders x) (no_wait (buffer_numbered i) Senders) in
-      omega (arith, here, lock, receivers, senders))
+      let none = λ (list : WaitList). marked_none u (sleeps_in (buffer_numbered i) list x) (awake (buffer_numbered i) list) in
+      let sleepers = none wait_list.Sleepers in
+      let receivers = none wait_list.Receivers in
+      let senders = none wait_list.Senders in
+      omega (arith, here, sleepers, receivers, senders))
 
   -- no seat where the thread is not at home
-  no_seat : (x : Post) (i : ℕ) → is_home x ≡ false → one_if (seat setup (cpu_numbered i) u x (ended_at i)) ≡ 0
+  no_seat : (x : Where) (i : ℕ) → is_home x ≡ false → one_if (seat setup (cpu_numbered i) u x (ended_at i)) ≡ 0
   no_seat x i off = ap one_if (and_right (is_local setup (cpu_numbered i) u) (is_home x && not (ended_at i)) (and_left (is_home x) (not (ended_at i)) off))
 
-  no_cpus : (x : Post) → post setup u (sections_in s.log) ≡ x → is_home x ≡ false → ((c : CpuId) → is_hand c x ≡ false) → cpus_sum ≡ 0
+  no_cpus : (x : Where) → post setup u (sections_in s.log) ≡ x → is_home x ≡ false → ((c : CpuId) → is_hand c x ≡ false) → cpus_sum ≡ 0
   no_cpus x is away no_hand =
       total_none _ setup.cpus (λ i below.
       let here = at_cpu x is i below in
@@ -155,10 +155,10 @@ module _ (setup : Setup) (s : Whole) (homes : HomesExist setup) (kept : SystemIn
   unknown : nat_lt u.0 (length setup.homes) ≡ false → count_in u (everyone setup s) ≡ one_if (is_live setup s u)
   unknown off = by_post (post setup u (sections_in s.log)) refl
     where
-      away : (x : Post) → post setup u (sections_in s.log) ≡ x → is_home x ≡ false → count_in u (everyone setup s) ≡ one_if (is_live setup s u)
+      away : (x : Where) → post setup u (sections_in s.log) ≡ x → is_home x ≡ false → count_in u (everyone setup s) ≡ one_if (is_live setup s u)
       away x is out = refuted off (good.known u (ap is_home is ∙ out))
 
-      by_post : (x : Post) → post setup u (sections_in s.log) ≡ x → count_in u (everyone setup s) ≡ one_if (is_live setup s u)
+      by_post : (x : Where) → post setup u (sections_in s.log) ≡ x → count_in u (everyone setup s) ≡ one_if (is_live setup s u)
       by_post Home is =
           let cpus : cpus_sum ≡ 0 =
           total_none _ setup.cpus (λ i below.
@@ -168,13 +168,12 @@ module _ (setup : Setup) (s : Whole) (homes : HomesExist setup) (kept : SystemIn
           (and_right (same_cpu (home_of setup u) (cpu_numbered i)) (nat_lt u.0 (length setup.homes)) off)) in
           omega (arith, here, seats)) in
           let pending = no_pending Home is refl in
-          let buffers = no_buffers Home is (λ b. refl) (λ b side. refl) in
+          let buffers = no_buffers Home is (λ b list. refl) in
           let live : one_if (is_live setup s u) ≡ 0 = ap one_if (and_left (nat_lt u.0 (length setup.homes)) (not (thread_of setup s u).ended) off) in
           omega (arith, sums, cpus, pending, buffers, live)
-      by_post (InHand c) is = away (InHand c) is refl
-      by_post IsPending is = away IsPending is refl
-      by_post (AtLock b) is = away (AtLock b) is refl
-      by_post (AtWait b side) is = away (AtWait b side) is refl
+      by_post (Hand c) is = away (Hand c) is refl
+      by_post (IsPending q) is = away (IsPending q) is refl
+      by_post (Asleep p) is = away (Asleep p) is refl
 
   -- A thread.
 
@@ -192,7 +191,7 @@ module _ (setup : Setup) (s : Whole) (homes : HomesExist setup) (kept : SystemIn
     other_cpu i off = ne_eqb (home_of setup u).0 i (λ same. off (sym same))
 
     -- away from home a thread has not ended
-    alive : (x : Post) → post setup u (sections_in s.log) ≡ x → is_home x ≡ false → one_if (is_live setup s u) ≡ 1
+    alive : (x : Where) → post setup u (sections_in s.log) ≡ x → is_home x ≡ false → one_if (is_live setup s u) ≡ 1
     alive x is out = by_cpu (cpu_there setup s kept (home_of setup u) home_within)
       where
         by_cpu : ((p : Private) × (slice_get s.cpus (home_of setup u).0 ≡ Some p)) → one_if (is_live setup s u) ≡ 1
@@ -205,7 +204,7 @@ module _ (setup : Setup) (s : Whole) (homes : HomesExist setup) (kept : SystemIn
             let goes_here : (thread_of setup s u).ended ≡ false = ap (λ o. (thread_in o u).ended) cpu.1 ∙ goes in
             (λ i. one_if (known i && not (goes_here i)))
 
-    by_post : (x : Post) → post setup u (sections_in s.log) ≡ x → count_in u (everyone setup s) ≡ one_if (is_live setup s u)
+    by_post : (x : Where) → post setup u (sections_in s.log) ≡ x → count_in u (everyone setup s) ≡ one_if (is_live setup s u)
     by_post Home is =
         let cpus : cpus_sum ≡ count_in u (of_cpu s (home_of setup u).0) =
         total_at (λ i. count_in u (of_cpu s i)) setup.cpus (home_of setup u).0 home_within (λ i below off.
@@ -219,76 +218,80 @@ module _ (setup : Setup) (s : Whole) (homes : HomesExist setup) (kept : SystemIn
         (λ i. one_if ((same_cpu_self (home_of setup u) i && known i) && (true && not (ended_at (home_of setup u).0))))
         ∙ (λ i. one_if (sym known i && not (ended_at (home_of setup u).0))) in
         let pending = no_pending Home is refl in
-        let buffers = no_buffers Home is (λ b. refl) (λ b side. refl) in
+        let buffers = no_buffers Home is (λ b list. refl) in
         omega (arith, sums, cpus, here, seats, pending, buffers)
-    by_post (InHand e) is =
+    by_post (Hand e) is =
         let within : e.0 < setup.cpus = subst (IsPlaced setup (visit setup u (sections_in s.log))) is (kept.placed.posts u) in
         let cpus : cpus_sum ≡ count_in u (of_cpu s e.0) =
         total_at (λ i. count_in u (of_cpu s i)) setup.cpus e.0 within (λ i below off.
-        let here = at_cpu (InHand e) is i below in
-        let seats = no_seat (InHand e) i refl in
+        let here = at_cpu (Hand e) is i below in
+        let seats = no_seat (Hand e) i refl in
         let hand : one_if (same_cpu e (cpu_numbered i)) ≡ 0 = ap one_if (ne_eqb e.0 i (λ same. off (sym same))) in
         omega (arith, here, seats, hand)) in
-        let here = at_cpu (InHand e) is e.0 within in
-        let seats = no_seat (InHand e) e.0 refl in
+        let here = at_cpu (Hand e) is e.0 within in
+        let seats = no_seat (Hand e) e.0 refl in
         let hand : one_if (same_cpu e (cpu_numbered e.0)) ≡ 1 = ap one_if (same_cpu_self e) in
-        let pending = no_pending (InHand e) is refl in
-        let buffers = no_buffers (InHand e) is (λ b. refl) (λ b side. refl) in
-        let live = alive (InHand e) is refl in
+        let pending = no_pending (Hand e) is refl in
+        let buffers = no_buffers (Hand e) is (λ b list. refl) in
+        let live = alive (Hand e) is refl in
         omega (arith, sums, cpus, here, seats, hand, pending, buffers, live)
-    by_post IsPending is =
-        let cpus = no_cpus IsPending is refl (λ c. refl) in
+    by_post (IsPending q) is =
+        let cpus = no_cpus (IsPending q) is refl (λ c. refl) in
         let pending : pending_sum ≡ count_in u (of_pending setup s (home_of setup u).0) =
         total_at (λ i. count_in u (of_pending setup s i)) setup.cpus (home_of setup u).0 home_within (λ i below off.
-        at_pending IsPending is i ∙ ap one_if (and_left (same_cpu (home_of setup u) (cpu_numbered i)) true (other_cpu i off))) in
+        at_pending (IsPending q) is i ∙ ap one_if (and_left (same_cpu (home_of setup u) (cpu_numbered i)) true (other_cpu i off))) in
         let here : count_in u (of_pending setup s (home_of setup u).0) ≡ 1 =
-        at_pending IsPending is (home_of setup u).0 ∙ ap one_if
+        at_pending (IsPending q) is (home_of setup u).0 ∙ ap one_if
         (and_from (same_cpu (home_of setup u) (home_of setup u)) true (same_cpu_self (home_of setup u)) refl) in
-        let buffers = no_buffers IsPending is (λ b. refl) (λ b side. refl) in
-        let live = alive IsPending is refl in
+        let buffers = no_buffers (IsPending q) is (λ b list. refl) in
+        let live = alive (IsPending q) is refl in
         omega (arith, sums, cpus, pending, here, buffers, live)
-    by_post (AtLock b) is =
-        let within : b.0 < length setup.caps = subst (IsPlaced setup (visit setup u (sections_in s.log))) is (kept.placed.posts u) in
-        let cpus = no_cpus (AtLock b) is refl (λ c. refl) in
-        let pending = no_pending (AtLock b) is refl in
-        let no_receivers = marked_none u false refl in
-        let buffers : buffers_sum ≡ count_in u (of_buffer setup s b.0) =
-        total_at (λ i. count_in u (of_buffer setup s i)) (length setup.caps) b.0 within (λ i below off.
-        let here = at_buffer (AtLock b) is i below in
-        let lock = marked_none u (is_buffer (buffer_numbered i) b) (ne_eqb i b.0 off) in
-        omega (arith, here, lock, no_receivers)) in
-        let here = at_buffer (AtLock b) is b.0 within in
-        let lock : marked u (is_buffer b b) ≡ 1 = (λ i. one_if (small i && buffer_self b i)) in
-        let live = alive (AtLock b) is refl in
-        omega (arith, sums, cpus, pending, buffers, here, lock, no_receivers, live)
-    by_post (AtWait b side) is =
-        let within : (b.0 < length setup.caps) × (visit setup u (sections_in s.log) ≡ _) =
+    by_post (Asleep (At (Pending d) list)) is = absurd (subst (IsPlaced setup (visit setup u (sections_in s.log))) is (kept.placed.posts u))
+    by_post (Asleep (At (AtBuffer b) list)) is =
+        let x : Where = Asleep (At (AtBuffer b) list) in
+        let placed : (b.0 < length setup.caps) × IsListed b list (visit setup u (sections_in s.log)) =
         subst (IsPlaced setup (visit setup u (sections_in s.log))) is (kept.placed.posts u) in
-        let cpus = no_cpus (AtWait b side) is refl (λ c. refl) in
-        let pending = no_pending (AtWait b side) is refl in
-        let no_lock = marked_none u false refl in
+        let cpus = no_cpus x is refl (λ c. refl) in
+        let pending = no_pending x is refl in
         let buffers : buffers_sum ≡ count_in u (of_buffer setup s b.0) =
-        total_at (λ i. count_in u (of_buffer setup s i)) (length setup.caps) b.0 within.0 (λ i below off.
-        let here = at_buffer (AtWait b side) is i below in
-        let receivers = marked_none u (is_buffer (buffer_numbered i) b && is_side Receivers side)
-        (and_left (is_buffer (buffer_numbered i) b) (is_side Receivers side) (ne_eqb i b.0 off)) in
-        let senders = marked_none u (is_buffer (buffer_numbered i) b && is_side Senders side)
-        (and_left (is_buffer (buffer_numbered i) b) (is_side Senders side) (ne_eqb i b.0 off)) in
-        omega (arith, here, no_lock, receivers, senders)) in
-        let here = at_buffer (AtWait b side) is b.0 within.0 in
-        let both : marked u (is_buffer b b && is_side Receivers side) + marked u (is_buffer b b && is_side Senders side) ≡ 1 = one_side b side in
-        let live = alive (AtWait b side) is refl in
-        omega (arith, sums, cpus, pending, buffers, here, no_lock, both, live)
+        total_at (λ i. count_in u (of_buffer setup s i)) (length setup.caps) b.0 placed.0 (λ i below off.
+        let here = at_buffer x is i below in
+        let none = λ (other : WaitList). marked_none u (sleeps_in (buffer_numbered i) other x)
+        (and_left (b.0 == i) (same_list list other) (ne_eqb b.0 i (λ same. off (sym same)))) in
+        let sleepers = none wait_list.Sleepers in
+        let receivers = none wait_list.Receivers in
+        let senders = none wait_list.Senders in
+        omega (arith, here, sleepers, receivers, senders)) in
+        let here = at_buffer x is b.0 placed.0 in
+        let one = in_one_list b list in
+        let live = alive x is refl in
+        omega (arith, sums, cpus, pending, buffers, here, one, live)
       where
-        one_side : (b : BufId) (side : Side) → marked u (is_buffer b b && is_side Receivers side) + marked u (is_buffer b b && is_side Senders side) ≡ 1
-        one_side b Receivers =
-            let one : marked u (is_buffer b b && true) ≡ 1 = (λ i. one_if (small i && (buffer_self b i && true))) in
-            let none = marked_none u (is_buffer b b && false) (and_right (is_buffer b b) false refl) in
-            omega (arith, one, none)
-        one_side b Senders =
-            let one : marked u (is_buffer b b && true) ≡ 1 = (λ i. one_if (small i && (buffer_self b i && true))) in
-            let none = marked_none u (is_buffer b b && false) (and_right (is_buffer b b) false refl) in
-            omega (arith, one, none)
+        there : (b : BufId) (list : WaitList) → marked u (sleeps_in b list (Asleep (At (AtBuffer b) list))) ≡ 1
+        there b list = λ i. one_if (small i && sleeps_here b list i)
+
+        not_there : (b : BufId) (list other : WaitList) → same_list list other ≡ false → marked u (sleeps_in b other (Asleep (At (AtBuffer b) list))) ≡ 0
+        not_there b list other apart = marked_none u (is_buffer b b && same_list list other) (and_right (is_buffer b b) (same_list list other) apart)
+
+        in_one_list : (b : BufId) (list : WaitList)
+            → marked u (sleeps_in b wait_list.Sleepers (Asleep (At (AtBuffer b) list)))
+            + (marked u (sleeps_in b wait_list.Receivers (Asleep (At (AtBuffer b) list)))
+            + marked u (sleeps_in b wait_list.Senders (Asleep (At (AtBuffer b) list)))) ≡ 1
+        in_one_list b wait_list.Sleepers =
+            let one = there b wait_list.Sleepers in
+            let receivers = not_there b wait_list.Sleepers wait_list.Receivers refl in
+            let senders = not_there b wait_list.Sleepers wait_list.Senders refl in
+            omega (arith, one, receivers, senders)
+        in_one_list b wait_list.Receivers =
+            let one = there b wait_list.Receivers in
+            let sleepers = not_there b wait_list.Receivers wait_list.Sleepers refl in
+            let senders = not_there b wait_list.Receivers wait_list.Senders refl in
+            omega (arith, one, sleepers, senders)
+        in_one_list b wait_list.Senders =
+            let one = there b wait_list.Senders in
+            let sleepers = not_there b wait_list.Senders wait_list.Sleepers refl in
+            let receivers = not_there b wait_list.Senders wait_list.Receivers refl in
+            omega (arith, one, sleepers, receivers)
 
   one_place : count_in u (everyone setup s) ≡ one_if (is_live setup s u)
   one_place = by_known (nat_lt u.0 (length setup.homes)) refl

@@ -6,15 +6,17 @@ use Rattle.event_log.specs.declared.ids.CpuId.{CpuId}
 use Rattle.event_log.specs.declared.ids.Tid.{Tid}
 use Rattle.event_log.specs.History.{same_cpu}
 use Rattle.event_log.specs.Actions.{Action, phase}
-use Rattle.event_log.specs.Runs.{Group, Sends, Receives, Closes}
+use Rattle.event_log.specs.Runs.{Group, Closes}
 use Rattle.event_log.specs.Sections.{sections_in}
 use Rattle.guest.specs.declared.instructions.Instruction.{Instruction}
-use Rattle.guest.specs.declared.instructions.Instruction.TheVariants.{Set, Add, Sub, Jnz, Send, Recv, Close, Yield as YieldLine, Exit}
+use Rattle.guest.specs.declared.instructions.Instruction.TheVariants.{Send, Recv, Close, Yield as YieldLine}
 use Rattle.layer_traits.specs.declared.steps.Reason.TheVariants.{AllEnded, TraceFull}
 use Rattle.layer_traits.specs.Plans.{is_in_section, reply}
 use Rattle.cpu.specs.Table.Blocks.{Name, Reported, Nothing, Position, Done, WasClosed, DidShut, NotYet, Drained, Answer}
 use Rattle.cpu.specs.Table.Edits.{kernel}
-use Rattle.cpu.specs.Table.Setups.{Setup, CallStage, Acquires, Enters, Tries, Waits, AcquiresAgain, Signals, SignalsOwn, Releases, Returns}
+use Rattle.layer_traits.specs.declared.call_states.Stage.{Stage}
+use Rattle.layer_traits.specs.declared.call_states.Stage.TheVariants.{Idle, Acquires, Enters, Tries, Waits, AcquiresAgain, Signals, SignalsOwn, Releases}
+use Rattle.cpu.specs.Table.Setups.{Setup}
 use Rattle.cpu.specs.Table.Setups.{Call, Private, thread_at, home_of, at_boot, opening, stands_at, home_threads, open_calls, have_ended}
 use Rattle.cpu.specs.Table.Choice.{asked, Choice, Halts, Alone, Goes, with_call, at_instruction, at_call, at_ready, at_current, at_hand, choice}
 use Rattle.cpu.specs.Table.Choice.{recorded, recorded_entry, recorded_position, recorded_shut, slept_if, woken, returned_at, returned_by}
@@ -40,8 +42,8 @@ module _ (setup : Setup) (c : CpuId) where
   settled_empty p empty None None = empty
   settled_empty p empty None (Some t) = by_call (thread_at p t).call
     where
-      by_stage : (call : Call) (stage : CallStage) → (returned_at setup p t call stage).hand ≡ None
-      by_stage call Returns = empty
+      by_stage : (call : Call) (stage : Stage) → (returned_at setup p t call stage).hand ≡ None
+      by_stage call Idle = empty
       by_stage call stage = empty
 
       by_call : (call : Option Call) → (returned_by setup p t call).hand ≡ None
@@ -62,7 +64,7 @@ module _ (setup : Setup) (c : CpuId) where
   }
 
   recorded_some : (p : Private) (t : Tid) (call : Call) → t.0 < length p.threads → (thread_at p t).call ≡ Some call
-      → (stage : CallStage) (told : Reported) → RecordedSome p (recorded c p t call stage told) t
+      → (stage : Stage) (told : Reported) → RecordedSome p (recorded c p t call stage told) t
   recorded_some p t call known is Acquires told = called p t _ known
   recorded_some p t call known is Enters told = by_asks call.asks told
     where
@@ -71,12 +73,7 @@ module _ (setup : Setup) (c : CpuId) where
 
       by_report : (told : Reported) → RecordedSome p (recorded_position p t call told) t
       by_report (Position pos) = called p t _ known
-      by_report Nothing = stays
-      by_report (Done op m) = stays
-      by_report (WasClosed op) = stays
-      by_report (DidShut op pos) = stays
-      by_report NotYet = stays
-      by_report (Drained threads) = stays
+      by_report told = stays
 
       by_shut : (told : Reported) → RecordedSome p (recorded_shut c p t call told) t
       by_shut (DidShut op pos) =
@@ -90,9 +87,8 @@ module _ (setup : Setup) (c : CpuId) where
       by_shut (Drained threads) = stays
 
       by_asks : (asks : Group) (told : Reported) → RecordedSome p (recorded_entry c p t call asks told) t
-      by_asks Sends told = by_report told
-      by_asks Receives told = by_report told
       by_asks Closes told = by_shut told
+      by_asks asks told = by_report told
   recorded_some p t call known is Tries (Done op m) =
       let now = called p t (record call { message = m; effect = Some op; stage = Signals }) known in
       record { hand = now.hand; current = now.current; some = now.some }
@@ -109,7 +105,7 @@ module _ (setup : Setup) (c : CpuId) where
   recorded_some p t call known is Signals told = called p t _ known
   recorded_some p t call known is SignalsOwn told = called p t _ known
   recorded_some p t call known is Releases told = called p t _ known
-  recorded_some p t call known is Returns told = record { hand = refl; current = refl; some = ap is_some is }
+  recorded_some p t call known is Idle told = record { hand = refl; current = refl; some = ap is_some is }
 
   some_inside : (p q : Private) (t : Tid) → p.current ≡ Some t → RecordedSome p q t → (slept : Bool) → (u : Tid)
       → (slept_if slept q).current ≡ Some u → is_some (thread_at (slept_if slept q) u).call ≡ true
@@ -183,11 +179,7 @@ module _ (setup : Setup) (c : CpuId) where
       by_line empty t (Recv b r k) = by_room t _ ((length p.trace + open_calls p (home_threads setup c)) == setup.trace_room) empty
       by_line empty t (Close b) = by_room t _ ((length p.trace + open_calls p (home_threads setup c)) == setup.trace_room) empty
       by_line empty t YieldLine = filled
-      by_line empty t Exit = λ u full runs_now. refuted (ap is_some empty) full
-      by_line empty t (Set r n) = λ u full runs_now. refuted (ap is_some empty) full
-      by_line empty t (Add r q) = λ u full runs_now. refuted (ap is_some empty) full
-      by_line empty t (Sub r q) = λ u full runs_now. refuted (ap is_some empty) full
-      by_line empty t (Jnz r k) = λ u full runs_now. refuted (ap is_some empty) full
+      by_line empty t line = λ u full runs_now. refuted (ap is_some empty) full
 
       by_call : p.hand ≡ None → (t : Tid) (call : Option Call) → FilledChoice (at_call setup c p t call)
       by_call empty t None = by_line empty t (stands_at setup p t)

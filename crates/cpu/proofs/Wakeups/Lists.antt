@@ -1,11 +1,10 @@
 -- Lists of threads: who stands in them, and who is first.
-use Rattle.std.proofs.Common.{◌≡◌, Bool, true, false, ◌||◌, List, [], ◌∷◌, ◌++◌, Some, None, if◌then◌else◌, sym, ap, subst}
+use Rattle.std.proofs.Common.{◌≡◌, Bool, true, false, ◌||◌, List, [], ◌∷◌, ◌++◌, Some, None, if◌then◌else◌, sym, ap}
 use Rattle.std.proofs.lemmas.Bool.{or_parts, or_from}
-use Rattle.std.proofs.lemmas.Option.{same_Some}
 use Rattle.event_log.specs.declared.ids.Tid.{Tid}
 pub use Rattle.event_log.proofs.BoolLemmas.{refuted}
 use Rattle.thread_blocks.specs.Queues.{same_tid, is_in, first}
-use Rattle.thread_blocks.proofs.Members.{same_tid_self, same_tid_true}
+use Rattle.thread_blocks.proofs.Members.{same_tid_true}
 use Rattle.layer_traits.specs.Sleeping.{joined}
 use Rattle.layer_traits.specs.BufferBlocks.{is_first}
 
@@ -16,10 +15,6 @@ none_is_not {A = A} {t = t} same = absurd (cc same)
 pub first_is : (t : Tid) (line : List Tid) → is_first t line ≡ true → first line ≡ Some t
 first_is t [] is = absurd (cc is)
 first_is t (x ∷ line) is = ap Some (sym (same_tid_true t x is))
-
-pub is_the_first : (t : Tid) (line : List Tid) → first line ≡ Some t → is_first t line ≡ true
-is_the_first t [] is = none_is_not is
-is_the_first t (x ∷ line) is = subst (λ y. same_tid t y ≡ true) (sym (same_Some x t is)) (same_tid_self t)
 
 -- whoever stands in a list at whose end a thread was put is that thread, or stood in it
 pub in_end : (u t : Tid) (list : List Tid) → is_in u list ≡ false → same_tid u t ≡ false → is_in u (list ++ t ∷ []) ≡ false

@@ -6,7 +6,7 @@ use Rattle.event_log.specs.declared.ids.Tid.{Tid}
 use Rattle.event_log.specs.declared.ids.BufId.{BufId}
 use Rattle.event_log.specs.declared.ids.LockId.TheVariants.{Buffer as AtBuffer}
 use Rattle.event_log.specs.declared.entries.Kind.{Kind}
-use Rattle.event_log.specs.declared.entries.Kind.TheVariants.{Send as SendKind, Recv as RecvKind, Close as CloseKind, SendClosed, RecvClosed}
+use Rattle.event_log.specs.declared.entries.Kind.TheVariants.{Send as SendKind, Recv as RecvKind, SendClosed, RecvClosed}
 use Rattle.event_log.specs.Messages.{Message}
 use Rattle.event_log.specs.Runs.{Sends, Receives, group_of}
 use Rattle.event_log.specs.History.{same_lock}
@@ -65,9 +65,7 @@ buffer_awake setup (s ∷ past) order b k is = by_test (same_lock (AtBuffer b) s
 pub putting : (k : Buffer) (e : Kind) (m : Message) → group_of e ≡ Sends → Allows k e m → can_put k ≡ true
 putting k SendKind m asks allowed = or_right k.closed (has_room k) (lt-ltb (length k.items) k.capacity allowed.1)
 putting k SendClosed m asks allowed = ap (λ c. c || has_room k) allowed
-putting k RecvKind m asks allowed = absurd (cc asks)
-putting k RecvClosed m asks allowed = absurd (cc asks)
-putting k CloseKind m asks allowed = absurd (cc asks)
+putting k other m asks allowed = absurd (cc asks)
 
 some_items : (items : List Message) (m : Message) → slice_get items 0 ≡ Some m → nat_lt 0 (length items) ≡ true
 some_items [] m is = absurd (cc is)
@@ -76,9 +74,7 @@ some_items (x ∷ items) m is = lt-ltb 0 (length (x ∷ items)) (omega arith)
 pub taking : (k : Buffer) (e : Kind) (m : Message) → group_of e ≡ Receives → Allows k e m → can_take k ≡ true
 taking k RecvKind m asks allowed = or_right k.closed (has_items k) (some_items k.items m allowed)
 taking k RecvClosed m asks allowed = ap (λ c. c || has_items k) allowed.0
-taking k SendKind m asks allowed = absurd (cc asks)
-taking k SendClosed m asks allowed = absurd (cc asks)
-taking k CloseKind m asks allowed = absurd (cc asks)
+taking k other m asks allowed = absurd (cc asks)
 
 front_waits : (t : Tid) (line list : List Tid) → first line ≡ Some t → is_in t list ≡ true → front_stands_in line list ≡ true
 front_waits t [] list is there = absurd (cc is)

@@ -7,13 +7,16 @@ use Rattle.std.proofs.Math.Bool.{and-true}
 use Rattle.event_log.specs.declared.ids.CpuId.{CpuId}
 use Rattle.event_log.specs.declared.ids.Tid.{Tid}
 use Rattle.event_log.specs.declared.ids.BufId.{BufId}
+use Rattle.event_log.specs.declared.ids.LockId.TheVariants.{Buffer as AtBuffer}
 use Rattle.event_log.specs.declared.ids.TheConstants.{THREADS}
 use Rattle.event_log.specs.Messages.{Message}
 use Rattle.thread_blocks.specs.Queues.{same_tid, is_in, first, rest}
 use Rattle.thread_blocks.proofs.Members.{same_tid_self}
 use Rattle.layer_traits.specs.declared.locked.Side.{Side}
 use Rattle.layer_traits.specs.declared.locked.Side.TheVariants.{Receivers, Senders}
-use Rattle.layer_traits.specs.Places.{is_thread, one_if, count_in}
+use Rattle.layer_traits.specs.declared.moves.WaitList.{WaitList}
+use Rattle.layer_traits.specs.declared.moves.WaitList.TheVariants as wait_list
+use Rattle.layer_traits.specs.Places.{Where, Home, Asleep, At, is_thread, one_if, count_in}
 use Rattle.layer_traits.specs.Sleeping.{joined}
 use Rattle.layer_traits.specs.BufferBlocks.{may_join, is_first}
 use Rattle.layer_traits.proofs.CountLemmas.{count_append, not_counted}
@@ -24,19 +27,19 @@ use Rattle.cpu.specs.Table.Setups.{Setup}
 use Rattle.cpu.specs.Wakeups.Order.{Progress, Begins, HasEntered, WasRefused, Owes, progress_after}
 use Rattle.cpu.specs.Wakeups.Order.{receivers_signalled, senders_signalled, MayTry, IsOwing, MayEdit}
 use Rattle.cpu.proofs.Wakeups.Lists.{refuted, first_is}
-use Rattle.cpu.proofs.Wakeups.Posts.{Post, Home, AtLock, AtWait, CallPhase, GotIt, Trying, Failed, Waiting, Owing, Visit, Outside, In}
-use Rattle.cpu.proofs.Wakeups.Posts.{is_buffer, is_lock, is_wait, names, goes_on, is_inside, starts_here, stands, is_lined, InStep}
+use Rattle.cpu.proofs.Wakeups.Posts.{Waiting, Visit, Outside, In}
+use Rattle.cpu.proofs.Wakeups.Posts.{is_buffer, sleeps_in, list_of, names, goes_on, is_inside, starts_here, stands, is_lined, InStep}
 use Rattle.cpu.proofs.Wakeups.Posts.{caller_in, is_caller, waiters_of, post_woken, post_slept}
 use Rattle.cpu.proofs.Wakeups.Posts.{post_moved, acquired_visit, next_visit, visit_moved, IsDue, marked}
-use Rattle.cpu.proofs.Wakeups.Pairs.{Pair, marked_none, marked_most, buffer_self, grown_list, first_left, signal_left, front_counted, woken_sleeps}
+use Rattle.cpu.proofs.Wakeups.Pairs.{Pair, marked_none, marked_most, buffer_self, sleeps_here, grown_list, first_left, signal_left, front_counted, woken_sleeps}
 
 -- where the section that is due to a thread may come, it is in order
-inside_owns : (b : BufId) (t : Tid) (k : Buffer) (g : Progress) (d : BufId) (call_phase : CallPhase)
-    → goes_on (In b call_phase) ≡ true → d ≡ b → Pair b t k g (In d call_phase) Home
-    → (k.busy ≡ Some t) × InStep (In b call_phase) g
-inside_owns b t k g d call_phase goes same pair =
-    let now : Pair b t k g (In b call_phase) Home = subst (λ x. Pair b t k g (In x call_phase) Home) same pair in
-    let owner : k.busy ≡ Some t = now.inside (and_from (is_buffer b b) (goes_on (In b call_phase)) (buffer_self b) goes) refl in
+inside_owns : (b : BufId) (t : Tid) (k : Buffer) (g : Progress) (d : BufId) (progress : Progress)
+    → d ≡ b → Pair b t k g (In d progress) Home
+    → (k.busy ≡ Some t) × InStep (In b progress) g
+inside_owns b t k g d progress same pair =
+    let now : Pair b t k g (In b progress) Home = subst (λ x. Pair b t k g (In x progress) Home) same pair in
+    let owner : k.busy ≡ Some t = now.inside (and_from (is_buffer b b) true (buffer_self b) refl) refl in
     (owner, (now.owner owner).1)
 
 not_outside : (b : BufId) (t : Tid) (k : Buffer) (g : Progress) (visit : Visit) → goes_on visit ≡ false → Pair b t k g visit Home → k.busy ≢ Some t
@@ -53,18 +56,18 @@ owing_is r s g is = subst IsOwing (sym is) tt
 pub may_edit : (b : BufId) (name : Name) (k : Buffer) (g : Progress) (visit : Visit)
     → ByCaller (caller_in name) (λ t. Pair b t k g visit Home) → IsDue b name visit → MayEdit name k g
 may_edit b (AcqQ t) k g Outside pair due = not_outside b t k g Outside refl pair
-may_edit b (AcqQ t) k g (In d (Waiting side)) pair due = not_outside b t k g (In d (Waiting side)) refl pair
-may_edit b (Enter t side) k g (In d GotIt) pair due = inside_owns b t k g d GotIt refl due pair
-may_edit b (Shut t) k g (In d GotIt) pair due = inside_owns b t k g d GotIt refl due pair
-may_edit b (TryPut t m) k g (In d (Trying Senders)) pair due = inside_owns b t k g d (Trying Senders) refl due pair
-may_edit b (TryTake t) k g (In d (Trying Receivers)) pair due = inside_owns b t k g d (Trying Receivers) refl due pair
-may_edit b (WaitOn t side) k g (In d (Failed other)) pair due =
-    let owns = inside_owns b t k g d (Failed other) refl due.0 pair in
+may_edit b (AcqQ t) k g (Waiting d side) pair due = not_outside b t k g (Waiting d side) refl pair
+may_edit b (Enter t side) k g (In d Begins) pair due = inside_owns b t k g d Begins due pair
+may_edit b (Shut t) k g (In d Begins) pair due = inside_owns b t k g d Begins due pair
+may_edit b (TryPut t m) k g (In d (HasEntered Senders)) pair due = inside_owns b t k g d (HasEntered Senders) due pair
+may_edit b (TryTake t) k g (In d (HasEntered Receivers)) pair due = inside_owns b t k g d (HasEntered Receivers) due pair
+may_edit b (WaitOn t side) k g (In d (WasRefused other)) pair due =
+    let owns = inside_owns b t k g d (WasRefused other) due.0 pair in
     (owns.0, owns.1 ∙ ap WasRefused due.1)
-may_edit b (SigRecv t) k g (In d (Owing r s)) pair due = let owns = inside_owns b t k g d (Owing r s) refl due pair in (owns.0, owing_is r s g owns.1)
-may_edit b (SigSend t) k g (In d (Owing r s)) pair due = let owns = inside_owns b t k g d (Owing r s) refl due pair in (owns.0, owing_is r s g owns.1)
-may_edit b (RelQ t) k g (In d (Owing r s)) pair due =
-    let owns = inside_owns b t k g d (Owing r s) refl due.0 pair in
+may_edit b (SigRecv t) k g (In d (Owes r s)) pair due = let owns = inside_owns b t k g d (Owes r s) due pair in (owns.0, owing_is r s g owns.1)
+may_edit b (SigSend t) k g (In d (Owes r s)) pair due = let owns = inside_owns b t k g d (Owes r s) due pair in (owns.0, owing_is r s g owns.1)
+may_edit b (RelQ t) k g (In d (Owes r s)) pair due =
+    let owns = inside_owns b t k g d (Owes r s) due.0 pair in
     (owns.0, owns.1 ∙ (λ i. Owes (due.1 i) (due.2 i)))
 may_edit b name k g visit pair due = absurd due
 
@@ -86,7 +89,7 @@ module _ (b : BufId) (u : Tid) where
 
   own_acquire : (k : Buffer) (g : Progress) (o : Option Tid) (visit : Visit) → k.busy ≡ o
       → (k.busy ≡ None → g ≡ Begins) → IsDue b (AcqQ u) visit → Pair b u k g visit Home
-      → Pair b u (acquired u o k) g (acquired_visit b visit) (if (answer_of_acquire o).slept then AtLock b else Home)
+      → Pair b u (acquired u o k) g (acquired_visit b visit) (if (answer_of_acquire o).slept then Asleep (At (AtBuffer b) wait_list.Sleepers) else Home)
   own_acquire k g None Outside is idle due pair = record {
     owner = λ e. (and_from (is_buffer b b) true (buffer_self b) refl, idle is, refl);
     inside = λ ins awake. refl;
@@ -97,8 +100,8 @@ module _ (b : BufId) (u : Tid) where
     send_line = pair.send_line ∙ marked_none u false refl ∙ sym (marked_none u (is_buffer b b && false) (and_right (is_buffer b b) false refl));
     receive_line = pair.receive_line ∙ marked_none u false refl ∙ sym (marked_none u (is_buffer b b && false) (and_right (is_buffer b b) false refl));
   }
-  own_acquire k g None (In d (Waiting side)) is idle due was =
-      let pair : Pair b u k g (In b (Waiting side)) Home = subst (λ x. Pair b u k g (In x (Waiting side)) Home) due was in
+  own_acquire k g None (Waiting d side) is idle due was =
+      let pair : Pair b u k g (Waiting b side) Home = subst (λ x. Pair b u k g (Waiting x side) Home) due was in
       record {
         owner = λ e. (and_from (is_buffer b b) true (buffer_self b) refl, subst (MayTry side) (sym (idle is)) tt, refl);
         inside = λ ins awake. refl;
@@ -111,36 +114,36 @@ module _ (b : BufId) (u : Tid) where
       }
   own_acquire k g (Some owner) Outside is idle due pair = record {
     owner = λ e. absurd (not_outside b u k g Outside refl pair e);
-    inside = λ ins awake. refuted awake (buffer_self b);
+    inside = λ ins awake. refuted awake (sleeps_here b wait_list.Sleepers);
     starts = λ on. and_from (is_buffer b b) true (buffer_self b) refl;
-    sleepers = grown_list u k.sleepers (no_sleepers k g Outside pair) ∙ ap (marked u) (sym (buffer_self b));
-    senders = pair.senders;
-    receivers = pair.receivers;
+    sleepers = grown_list u k.sleepers (no_sleepers k g Outside pair) ∙ ap (marked u) (sym (sleeps_here b wait_list.Sleepers));
+    senders = pair.senders ∙ ap (marked u) (sym (and_right (is_buffer b b) false refl));
+    receivers = pair.receivers ∙ ap (marked u) (sym (and_right (is_buffer b b) false refl));
     send_line = pair.send_line ∙ marked_none u false refl ∙ sym (marked_none u (is_buffer b b && false) (and_right (is_buffer b b) false refl));
     receive_line = pair.receive_line ∙ marked_none u false refl ∙ sym (marked_none u (is_buffer b b && false) (and_right (is_buffer b b) false refl));
   }
-  own_acquire k g (Some owner) (In d (Waiting side)) is idle due was =
-      let pair : Pair b u k g (In b (Waiting side)) Home = subst (λ x. Pair b u k g (In x (Waiting side)) Home) due was in
+  own_acquire k g (Some owner) (Waiting d side) is idle due was =
+      let pair : Pair b u k g (Waiting b side) Home = subst (λ x. Pair b u k g (Waiting x side) Home) due was in
       record {
-        owner = λ e. absurd (not_outside b u k g (In b (Waiting side)) refl pair e);
-        inside = λ ins awake. refuted awake (buffer_self b);
+        owner = λ e. absurd (not_outside b u k g (Waiting b side) refl pair e);
+        inside = λ ins awake. refuted awake (sleeps_here b wait_list.Sleepers);
         starts = λ on. and_from (is_buffer b b) true (buffer_self b) refl;
-        sleepers = grown_list u k.sleepers (no_sleepers k g (In b (Waiting side)) pair) ∙ ap (marked u) (sym (buffer_self b));
-        senders = pair.senders;
-        receivers = pair.receivers;
+        sleepers = grown_list u k.sleepers (no_sleepers k g (Waiting b side) pair) ∙ ap (marked u) (sym (sleeps_here b wait_list.Sleepers));
+        senders = pair.senders ∙ ap (marked u) (sym (and_right (is_buffer b b) false refl));
+        receivers = pair.receivers ∙ ap (marked u) (sym (and_right (is_buffer b b) false refl));
         send_line = pair.send_line;
         receive_line = pair.receive_line;
       }
   own_acquire k g o visit is idle due pair = absurd due
 
   -- the pair of a thread that has the lock and goes on, from its places in the two lines
-  at_work : (k : Buffer) (g h : Progress) (before call_phase : CallPhase) (sends receives : List Tid)
-      → k.busy ≡ Some u → goes_on (In b call_phase) ≡ true → InStep (In b call_phase) h
+  at_work : (k : Buffer) (g h : Progress) (before progress : Progress) (sends receives : List Tid)
+      → k.busy ≡ Some u → InStep (In b progress) h
       → Pair b u k g (In b before) Home
-      → count_in u sends ≡ marked u (is_lined b Senders (In b call_phase)) → count_in u receives ≡ marked u (is_lined b Receivers (In b call_phase))
-      → Pair b u (record k { send_line = sends; receive_line = receives }) h (In b call_phase) Home
-  at_work k g h before call_phase sends receives owner goes step pair in_sends in_receives = record {
-    owner = λ e. (and_from (is_buffer b b) (goes_on (In b call_phase)) (buffer_self b) goes, step, refl);
+      → count_in u sends ≡ marked u (is_lined b Senders (In b progress)) → count_in u receives ≡ marked u (is_lined b Receivers (In b progress))
+      → Pair b u (record k { send_line = sends; receive_line = receives }) h (In b progress) Home
+  at_work k g h before progress sends receives owner step pair in_sends in_receives = record {
+    owner = λ e. (and_from (is_buffer b b) true (buffer_self b) refl, step, refl);
     inside = λ ins awake. owner;
     starts = λ on. absurd (cc on);
     sleepers = pair.sleepers;
@@ -150,7 +153,7 @@ module _ (b : BufId) (u : Tid) where
     receive_line = in_receives;
   }
 
-  own_items : (k : Buffer) (g : Progress) (visit : Visit) (x : Post) (items : List Message) (e s r : ℕ) → Pair b u k g visit x
+  own_items : (k : Buffer) (g : Progress) (visit : Visit) (x : Where) (items : List Message) (e s r : ℕ) → Pair b u k g visit x
       → Pair b u (record k { items = items; effects = e; send_positions = s; receive_positions = r }) g visit x
   own_items k g visit x items e s r pair = record {
     owner = pair.owner;
@@ -163,11 +166,11 @@ module _ (b : BufId) (u : Tid) where
     receive_line = pair.receive_line;
   }
 
-  unlined : (call_phase : CallPhase) (side : Side) → stands side (In b call_phase) ≡ false → marked u (is_lined b side (In b call_phase)) ≡ 0
-  unlined call_phase side off = marked_none u (is_buffer b b && stands side (In b call_phase)) (and_right (is_buffer b b) (stands side (In b call_phase)) off)
+  unlined : (progress : Progress) (side : Side) → stands side (In b progress) ≡ false → marked u (is_lined b side (In b progress)) ≡ 0
+  unlined progress side off = marked_none u (is_buffer b b && stands side (In b progress)) (and_right (is_buffer b b) (stands side (In b progress)) off)
 
-  lined : (call_phase : CallPhase) (side : Side) → stands side (In b call_phase) ≡ true → marked u (is_lined b side (In b call_phase)) ≡ marked u true
-  lined call_phase side on = ap (marked u) (and_from (is_buffer b b) (stands side (In b call_phase)) (buffer_self b) on)
+  lined : (progress : Progress) (side : Side) → stands side (In b progress) ≡ true → marked u (is_lined b side (In b progress)) ≡ marked u true
+  lined progress side on = ap (marked u) (and_from (is_buffer b b) (stands side (In b progress)) (buffer_self b) on)
 
   -- a line that the thread enters, or may not enter since it is no thread's number
   entered_list : (line : List Tid) (joins : Bool) → may_join u line ≡ joins → count_in u line ≡ 0
@@ -185,26 +188,26 @@ module _ (b : BufId) (u : Tid) where
       by_test true false off false is = absurd (cc is)
       by_test false false off true is = absurd (cc is)
 
-  own_enter : (k : Buffer) (g : Progress) (side : Side) (joins : Bool) → may_join u (line_of side k) ≡ joins → k.busy ≡ Some u → Pair b u k g (In b GotIt) Home
-      → Pair b u (if joins then entered u side k else k) (HasEntered side) (In b (Trying side)) Home
+  own_enter : (k : Buffer) (g : Progress) (side : Side) (joins : Bool) → may_join u (line_of side k) ≡ joins → k.busy ≡ Some u → Pair b u k g (In b Begins) Home
+      → Pair b u (if joins then entered u side k else k) (HasEntered side) (In b (HasEntered side)) Home
   own_enter k g Senders true is owner pair =
-      let sends = entered_list k.send_line true is (pair.send_line ∙ unlined GotIt Senders refl) ∙ sym (lined (Trying Senders) Senders refl) in
-      let receives = pair.receive_line ∙ unlined GotIt Receivers refl ∙ sym (unlined (Trying Senders) Receivers refl) in
-      own_items _ (HasEntered Senders) (In b (Trying Senders)) Home k.items k.effects (entered u Senders k).send_positions k.receive_positions
-      (at_work k g (HasEntered Senders) GotIt (Trying Senders) (k.send_line ++ u ∷ []) k.receive_line owner refl refl pair sends receives)
+      let sends = entered_list k.send_line true is (pair.send_line ∙ unlined Begins Senders refl) ∙ sym (lined (HasEntered Senders) Senders refl) in
+      let receives = pair.receive_line ∙ unlined Begins Receivers refl ∙ sym (unlined (HasEntered Senders) Receivers refl) in
+      own_items _ (HasEntered Senders) (In b (HasEntered Senders)) Home k.items k.effects (entered u Senders k).send_positions k.receive_positions
+      (at_work k g (HasEntered Senders) Begins (HasEntered Senders) (k.send_line ++ u ∷ []) k.receive_line owner refl pair sends receives)
   own_enter k g Senders false is owner pair =
-      let sends = entered_list k.send_line false is (pair.send_line ∙ unlined GotIt Senders refl) ∙ sym (lined (Trying Senders) Senders refl) in
-      let receives = pair.receive_line ∙ unlined GotIt Receivers refl ∙ sym (unlined (Trying Senders) Receivers refl) in
-      at_work k g (HasEntered Senders) GotIt (Trying Senders) k.send_line k.receive_line owner refl refl pair sends receives
+      let sends = entered_list k.send_line false is (pair.send_line ∙ unlined Begins Senders refl) ∙ sym (lined (HasEntered Senders) Senders refl) in
+      let receives = pair.receive_line ∙ unlined Begins Receivers refl ∙ sym (unlined (HasEntered Senders) Receivers refl) in
+      at_work k g (HasEntered Senders) Begins (HasEntered Senders) k.send_line k.receive_line owner refl pair sends receives
   own_enter k g Receivers true is owner pair =
-      let receives = entered_list k.receive_line true is (pair.receive_line ∙ unlined GotIt Receivers refl) ∙ sym (lined (Trying Receivers) Receivers refl) in
-      let sends = pair.send_line ∙ unlined GotIt Senders refl ∙ sym (unlined (Trying Receivers) Senders refl) in
-      own_items _ (HasEntered Receivers) (In b (Trying Receivers)) Home k.items k.effects k.send_positions (entered u Receivers k).receive_positions
-      (at_work k g (HasEntered Receivers) GotIt (Trying Receivers) k.send_line (k.receive_line ++ u ∷ []) owner refl refl pair sends receives)
+      let receives = entered_list k.receive_line true is (pair.receive_line ∙ unlined Begins Receivers refl) ∙ sym (lined (HasEntered Receivers) Receivers refl) in
+      let sends = pair.send_line ∙ unlined Begins Senders refl ∙ sym (unlined (HasEntered Receivers) Senders refl) in
+      own_items _ (HasEntered Receivers) (In b (HasEntered Receivers)) Home k.items k.effects k.send_positions (entered u Receivers k).receive_positions
+      (at_work k g (HasEntered Receivers) Begins (HasEntered Receivers) k.send_line (k.receive_line ++ u ∷ []) owner refl pair sends receives)
   own_enter k g Receivers false is owner pair =
-      let receives = entered_list k.receive_line false is (pair.receive_line ∙ unlined GotIt Receivers refl) ∙ sym (lined (Trying Receivers) Receivers refl) in
-      let sends = pair.send_line ∙ unlined GotIt Senders refl ∙ sym (unlined (Trying Receivers) Senders refl) in
-      at_work k g (HasEntered Receivers) GotIt (Trying Receivers) k.send_line k.receive_line owner refl refl pair sends receives
+      let receives = entered_list k.receive_line false is (pair.receive_line ∙ unlined Begins Receivers refl) ∙ sym (lined (HasEntered Receivers) Receivers refl) in
+      let sends = pair.send_line ∙ unlined Begins Senders refl ∙ sym (unlined (HasEntered Receivers) Senders refl) in
+      at_work k g (HasEntered Receivers) Begins (HasEntered Receivers) k.send_line k.receive_line owner refl pair sends receives
 
   -- the first of its line, which stands there once, has left it
   left_line : (line : List Tid) (m : Bool) → count_in u line ≡ marked u m → is_first u line ≡ true → count_in u (rest line) ≡ 0
@@ -212,36 +215,36 @@ module _ (b : BufId) (u : Tid) where
       first_left u line (subst (λ n. n ≤ 1) (sym is) (marked_most u m))
       ∙ ap (λ b. if b then 0 else count_in u line) (ap (is_thread u) (first_is u line front) ∙ same_tid_self u)
 
-  own_put : (k : Buffer) (g : Progress) (m : Message) (may : Bool) → may_put u k ≡ may → k.busy ≡ Some u → Pair b u k g (In b (Trying Senders)) Home
+  own_put : (k : Buffer) (g : Progress) (m : Message) (may : Bool) → may_put u k ≡ may → k.busy ≡ Some u → Pair b u k g (In b (HasEntered Senders)) Home
       → Pair b u (if may then put m k else k) (if may then Owes true true else WasRefused Senders)
-      (if may then In b (Owing true true) else In b (Failed Senders)) Home
+      (In b (if may then Owes true true else WasRefused Senders)) Home
   own_put k g m true is owner pair =
       let front = (and_parts (is_first u k.send_line) (can_put k) is).0 in
-      let sends = left_line k.send_line _ pair.send_line front ∙ sym (unlined (Owing true true) Senders refl) in
-      let receives = pair.receive_line ∙ unlined (Trying Senders) Receivers refl ∙ sym (unlined (Owing true true) Receivers refl) in
-      own_items _ (Owes true true) (In b (Owing true true)) Home (put m k).items (put m k).effects k.send_positions k.receive_positions
-      (at_work k g (Owes true true) (Trying Senders) (Owing true true) (rest k.send_line) k.receive_line owner refl refl pair sends receives)
+      let sends = left_line k.send_line _ pair.send_line front ∙ sym (unlined (Owes true true) Senders refl) in
+      let receives = pair.receive_line ∙ unlined (HasEntered Senders) Receivers refl ∙ sym (unlined (Owes true true) Receivers refl) in
+      own_items _ (Owes true true) (In b (Owes true true)) Home (put m k).items (put m k).effects k.send_positions k.receive_positions
+      (at_work k g (Owes true true) (HasEntered Senders) (Owes true true) (rest k.send_line) k.receive_line owner refl pair sends receives)
   own_put k g m false is owner pair =
-      at_work k g (WasRefused Senders) (Trying Senders) (Failed Senders) k.send_line k.receive_line owner refl refl pair pair.send_line pair.receive_line
+      at_work k g (WasRefused Senders) (HasEntered Senders) (WasRefused Senders) k.send_line k.receive_line owner refl pair pair.send_line pair.receive_line
 
-  own_take : (k : Buffer) (g : Progress) (may : Bool) → may_take u k ≡ may → k.busy ≡ Some u → Pair b u k g (In b (Trying Receivers)) Home
+  own_take : (k : Buffer) (g : Progress) (may : Bool) → may_take u k ≡ may → k.busy ≡ Some u → Pair b u k g (In b (HasEntered Receivers)) Home
       → Pair b u (if may then taken k else k) (if may then Owes true true else WasRefused Receivers)
-      (if may then In b (Owing true true) else In b (Failed Receivers)) Home
+      (In b (if may then Owes true true else WasRefused Receivers)) Home
   own_take k g true is owner pair =
       let front = (and_parts (is_first u k.receive_line) (can_take k) is).0 in
-      let receives = left_line k.receive_line _ pair.receive_line front ∙ sym (unlined (Owing true true) Receivers refl) in
-      let sends = pair.send_line ∙ unlined (Trying Receivers) Senders refl ∙ sym (unlined (Owing true true) Senders refl) in
-      own_items _ (Owes true true) (In b (Owing true true)) Home (taken k).items (taken k).effects k.send_positions k.receive_positions
-      (at_work k g (Owes true true) (Trying Receivers) (Owing true true) k.send_line (rest k.receive_line) owner refl refl pair sends receives)
+      let receives = left_line k.receive_line _ pair.receive_line front ∙ sym (unlined (Owes true true) Receivers refl) in
+      let sends = pair.send_line ∙ unlined (HasEntered Receivers) Senders refl ∙ sym (unlined (Owes true true) Senders refl) in
+      own_items _ (Owes true true) (In b (Owes true true)) Home (taken k).items (taken k).effects k.send_positions k.receive_positions
+      (at_work k g (Owes true true) (HasEntered Receivers) (Owes true true) k.send_line (rest k.receive_line) owner refl pair sends receives)
   own_take k g false is owner pair =
-      at_work k g (WasRefused Receivers) (Trying Receivers) (Failed Receivers) k.send_line k.receive_line owner refl refl pair pair.send_line pair.receive_line
+      at_work k g (WasRefused Receivers) (HasEntered Receivers) (WasRefused Receivers) k.send_line k.receive_line owner refl pair pair.send_line pair.receive_line
 
-  own_shut : (k : Buffer) (g : Progress) → k.busy ≡ Some u → Pair b u k g (In b GotIt) Home
-      → Pair b u (shut k) (Owes true true) (In b (Owing true true)) Home
+  own_shut : (k : Buffer) (g : Progress) → k.busy ≡ Some u → Pair b u k g (In b Begins) Home
+      → Pair b u (shut k) (Owes true true) (In b (Owes true true)) Home
   own_shut k g owner pair =
-      let now = at_work k g (Owes true true) GotIt (Owing true true) k.send_line k.receive_line owner refl refl pair
-      (pair.send_line ∙ unlined GotIt Senders refl ∙ sym (unlined (Owing true true) Senders refl))
-      (pair.receive_line ∙ unlined GotIt Receivers refl ∙ sym (unlined (Owing true true) Receivers refl)) in
+      let now = at_work k g (Owes true true) Begins (Owes true true) k.send_line k.receive_line owner refl pair
+      (pair.send_line ∙ unlined Begins Senders refl ∙ sym (unlined (Owes true true) Senders refl))
+      (pair.receive_line ∙ unlined Begins Receivers refl ∙ sym (unlined (Owes true true) Receivers refl)) in
       record {
         owner = now.owner;
         inside = now.inside;
@@ -254,9 +257,9 @@ module _ (b : BufId) (u : Tid) where
       }
 
   -- the thread gives the lock back, and is inside no longer
-  own_release : (k : Buffer) (g : Progress) (visit next : Visit) (x : Post) → Pair b u k g visit Home → is_inside b next ≡ false → is_lock b x ≡ false
+  own_release : (k : Buffer) (g : Progress) (visit next : Visit) (x : Where) → Pair b u k g visit Home → is_inside b next ≡ false → sleeps_in b wait_list.Sleepers x ≡ false
       → count_in u k.send_line ≡ marked u (is_lined b Senders next) → count_in u k.receive_line ≡ marked u (is_lined b Receivers next)
-      → (sends receives : List Tid) → count_in u sends ≡ marked u (is_wait b Senders x) → count_in u receives ≡ marked u (is_wait b Receivers x)
+      → (sends receives : List Tid) → count_in u sends ≡ marked u (sleeps_in b wait_list.Senders x) → count_in u receives ≡ marked u (sleeps_in b wait_list.Receivers x)
       → Pair b u (released (record k { waiting_senders = sends; waiting_receivers = receives })) Begins next x
   own_release k g visit next x pair outside off in_sends in_receives sends receives now_ws now_wr = record {
     owner = λ e. refuted (not_first k.sleepers (no_sleepers k g visit pair)) (ap (is_thread u) e ∙ same_tid_self u);
@@ -264,39 +267,39 @@ module _ (b : BufId) (u : Tid) where
     starts = λ on. refuted off on;
     sleepers = first_left u k.sleepers (subst (λ n. n ≤ 1) (sym pair.sleepers) (marked_most u false))
         ∙ ap (λ d. if d then 0 else count_in u k.sleepers) (not_first k.sleepers (no_sleepers k g visit pair))
-        ∙ no_sleepers k g visit pair ∙ sym (marked_none u (is_lock b x) off);
+        ∙ no_sleepers k g visit pair ∙ sym (marked_none u (sleeps_in b wait_list.Sleepers x) off);
     senders = now_ws;
     receivers = now_wr;
     send_line = in_sends;
     receive_line = in_receives;
   }
 
-  own_wait : (k : Buffer) (g : Progress) (side : Side) → Pair b u k g (In b (Failed side)) Home
-      → Pair b u (released (waiting u side k)) Begins (In b (Waiting side)) (AtWait b side)
+  own_wait : (k : Buffer) (g : Progress) (side : Side) → Pair b u k g (In b (WasRefused side)) Home
+      → Pair b u (released (waiting u side k)) Begins (Waiting b side) (Asleep (At (AtBuffer b) (list_of side)))
   own_wait k g Senders pair =
-      own_release k g (In b (Failed Senders)) (In b (Waiting Senders)) (AtWait b Senders) pair (and_right (is_buffer b b) false refl) refl
+      own_release k g (In b (WasRefused Senders)) (Waiting b Senders) (Asleep (At (AtBuffer b) wait_list.Senders)) pair (and_right (is_buffer b b) false refl) (and_right (is_buffer b b) false refl)
       pair.send_line pair.receive_line (joined u k.waiting_senders) k.waiting_receivers
-      (grown_list u k.waiting_senders (no_senders k g (In b (Failed Senders)) pair) ∙ ap (marked u) (sym (and_from (is_buffer b b) true (buffer_self b) refl)))
-      (no_receivers k g (In b (Failed Senders)) pair ∙ sym (marked_none u (is_buffer b b && false) (and_right (is_buffer b b) false refl)))
+      (grown_list u k.waiting_senders (no_senders k g (In b (WasRefused Senders)) pair) ∙ ap (marked u) (sym (and_from (is_buffer b b) true (buffer_self b) refl)))
+      (no_receivers k g (In b (WasRefused Senders)) pair ∙ sym (marked_none u (is_buffer b b && false) (and_right (is_buffer b b) false refl)))
   own_wait k g Receivers pair =
-      own_release k g (In b (Failed Receivers)) (In b (Waiting Receivers)) (AtWait b Receivers) pair (and_right (is_buffer b b) false refl) refl
+      own_release k g (In b (WasRefused Receivers)) (Waiting b Receivers) (Asleep (At (AtBuffer b) wait_list.Receivers)) pair (and_right (is_buffer b b) false refl) (and_right (is_buffer b b) false refl)
       pair.send_line pair.receive_line k.waiting_senders (joined u k.waiting_receivers)
-      (no_senders k g (In b (Failed Receivers)) pair ∙ sym (marked_none u (is_buffer b b && false) (and_right (is_buffer b b) false refl)))
-      (grown_list u k.waiting_receivers (no_receivers k g (In b (Failed Receivers)) pair)
+      (no_senders k g (In b (WasRefused Receivers)) pair ∙ sym (marked_none u (is_buffer b b && false) (and_right (is_buffer b b) false refl)))
+      (grown_list u k.waiting_receivers (no_receivers k g (In b (WasRefused Receivers)) pair)
       ∙ ap (marked u) (sym (and_from (is_buffer b b) true (buffer_self b) refl)))
 
-  own_free : (k : Buffer) (g : Progress) (r s : Bool) → Pair b u k g (In b (Owing r s)) Home → Pair b u (released k) Begins Outside Home
+  own_free : (k : Buffer) (g : Progress) (r s : Bool) → Pair b u k g (In b (Owes r s)) Home → Pair b u (released k) Begins Outside Home
   own_free k g r s pair =
-      own_release k g (In b (Owing r s)) Outside Home pair refl refl
-      (pair.send_line ∙ unlined (Owing r s) Senders refl ∙ sym (marked_none u false refl))
-      (pair.receive_line ∙ unlined (Owing r s) Receivers refl ∙ sym (marked_none u false refl))
+      own_release k g (In b (Owes r s)) Outside Home pair refl refl
+      (pair.send_line ∙ unlined (Owes r s) Senders refl ∙ sym (marked_none u false refl))
+      (pair.receive_line ∙ unlined (Owes r s) Receivers refl ∙ sym (marked_none u false refl))
       k.waiting_senders k.waiting_receivers pair.senders pair.receivers
 
   -- a signal of one side, while its caller waits nowhere
   own_signal : (k : Buffer) (g h : Progress) (r s x y : Bool) (sends receives : List Tid)
-      → k.busy ≡ Some u → h ≡ Owes x y → Pair b u k g (In b (Owing r s)) Home
+      → k.busy ≡ Some u → h ≡ Owes x y → Pair b u k g (In b (Owes r s)) Home
       → count_in u sends ≡ 0 → count_in u receives ≡ 0
-      → Pair b u (record k { waiting_senders = sends; waiting_receivers = receives }) h (In b (Owing x y)) Home
+      → Pair b u (record k { waiting_senders = sends; waiting_receivers = receives }) h (In b (Owes x y)) Home
   own_signal k g h r s x y sends receives owner step pair no_ws no_wr = record {
     owner = λ e. (and_from (is_buffer b b) true (buffer_self b) refl, step, refl);
     inside = λ ins awake. owner;
@@ -304,8 +307,8 @@ module _ (b : BufId) (u : Tid) where
     sleepers = pair.sleepers;
     senders = no_ws ∙ sym (marked_none u false refl);
     receivers = no_wr ∙ sym (marked_none u false refl);
-    send_line = pair.send_line ∙ unlined (Owing r s) Senders refl ∙ sym (unlined (Owing x y) Senders refl);
-    receive_line = pair.receive_line ∙ unlined (Owing r s) Receivers refl ∙ sym (unlined (Owing x y) Receivers refl);
+    send_line = pair.send_line ∙ unlined (Owes r s) Senders refl ∙ sym (unlined (Owes x y) Senders refl);
+    receive_line = pair.receive_line ∙ unlined (Owes r s) Receivers refl ∙ sym (unlined (Owes x y) Receivers refl);
   }
 
   still_none : (woke : Option Tid) (list : List Tid) → count_in u list ≡ 0 → count_in u (without_any woke list) ≡ 0
@@ -323,49 +326,47 @@ module _ (b : BufId) (u : Tid) where
       (answer_of_buffer name k).slept then waiters_of b name else Home)
   own_at (AcqQ t) k g visit is idle may due pair =
       subst (λ v. IsDue b (AcqQ v) visit → Pair b u (acquired v k.busy k) g (acquired_visit b visit)
-      (if (answer_of_acquire k.busy).slept then AtLock b else Home))
+      (if (answer_of_acquire k.busy).slept then Asleep (At (AtBuffer b) wait_list.Sleepers) else Home))
       (same_Some u t (sym is)) (λ own. own_acquire k g k.busy visit refl idle own pair) due
-  own_at (Enter t side) k g (In d GotIt) is idle may due pair =
-      let at_b : Pair b u k g (In b GotIt) Home = subst (λ x. Pair b u k g (In x GotIt) Home) due pair in
+  own_at (Enter t side) k g (In d Begins) is idle may due pair =
+      let at_b : Pair b u k g (In b Begins) Home = subst (λ x. Pair b u k g (In x Begins) Home) due pair in
       let same : u ≡ t = same_Some u t (sym is) in
-      subst (λ v. Pair b u (if may_join v (line_of side k) then entered v side k else k) (HasEntered side) (In b (Trying side)) Home) same
+      subst (λ v. Pair b u (if may_join v (line_of side k) then entered v side k else k) (HasEntered side) (In b (HasEntered side)) Home) same
       (own_enter k g side (may_join u (line_of side k)) refl (subst (λ v. k.busy ≡ Some v) (sym same) may.0) at_b)
-  own_at (Shut t) k g (In d GotIt) is idle may due pair =
-      let at_b : Pair b u k g (In b GotIt) Home = subst (λ x. Pair b u k g (In x GotIt) Home) due pair in
+  own_at (Shut t) k g (In d Begins) is idle may due pair =
+      let at_b : Pair b u k g (In b Begins) Home = subst (λ x. Pair b u k g (In x Begins) Home) due pair in
       own_shut k g (may.0 ∙ is) at_b
-  own_at (TryPut t m) k g (In d (Trying Senders)) is idle may due pair =
-      let at_b : Pair b u k g (In b (Trying Senders)) Home = subst (λ x. Pair b u k g (In x (Trying Senders)) Home) due pair in
+  own_at (TryPut t m) k g (In d (HasEntered Senders)) is idle may due pair =
+      let at_b : Pair b u k g (In b (HasEntered Senders)) Home = subst (λ x. Pair b u k g (In x (HasEntered Senders)) Home) due pair in
       let same : u ≡ t = same_Some u t (sym is) in
       subst (λ v. Pair b u (if may_put v k then put m k else k) (if may_put v k then Owes true true else WasRefused Senders)
-      (if may_put v k then In b (Owing true true) else In b (Failed Senders)) Home) same
+      (In b (if may_put v k then Owes true true else WasRefused Senders)) Home) same
       (own_put k g m (may_put u k) refl (subst (λ v. k.busy ≡ Some v) (sym same) may.0) at_b)
-  own_at (TryTake t) k g (In d (Trying Receivers)) is idle may due pair =
-      let at_b : Pair b u k g (In b (Trying Receivers)) Home = subst (λ x. Pair b u k g (In x (Trying Receivers)) Home) due pair in
+  own_at (TryTake t) k g (In d (HasEntered Receivers)) is idle may due pair =
+      let at_b : Pair b u k g (In b (HasEntered Receivers)) Home = subst (λ x. Pair b u k g (In x (HasEntered Receivers)) Home) due pair in
       let same : u ≡ t = same_Some u t (sym is) in
       subst (λ v. Pair b u (if may_take v k then taken k else k) (if may_take v k then Owes true true else WasRefused Receivers)
-      (if may_take v k then In b (Owing true true) else In b (Failed Receivers)) Home) same
+      (In b (if may_take v k then Owes true true else WasRefused Receivers)) Home) same
       (own_take k g (may_take u k) refl (subst (λ v. k.busy ≡ Some v) (sym same) may.0) at_b)
-  own_at (WaitOn t side) k g (In d (Failed other)) is idle may due pair =
-      let at_b : Pair b u k g (In b (Failed side)) Home = subst (λ x. x) (λ i. Pair b u k g (In (due.0 i) (Failed (due.1 i))) Home) pair in
-      subst (λ v. Pair b u (released (waiting v side k)) Begins (In b (Waiting side)) (AtWait b side)) (same_Some u t (sym is)) (own_wait k g side at_b)
-  own_at (SigRecv t) k g (In d (Owing r s)) is idle may due pair =
-      let at_b : Pair b u k g (In b (Owing r s)) Home = subst (λ x. Pair b u k g (In x (Owing r s)) Home) due pair in
+  own_at (WaitOn t side) k g (In d (WasRefused other)) is idle may due pair =
+      let at_b : Pair b u k g (In b (WasRefused side)) Home = subst (λ x. x) (λ i. Pair b u k g (In (due.0 i) (WasRefused (due.1 i))) Home) pair in
+      subst (λ v. Pair b u (released (waiting v side k)) Begins (Waiting b side) (Asleep (At (AtBuffer b) (list_of side)))) (same_Some u t (sym is)) (own_wait k g side at_b)
+  own_at (SigRecv t) k g (In d (Owes r s)) is idle may due pair =
+      let at_b : Pair b u k g (In b (Owes r s)) Home = subst (λ x. Pair b u k g (In x (Owes r s)) Home) due pair in
       let owner : k.busy ≡ Some u = may.0 ∙ is in
       let step : g ≡ Owes r s = (at_b.owner owner).1 in
-      subst (λ x. Pair b u (edited_buffer (SigRecv t) k) (receivers_signalled g) (In x (Owing false s)) Home) (sym due)
-      (own_signal k g (receivers_signalled g) r s false s k.waiting_senders
+      own_signal k g (receivers_signalled g) r s false s k.waiting_senders
       (without_any (due_receiver k) k.waiting_receivers) owner (ap receivers_signalled step) at_b
-      (no_senders k g (In b (Owing r s)) at_b) (still_none (due_receiver k) k.waiting_receivers (no_receivers k g (In b (Owing r s)) at_b)))
-  own_at (SigSend t) k g (In d (Owing r s)) is idle may due pair =
-      let at_b : Pair b u k g (In b (Owing r s)) Home = subst (λ x. Pair b u k g (In x (Owing r s)) Home) due pair in
+      (no_senders k g (In b (Owes r s)) at_b) (still_none (due_receiver k) k.waiting_receivers (no_receivers k g (In b (Owes r s)) at_b))
+  own_at (SigSend t) k g (In d (Owes r s)) is idle may due pair =
+      let at_b : Pair b u k g (In b (Owes r s)) Home = subst (λ x. Pair b u k g (In x (Owes r s)) Home) due pair in
       let owner : k.busy ≡ Some u = may.0 ∙ is in
       let step : g ≡ Owes r s = (at_b.owner owner).1 in
-      subst (λ x. Pair b u (edited_buffer (SigSend t) k) (senders_signalled g) (In x (Owing r false)) Home) (sym due)
-      (own_signal k g (senders_signalled g) r s r false (without_any (due_sender k) k.waiting_senders) k.waiting_receivers owner
+      own_signal k g (senders_signalled g) r s r false (without_any (due_sender k) k.waiting_senders) k.waiting_receivers owner
       (ap senders_signalled step) at_b
-      (still_none (due_sender k) k.waiting_senders (no_senders k g (In b (Owing r s)) at_b)) (no_receivers k g (In b (Owing r s)) at_b))
-  own_at (RelQ t) k g (In d (Owing r s)) is idle may due pair =
-      let at_b : Pair b u k g (In b (Owing r s)) Home = subst (λ x. Pair b u k g (In x (Owing r s)) Home) due.0 pair in
+      (still_none (due_sender k) k.waiting_senders (no_senders k g (In b (Owes r s)) at_b)) (no_receivers k g (In b (Owes r s)) at_b)
+  own_at (RelQ t) k g (In d (Owes r s)) is idle may due pair =
+      let at_b : Pair b u k g (In b (Owes r s)) Home = subst (λ x. Pair b u k g (In x (Owes r s)) Home) due.0 pair in
       own_free k g r s at_b
   own_at name k g visit is idle may due pair = absurd due
 
@@ -375,7 +376,7 @@ module _ (b : BufId) (u : Tid) where
       false_from_ne_true (is_thread u (answer_of_buffer name k).woke) (λ on. absurd (cc (woken_sleeps b u k g visit Home pair name on).1))
 
   -- the caller's own section keeps the pair
-  pub own_pair : (setup : Setup) (c : CpuId) (name : Name) (k : Buffer) (g : Progress) (visit : Visit) (post : Post) → caller_in name ≡ Some u → post ≡ Home
+  pub own_pair : (setup : Setup) (c : CpuId) (name : Name) (k : Buffer) (g : Progress) (visit : Visit) (post : Where) → caller_in name ≡ Some u → post ≡ Home
       → (k.busy ≡ None → g ≡ Begins) → MayEdit name k g → IsDue b name visit → Pair b u k g visit post
       → Pair b u (edited_buffer name k) (progress_after name k g) (visit_moved b u name k visit)
       (post_moved setup c b u name (answer_of_buffer name k).slept (answer_of_buffer name k).woke post)
@@ -403,29 +404,19 @@ pub record Apart (b : BufId) (visit next : Visit) : Type 0 where
 
 pub away : (b d : BufId) (name : Name) (k : Buffer) (visit : Visit) → is_buffer b d ≡ false → IsDue d name visit → Apart b visit (next_visit d name k visit)
 away b d (AcqQ t) k Outside off due = record { before = refl; after = off }
-away b d (AcqQ t) k (In e (Waiting side)) off due = record { before = subst (λ x. is_buffer b x ≡ false) (sym due) off; after = off }
-away b d (Enter t side) k (In e GotIt) off due = record { before = subst (λ x. is_buffer b x ≡ false) (sym due) off; after = off }
-away b d (Shut t) k (In e GotIt) off due = record { before = subst (λ x. is_buffer b x ≡ false) (sym due) off; after = off }
-away b d (TryPut t m) k (In e (Trying Senders)) off due = record { before = subst (λ x. is_buffer b x ≡ false) (sym due) off; after = by_test (may_put t k) }
-  where
-    by_test : (may : Bool) → names b (if may then In d (Owing true true) else In d (Failed Senders)) ≡ false
-    by_test true = off
-    by_test false = off
-away b d (TryTake t) k (In e (Trying Receivers)) off due = record { before = subst (λ x. is_buffer b x ≡ false) (sym due) off; after = by_test (may_take t k) }
-  where
-    by_test : (may : Bool) → names b (if may then In d (Owing true true) else In d (Failed Receivers)) ≡ false
-    by_test true = off
-    by_test false = off
-away b d (WaitOn t side) k (In e (Failed other)) off due = record { before = subst (λ x. is_buffer b x ≡ false) (sym due.0) off; after = off }
-away b d (SigRecv t) k (In e (Owing r s)) off due =
-    record { before = subst (λ x. is_buffer b x ≡ false) (sym due) off; after = subst (λ x. is_buffer b x ≡ false) (sym due) off }
-away b d (SigSend t) k (In e (Owing r s)) off due =
-    record { before = subst (λ x. is_buffer b x ≡ false) (sym due) off; after = subst (λ x. is_buffer b x ≡ false) (sym due) off }
-away b d (RelQ t) k (In e (Owing r s)) off due = record { before = subst (λ x. is_buffer b x ≡ false) (sym due.0) off; after = refl }
+away b d (AcqQ t) k (Waiting e side) off due = record { before = subst (λ x. is_buffer b x ≡ false) (sym due) off; after = off }
+away b d (Enter t side) k (In e Begins) off due = record { before = subst (λ x. is_buffer b x ≡ false) (sym due) off; after = off }
+away b d (Shut t) k (In e Begins) off due = record { before = subst (λ x. is_buffer b x ≡ false) (sym due) off; after = off }
+away b d (TryPut t m) k (In e (HasEntered Senders)) off due = record { before = subst (λ x. is_buffer b x ≡ false) (sym due) off; after = off }
+away b d (TryTake t) k (In e (HasEntered Receivers)) off due = record { before = subst (λ x. is_buffer b x ≡ false) (sym due) off; after = off }
+away b d (WaitOn t side) k (In e (WasRefused other)) off due = record { before = subst (λ x. is_buffer b x ≡ false) (sym due.0) off; after = off }
+away b d (SigRecv t) k (In e (Owes r s)) off due = record { before = subst (λ x. is_buffer b x ≡ false) (sym due) off; after = off }
+away b d (SigSend t) k (In e (Owes r s)) off due = record { before = subst (λ x. is_buffer b x ≡ false) (sym due) off; after = off }
+away b d (RelQ t) k (In e (Owes r s)) off due = record { before = subst (λ x. is_buffer b x ≡ false) (sym due.0) off; after = refl }
 away b d name k visit off due = absurd due
 
 -- the pair of a thread whose visit is elsewhere
-pub visit_apart : (b : BufId) (u : Tid) (k : Buffer) (g : Progress) (visit next : Visit) (post : Post)
+pub visit_apart : (b : BufId) (u : Tid) (k : Buffer) (g : Progress) (visit next : Visit) (post : Where)
     → Apart b visit next → Pair b u k g visit post → Pair b u k g next post
 visit_apart b u k g visit next post apart pair = record {
   owner = λ e. refuted (ap (λ n. n && goes_on visit) apart.before) (pair.owner e).0;
@@ -439,16 +430,16 @@ visit_apart b u k g visit next post apart pair = record {
       pair.receive_line ∙ ap (λ n. marked u (n && stands Receivers visit)) apart.before ∙ ap (λ n. marked u (n && stands Receivers next)) (sym apart.after);
 }
 
--- the pair of a thread whose post bears the same marks of the buffer
-pub post_apart : (b : BufId) (u : Tid) (k : Buffer) (g : Progress) (visit : Visit) (post next : Post) → is_lock b next ≡ is_lock b post
-    → ((side : Side) → is_wait b side next ≡ is_wait b side post) → Pair b u k g visit post → Pair b u k g visit next
-post_apart b u k g visit post next lock wait pair = record {
-  owner = λ e. ((pair.owner e).0, (pair.owner e).1, lock ∙ (pair.owner e).2);
-  inside = λ ins awake. pair.inside ins (sym lock ∙ awake);
-  starts = λ on. pair.starts (sym lock ∙ on);
-  sleepers = pair.sleepers ∙ ap (marked u) (sym lock);
-  senders = pair.senders ∙ ap (marked u) (sym (wait Senders));
-  receivers = pair.receivers ∙ ap (marked u) (sym (wait Receivers));
+-- the pair of a thread whose place bears the same marks of the buffer
+pub post_apart : (b : BufId) (u : Tid) (k : Buffer) (g : Progress) (visit : Visit) (post next : Where)
+    → ((list : WaitList) → sleeps_in b list next ≡ sleeps_in b list post) → Pair b u k g visit post → Pair b u k g visit next
+post_apart b u k g visit post next same pair = record {
+  owner = λ e. ((pair.owner e).0, (pair.owner e).1, same wait_list.Sleepers ∙ (pair.owner e).2);
+  inside = λ ins awake. pair.inside ins (sym (same wait_list.Sleepers) ∙ awake);
+  starts = λ on. pair.starts (sym (same wait_list.Sleepers) ∙ on);
+  sleepers = pair.sleepers ∙ ap (marked u) (sym (same wait_list.Sleepers));
+  senders = pair.senders ∙ ap (marked u) (sym (same wait_list.Senders));
+  receivers = pair.receivers ∙ ap (marked u) (sym (same wait_list.Receivers));
   send_line = pair.send_line;
   receive_line = pair.receive_line;
 }

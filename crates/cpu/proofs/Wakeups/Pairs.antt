@@ -2,44 +2,48 @@
 -- lock exactly where its visit says. Everything here speaks of plain values; the log comes later.
 use Rattle.std.proofs.Common.{◌≡◌, ℕ, ◌+◌, ◌<◌, ◌≤◌, Bool, true, false, not, ◌&&◌, List, [], ◌∷◌, ◌++◌}
 use Rattle.std.proofs.Common.{Option, Some, None, nat_lt, if◌then◌else◌, refl, sym, ap, ◌∙◌, subst, arith}
-use Rattle.std.proofs.lemmas.Bool.{eq-eqb, eqb-true, and_parts, and_right, false_from_ne_true}
+use Rattle.std.proofs.lemmas.Bool.{eq-eqb, eqb-true, and_parts, and_right}
 use Rattle.std.proofs.lemmas.Option.{same_Some}
 use Rattle.event_log.specs.declared.ids.CpuId.{CpuId}
 use Rattle.event_log.specs.declared.ids.Tid.{Tid}
 use Rattle.event_log.specs.declared.ids.BufId.{BufId}
+use Rattle.event_log.specs.declared.ids.LockId.TheVariants.{Buffer as AtBuffer}
 use Rattle.event_log.specs.declared.ids.TheConstants.{THREADS}
 use Rattle.event_log.specs.Messages.{Message}
-use Rattle.event_log.specs.History.{same_cpu}
+use Rattle.event_log.specs.History.{same_cpu, same_lock}
 use Rattle.event_log.proofs.Same.{buffer_numbered}
 use Rattle.thread_blocks.specs.Queues.{same_tid, is_in, first, rest}
 use Rattle.thread_blocks.proofs.Members.{same_tid_self, same_tid_true}
 use Rattle.layer_traits.specs.declared.locked.Side.{Side}
 use Rattle.layer_traits.specs.declared.locked.Side.TheVariants.{Receivers, Senders}
-use Rattle.layer_traits.specs.Places.{is_thread, one_if, count_in}
+use Rattle.layer_traits.specs.declared.moves.WaitList.{WaitList}
+use Rattle.layer_traits.specs.declared.moves.WaitList.TheVariants as wait_list
+use Rattle.layer_traits.specs.ListsAgree.{is_at, same_list}
+use Rattle.layer_traits.specs.Places.{Where, Asleep, At, wait_channel_of, is_thread, one_if, count_in}
 use Rattle.layer_traits.specs.Sleeping.{joined}
 use Rattle.layer_traits.specs.BufferBlocks.{may_join, is_first}
 use Rattle.layer_traits.proofs.CountLemmas.{same_tid_sym, count_append, count_front, in_counted, not_counted, count_behind}
-use Rattle.layer_traits.proofs.ListsLemmas.{count_without}
-use Rattle.cpu.specs.Table.Blocks.{Buffer, Name, AcqQ, Enter, TryPut, TryTake, Shut, WaitOn, SigRecv, SigSend, RelQ, Pend, TakeAll, front_stands_in}
+use Rattle.layer_traits.proofs.ListsLemmas.{count_without, at_wait_channel, wait_channel_here}
+use Rattle.cpu.specs.Table.Blocks.{Buffer, Name, AcqQ, Enter, TryPut, TryTake, Shut, WaitOn, SigRecv, SigSend, RelQ, front_stands_in}
 use Rattle.cpu.specs.Table.Edits.{can_put, can_take, may_put, may_take, due_sender, due_receiver, without_any}
 use Rattle.cpu.specs.Table.Edits.{acquired, line_of, entered, put, taken, shut, waiting, released, edited_buffer, answer_of_acquire, answer_of_buffer}
 use Rattle.cpu.specs.Table.Setups.{Setup, home_of}
 use Rattle.cpu.specs.Wakeups.Order.{Progress, Begins, HasEntered, WasRefused, Owes, progress_after, receivers_signalled, senders_signalled, MayEdit}
 use Rattle.cpu.proofs.Wakeups.Lists.{refuted, none_is_not, first_is}
-use Rattle.cpu.proofs.Wakeups.Posts.{Post, Home, InHand, IsPending, AtLock, AtWait, GotIt, Trying, Failed, Waiting, Owing, Visit, Outside, In}
-use Rattle.cpu.proofs.Wakeups.Posts.{is_buffer, is_side, is_lock, is_wait, is_asleep, is_inside, is_starting, is_lined, InStep}
+use Rattle.cpu.proofs.Wakeups.Posts.{Waiting, Visit, Outside, In}
+use Rattle.cpu.proofs.Wakeups.Posts.{is_buffer, sleeps_in, sleeps_at, is_inside, is_starting, is_lined, InStep}
 use Rattle.cpu.proofs.Wakeups.Posts.{is_caller, waiters_of, post_by, post_woken, post_moved, next_visit, visit_moved, marked}
 
-pub record Pair (b : BufId) (u : Tid) (k : Buffer) (g : Progress) (visit : Visit) (post : Post) : Type 0 where
+pub record Pair (b : BufId) (u : Tid) (k : Buffer) (g : Progress) (visit : Visit) (post : Where) : Type 0 where
   -- who owns the lock is inside and awake, and the owner's progress is what its visit says
-  pub owner : k.busy ≡ Some u → (is_inside b visit ≡ true) × InStep visit g × (is_lock b post ≡ false)
+  pub owner : k.busy ≡ Some u → (is_inside b visit ≡ true) × InStep visit g × (sleeps_in b wait_list.Sleepers post ≡ false)
   -- who is inside, and does not sleep at the lock, owns it
-  pub inside : is_inside b visit ≡ true → is_lock b post ≡ false → k.busy ≡ Some u
+  pub inside : is_inside b visit ≡ true → sleeps_in b wait_list.Sleepers post ≡ false → k.busy ≡ Some u
   -- who sleeps at the lock has just asked for it
-  pub starts : is_lock b post ≡ true → is_starting b visit ≡ true
-  pub sleepers : count_in u k.sleepers ≡ marked u (is_lock b post)
-  pub senders : count_in u k.waiting_senders ≡ marked u (is_wait b Senders post)
-  pub receivers : count_in u k.waiting_receivers ≡ marked u (is_wait b Receivers post)
+  pub starts : sleeps_in b wait_list.Sleepers post ≡ true → is_starting b visit ≡ true
+  pub sleepers : count_in u k.sleepers ≡ marked u (sleeps_in b wait_list.Sleepers post)
+  pub senders : count_in u k.waiting_senders ≡ marked u (sleeps_in b wait_list.Senders post)
+  pub receivers : count_in u k.waiting_receivers ≡ marked u (sleeps_in b wait_list.Receivers post)
   pub send_line : count_in u k.send_line ≡ marked u (is_lined b Senders visit)
   pub receive_line : count_in u k.receive_line ≡ marked u (is_lined b Receivers visit)
 
@@ -66,12 +70,6 @@ marked_most u m = by_test (nat_lt u.0 THREADS && m)
     by_test : (b : Bool) → one_if b ≤ 1
     by_test true = omega arith
     by_test false = omega arith
-
--- a list whose threads bear a mark, after a section that put thread u nowhere: who was woken is gone, all others stand as they stood
-kept_list : (u : Tid) (list now : List Tid) (m n w : Bool) → count_in u list ≡ marked u m → count_in u now ≡ (if w then 0 else count_in u list)
-    → n ≡ (if w then false else m) → count_in u now ≡ marked u n
-kept_list u list now m n true was is mark = is ∙ sym (marked_none u n mark)
-kept_list u list now m n false was is mark = is ∙ was ∙ ap (marked u) (sym mark)
 
 -- a list that thread u has joined
 pub grown_list : (u : Tid) (list : List Tid) → count_in u list ≡ 0 → count_in u (joined u list) ≡ marked u true
@@ -143,88 +141,21 @@ pub buffer_true : (b d : BufId) → is_buffer b d ≡ true → b ≡ d
 buffer_true b d same = ap buffer_numbered (eqb-true b.0 d.0 same)
 
 -- a woken thread sleeps nowhere
-pub woken_no_lock : (b : BufId) (here : Bool) (c : CpuId) → is_lock b (post_by here c) ≡ false
-woken_no_lock b true c = refl
-woken_no_lock b false c = refl
+pub woken_awake : (b : BufId) (list : WaitList) (here : Bool) (c : CpuId) → sleeps_in b list (post_by here c) ≡ false
+woken_awake b list true c = refl
+woken_awake b list false c = refl
 
-pub woken_no_wait : (b : BufId) (side : Side) (here : Bool) (c : CpuId) → is_wait b side (post_by here c) ≡ false
-woken_no_wait b side true c = refl
-woken_no_wait b side false c = refl
+-- whoever sleeps in a list of the buffer sleeps there, and in no other list
+pub sleeps_here : (b : BufId) (list : WaitList) → sleeps_in b list (Asleep (At (AtBuffer b) list)) ≡ true
+sleeps_here b list = wait_channel_here (AtBuffer b) list
 
--- whoever sleeps at the lock waits at no buffer
-lock_no_wait : (b : BufId) (side : Side) (x : Post) → is_lock b x ≡ true → is_wait b side x ≡ false
-lock_no_wait b side (AtLock d) on = refl
-lock_no_wait b side Home on = refl
-lock_no_wait b side (InHand c) on = refl
-lock_no_wait b side IsPending on = refl
-lock_no_wait b side (AtWait d other) on = absurd (cc on)
+one_list : (b : BufId) (list other : WaitList) (x : Where) → same_list list other ≡ false → sleeps_in b list x ≡ true → sleeps_in b other x ≡ false
+one_list b list other x apart on =
+    ap (is_at (AtBuffer b) other) (at_wait_channel (AtBuffer b) list (wait_channel_of x) on) ∙ and_right (is_buffer b b) (same_list list other) apart
 
-wait_no_lock : (b : BufId) (side : Side) (x : Post) → is_wait b side x ≡ true → is_lock b x ≡ false
-wait_no_lock b side (AtWait d other) on = refl
-wait_no_lock b side Home on = refl
-wait_no_lock b side (InHand c) on = refl
-wait_no_lock b side IsPending on = refl
-wait_no_lock b side (AtLock d) on = absurd (cc on)
-
-no_other_side : (p q : Side) → is_side p q ≡ false → (x : Side) → is_side p x ≡ true → is_side q x ≡ false
-no_other_side Receivers Senders off Receivers on = refl
-no_other_side Senders Receivers off Senders on = refl
-no_other_side Receivers Receivers off x on = absurd (cc off)
-no_other_side Senders Senders off x on = absurd (cc off)
-no_other_side Receivers Senders off Senders on = absurd (cc on)
-no_other_side Senders Receivers off Receivers on = absurd (cc on)
-
-wait_one_side : (b : BufId) (p q : Side) (x : Post) → is_side p q ≡ false → is_wait b p x ≡ true → is_wait b q x ≡ false
-wait_one_side b p q (AtWait d other) off on =
-    let parts = and_parts (is_buffer b d) (is_side p other) on in
-    false_from_ne_true (is_buffer b d && is_side q other) (λ e. refuted (no_other_side p q off other parts.1) (and_parts (is_buffer b d) (is_side q other) e).1)
-wait_one_side b p q Home off on = refl
-wait_one_side b p q (InHand c) off on = refl
-wait_one_side b p q IsPending off on = refl
-wait_one_side b p q (AtLock d) off on = refl
-
-pub lock_asleep : (b : BufId) (x : Post) → is_lock b x ≡ true → is_asleep x ≡ true
-lock_asleep b (AtLock d) on = refl
-lock_asleep b Home on = absurd (cc on)
-lock_asleep b (InHand c) on = absurd (cc on)
-lock_asleep b IsPending on = absurd (cc on)
-lock_asleep b (AtWait d other) on = absurd (cc on)
-
-pub wait_asleep : (b : BufId) (side : Side) (x : Post) → is_wait b side x ≡ true → is_asleep x ≡ true
-wait_asleep b side (AtWait d other) on = refl
-wait_asleep b side Home on = absurd (cc on)
-wait_asleep b side (InHand c) on = absurd (cc on)
-wait_asleep b side IsPending on = absurd (cc on)
-wait_asleep b side (AtLock d) on = absurd (cc on)
-
--- The thread sleeps at this buffer.
-abbrev pub sleeps_at : BufId → Post → Bool
-sleeps_at b (AtLock d) = is_buffer b d
-sleeps_at b (AtWait d side) = is_buffer b d
-sleeps_at b Home = false
-sleeps_at b (InHand c) = false
-sleeps_at b IsPending = false
-
-lock_sleeps : (b : BufId) (x : Post) → is_lock b x ≡ true → sleeps_at b x ≡ true
-lock_sleeps b (AtLock d) on = on
-lock_sleeps b Home on = absurd (cc on)
-lock_sleeps b (InHand c) on = absurd (cc on)
-lock_sleeps b IsPending on = absurd (cc on)
-lock_sleeps b (AtWait d other) on = absurd (cc on)
-
-wait_sleeps : (b : BufId) (side : Side) (x : Post) → is_wait b side x ≡ true → sleeps_at b x ≡ true
-wait_sleeps b side (AtWait d other) on = (and_parts (is_buffer b d) (is_side side other) on).0
-wait_sleeps b side Home on = absurd (cc on)
-wait_sleeps b side (InHand c) on = absurd (cc on)
-wait_sleeps b side IsPending on = absurd (cc on)
-wait_sleeps b side (AtLock d) on = absurd (cc on)
-
-pub sleeps_asleep : (b : BufId) (x : Post) → sleeps_at b x ≡ true → is_asleep x ≡ true
-sleeps_asleep b (AtLock d) on = refl
-sleeps_asleep b (AtWait d side) on = refl
-sleeps_asleep b Home on = absurd (cc on)
-sleeps_asleep b (InHand c) on = absurd (cc on)
-sleeps_asleep b IsPending on = absurd (cc on)
+list_sleeps : (b : BufId) (list : WaitList) (x : Where) → sleeps_in b list x ≡ true → sleeps_at b x ≡ true
+list_sleeps b list (Asleep (At lock other)) on = (and_parts (same_lock lock (AtBuffer b)) (same_list other list) on).0
+list_sleeps b list x on = absurd (cc on)
 
 acquire_wakes_none : (o : Option Tid) → (answer_of_acquire o).woke ≡ None
 acquire_wakes_none None = refl
@@ -234,46 +165,41 @@ pub thread_some : (u : Tid) (o : Option Tid) → is_thread u o ≡ true → o �
 thread_some u None is = absurd (cc is)
 thread_some u (Some t) is = ap Some (same_tid_true t u is)
 
-module _ (b : BufId) (u : Tid) (k : Buffer) (g : Progress) (visit : Visit) (post : Post) (pair : Pair b u k g visit post) where
-  pub first_sleeps : is_thread u (first k.sleepers) ≡ true → (nat_lt u.0 THREADS ≡ true) × (is_lock b post ≡ true)
-  first_sleeps is = marked_some u (is_lock b post) (subst (λ n. 0 < n) pair.sleepers (front_counted u k.sleepers is))
+module _ (b : BufId) (u : Tid) (k : Buffer) (g : Progress) (visit : Visit) (post : Where) (pair : Pair b u k g visit post) where
+  pub first_sleeps : is_thread u (first k.sleepers) ≡ true → (nat_lt u.0 THREADS ≡ true) × (sleeps_in b wait_list.Sleepers post ≡ true)
+  first_sleeps is = marked_some u (sleeps_in b wait_list.Sleepers post) (subst (λ n. 0 < n) pair.sleepers (front_counted u k.sleepers is))
 
-  pub due_sends : is_thread u (due_sender k) ≡ true → (nat_lt u.0 THREADS ≡ true) × (is_wait b Senders post ≡ true)
-  due_sends is = marked_some u (is_wait b Senders post) (subst (λ n. 0 < n) pair.senders (woken_waits u k.send_line k.waiting_senders (can_put k) is))
+  pub due_sends : is_thread u (due_sender k) ≡ true → (nat_lt u.0 THREADS ≡ true) × (sleeps_in b wait_list.Senders post ≡ true)
+  due_sends is = marked_some u (sleeps_in b wait_list.Senders post) (subst (λ n. 0 < n) pair.senders (woken_waits u k.send_line k.waiting_senders (can_put k) is))
 
-  pub due_receives : is_thread u (due_receiver k) ≡ true → (nat_lt u.0 THREADS ≡ true) × (is_wait b Receivers post ≡ true)
+  pub due_receives : is_thread u (due_receiver k) ≡ true → (nat_lt u.0 THREADS ≡ true) × (sleeps_in b wait_list.Receivers post ≡ true)
   due_receives is =
-      marked_some u (is_wait b Receivers post) (subst (λ n. 0 < n) pair.receivers (woken_waits u k.receive_line k.waiting_receivers (can_take k) is))
+      marked_some u (sleeps_in b wait_list.Receivers post) (subst (λ n. 0 < n) pair.receivers (woken_waits u k.receive_line k.waiting_receivers (can_take k) is))
 
   -- whoever is woken sleeps at the buffer, and its number is a thread's
   pub woken_sleeps : (name : Name) → is_thread u (answer_of_buffer name k).woke ≡ true → (nat_lt u.0 THREADS ≡ true) × (sleeps_at b post ≡ true)
   woken_sleeps (AcqQ t) is = refuted (ap (is_thread u) (acquire_wakes_none k.busy)) is
-  woken_sleeps (Enter t side) is = absurd (cc is)
-  woken_sleeps (TryPut t m) is = absurd (cc is)
-  woken_sleeps (TryTake t) is = absurd (cc is)
-  woken_sleeps (Shut t) is = absurd (cc is)
-  woken_sleeps (WaitOn t side) is = let at = first_sleeps is in (at.0, lock_sleeps b post at.1)
-  woken_sleeps (SigRecv t) is = let at = due_receives is in (at.0, wait_sleeps b Receivers post at.1)
-  woken_sleeps (SigSend t) is = let at = due_sends is in (at.0, wait_sleeps b Senders post at.1)
-  woken_sleeps (RelQ t) is = let at = first_sleeps is in (at.0, lock_sleeps b post at.1)
-  woken_sleeps (Pend s) is = absurd (cc is)
-  woken_sleeps TakeAll is = absurd (cc is)
+  woken_sleeps (WaitOn t side) is = let at = first_sleeps is in (at.0, list_sleeps b wait_list.Sleepers post at.1)
+  woken_sleeps (SigRecv t) is = let at = due_receives is in (at.0, list_sleeps b wait_list.Receivers post at.1)
+  woken_sleeps (SigSend t) is = let at = due_sends is in (at.0, list_sleeps b wait_list.Senders post at.1)
+  woken_sleeps (RelQ t) is = let at = first_sleeps is in (at.0, list_sleeps b wait_list.Sleepers post at.1)
+  woken_sleeps name is = absurd (cc is)
 
 -- A section of another thread on the buffer.
 
 start_inside : (b : BufId) (visit : Visit) → is_starting b visit ≡ true → (is_inside b visit ≡ true) × InStep visit Begins
 start_inside b Outside on = absurd (cc on)
-start_inside b (In d GotIt) on = (on, refl)
-start_inside b (In d (Trying side)) on = (on, tt)
-start_inside b (In d (Failed side)) on = absurd (cc (and_parts (is_buffer b d) false on).1)
-start_inside b (In d (Waiting side)) on = absurd (cc (and_parts (is_buffer b d) false on).1)
-start_inside b (In d (Owing r s)) on = absurd (cc (and_parts (is_buffer b d) false on).1)
+start_inside b (In d Begins) on = (on, refl)
+start_inside b (In d (HasEntered side)) on = (on, tt)
+start_inside b (In d (WasRefused side)) on = absurd (cc (and_parts (is_buffer b d) false on).1)
+start_inside b (Waiting d side) on = absurd (cc (and_parts (is_buffer b d) false on).1)
+start_inside b (In d (Owes r s)) on = absurd (cc (and_parts (is_buffer b d) false on).1)
 
 -- another thread owns the lock
 not_mine : {A : Type 0} (u t : Tid) (o : Option Tid) → o ≡ Some t → same_tid t u ≡ false → o ≡ Some u → A
 not_mine u t o owner other mine = refuted other (subst (λ x. same_tid t x ≡ true) (same_Some t u (sym owner ∙ mine)) (same_tid_self t))
 
-module _ (setup : Setup) (c : CpuId) (b : BufId) (u t : Tid) (other : same_tid t u ≡ false) (visit : Visit) (post : Post) where
+module _ (setup : Setup) (c : CpuId) (b : BufId) (u t : Tid) (other : same_tid t u ≡ false) (visit : Visit) (post : Where) where
   other_acquire : (k : Buffer) (g : Progress) (o : Option Tid) → k.busy ≡ o → Pair b u k g visit post → Pair b u (acquired t o k) g visit post
   other_acquire k g None is pair = record {
     owner = λ e. not_mine u t (Some t) refl other e;
@@ -368,20 +294,20 @@ module _ (setup : Setup) (c : CpuId) (b : BufId) (u t : Tid) (other : same_tid t
   other_release k g owner pair = by_test (is_thread u (first k.sleepers)) refl
     where
       most : count_in u k.sleepers ≤ 1
-      most = subst (λ n. n ≤ 1) (sym pair.sleepers) (marked_most u (is_lock b post))
+      most = subst (λ n. n ≤ 1) (sym pair.sleepers) (marked_most u (sleeps_in b wait_list.Sleepers post))
 
       by_test : (w : Bool) → is_thread u (first k.sleepers) ≡ w → Pair b u (released k) Begins visit (if w then post_woken setup c u else post)
       by_test true is =
           let on = (first_sleeps b u k g visit post pair is).1 in
-          let no_lock = woken_no_lock b (same_cpu (home_of setup u) c) c in
+          let no_lock = woken_awake b wait_list.Sleepers (same_cpu (home_of setup u) c) c in
           let start = start_inside b visit (pair.starts on) in
           record {
             owner = λ e. (start.0, start.1, no_lock);
             inside = λ ins awake. thread_some u (first k.sleepers) is;
             starts = λ now. refuted no_lock now;
             sleepers = first_left u k.sleepers most ∙ ap (λ x. if x then 0 else count_in u k.sleepers) is ∙ sym (marked_none u _ no_lock);
-            senders = pair.senders ∙ ap (marked u) (lock_no_wait b Senders post on ∙ sym (woken_no_wait b Senders (same_cpu (home_of setup u) c) c));
-            receivers = pair.receivers ∙ ap (marked u) (lock_no_wait b Receivers post on ∙ sym (woken_no_wait b Receivers (same_cpu (home_of setup u) c) c));
+            senders = pair.senders ∙ ap (marked u) (one_list b wait_list.Sleepers wait_list.Senders post refl on ∙ sym (woken_awake b wait_list.Senders (same_cpu (home_of setup u) c) c));
+            receivers = pair.receivers ∙ ap (marked u) (one_list b wait_list.Sleepers wait_list.Receivers post refl on ∙ sym (woken_awake b wait_list.Receivers (same_cpu (home_of setup u) c) c));
             send_line = pair.send_line;
             receive_line = pair.receive_line;
           }
@@ -430,17 +356,17 @@ module _ (setup : Setup) (c : CpuId) (b : BufId) (u t : Tid) (other : same_tid t
       by_test : (w : Bool) → is_thread u (due_receiver k) ≡ w → Pair b u (edited_buffer (SigRecv t) k) h visit (if w then post_woken setup c u else post)
       by_test true is =
           let on = (due_receives b u k g visit post pair is).1 in
-          let off = wait_no_lock b Receivers post on in
-          let no_lock = woken_no_lock b (same_cpu (home_of setup u) c) c in
+          let off = one_list b wait_list.Receivers wait_list.Sleepers post refl on in
+          let no_lock = woken_awake b wait_list.Sleepers (same_cpu (home_of setup u) c) c in
           record {
             owner = λ e. not_mine u t k.busy owner other e;
             inside = λ ins awake. pair.inside ins off;
             starts = λ now. refuted no_lock now;
             sleepers = pair.sleepers ∙ ap (marked u) (off ∙ sym no_lock);
             senders =
-                pair.senders ∙ ap (marked u) (wait_one_side b Receivers Senders post refl on ∙ sym (woken_no_wait b Senders (same_cpu (home_of setup u) c) c));
+                pair.senders ∙ ap (marked u) (one_list b wait_list.Receivers wait_list.Senders post refl on ∙ sym (woken_awake b wait_list.Senders (same_cpu (home_of setup u) c) c));
             receivers = signal_left u (due_receiver k) k.waiting_receivers ∙ ap (λ x. if x then 0 else count_in u k.waiting_receivers) is
-                ∙ sym (marked_none u _ (woken_no_wait b Receivers (same_cpu (home_of setup u) c) c));
+                ∙ sym (marked_none u _ (woken_awake b wait_list.Receivers (same_cpu (home_of setup u) c) c));
             send_line = pair.send_line;
             receive_line = pair.receive_line;
           }
@@ -462,17 +388,17 @@ module _ (setup : Setup) (c : CpuId) (b : BufId) (u t : Tid) (other : same_tid t
       by_test : (w : Bool) → is_thread u (due_sender k) ≡ w → Pair b u (edited_buffer (SigSend t) k) h visit (if w then post_woken setup c u else post)
       by_test true is =
           let on = (due_sends b u k g visit post pair is).1 in
-          let off = wait_no_lock b Senders post on in
-          let no_lock = woken_no_lock b (same_cpu (home_of setup u) c) c in
+          let off = one_list b wait_list.Senders wait_list.Sleepers post refl on in
+          let no_lock = woken_awake b wait_list.Sleepers (same_cpu (home_of setup u) c) c in
           record {
             owner = λ e. not_mine u t k.busy owner other e;
             inside = λ ins awake. pair.inside ins off;
             starts = λ now. refuted no_lock now;
             sleepers = pair.sleepers ∙ ap (marked u) (off ∙ sym no_lock);
             senders = signal_left u (due_sender k) k.waiting_senders ∙ ap (λ x. if x then 0 else count_in u k.waiting_senders) is
-                ∙ sym (marked_none u _ (woken_no_wait b Senders (same_cpu (home_of setup u) c) c));
-            receivers = pair.receivers ∙ ap (marked u) (wait_one_side b Senders Receivers post refl on
-                ∙ sym (woken_no_wait b Receivers (same_cpu (home_of setup u) c) c));
+                ∙ sym (marked_none u _ (woken_awake b wait_list.Senders (same_cpu (home_of setup u) c) c));
+            receivers = pair.receivers ∙ ap (marked u) (one_list b wait_list.Senders wait_list.Receivers post refl on
+                ∙ sym (woken_awake b wait_list.Receivers (same_cpu (home_of setup u) c) c));
             send_line = pair.send_line;
             receive_line = pair.receive_line;
           }
@@ -487,12 +413,12 @@ module _ (setup : Setup) (c : CpuId) (b : BufId) (u t : Tid) (other : same_tid t
         receive_line = pair.receive_line;
       }
 
-by_acquire : (setup : Setup) (c : CpuId) (u : Tid) (o : Option Tid) (x : Post)
+by_acquire : (setup : Setup) (c : CpuId) (u : Tid) (o : Option Tid) (x : Where)
     → (if is_thread u (answer_of_acquire o).woke then post_woken setup c u else x) ≡ x
 by_acquire setup c u None x = refl
 by_acquire setup c u (Some owner) x = refl
 
-other_section : (setup : Setup) (c : CpuId) (b : BufId) (u : Tid) (name : Name) (k : Buffer) (g : Progress) (visit : Visit) (post : Post)
+other_section : (setup : Setup) (c : CpuId) (b : BufId) (u : Tid) (name : Name) (k : Buffer) (g : Progress) (visit : Visit) (post : Where)
     → is_caller u name ≡ false → MayEdit name k g → Pair b u k g visit post
     → Pair b u (edited_buffer name k) (progress_after name k g) visit (if is_thread u (answer_of_buffer name k).woke then post_woken setup c u else post)
 other_section setup c b u (AcqQ t) k g visit post other may pair =
@@ -507,16 +433,15 @@ other_section setup c b u (WaitOn t side) k g visit post other may pair = other_
 other_section setup c b u (SigRecv t) k g visit post other may pair = other_sig_recv setup c b u t other visit post k g (receivers_signalled g) may.0 pair
 other_section setup c b u (SigSend t) k g visit post other may pair = other_sig_send setup c b u t other visit post k g (senders_signalled g) may.0 pair
 other_section setup c b u (RelQ t) k g visit post other may pair = other_release setup c b u t other visit post k g may.0 pair
-other_section setup c b u (Pend s) k g visit post other may pair = absurd may
-other_section setup c b u TakeAll k g visit post other may pair = absurd may
+other_section setup c b u name k g visit post other may pair = absurd may
 
-post_of_other : (setup : Setup) (c : CpuId) (b : BufId) (u : Tid) (name : Name) (slept : Bool) (woke : Option Tid) (x : Post) → is_caller u name ≡ false
+post_of_other : (setup : Setup) (c : CpuId) (b : BufId) (u : Tid) (name : Name) (slept : Bool) (woke : Option Tid) (x : Where) → is_caller u name ≡ false
     → post_moved setup c b u name slept woke x ≡ (if is_thread u woke then post_woken setup c u else x)
 post_of_other setup c b u name slept woke x other =
     ap (λ d. if is_thread u woke then post_woken setup c u else (if d then waiters_of b name else x)) (and_right slept (is_caller u name) other)
 
 -- a section of another thread on the buffer keeps the pair
-pub other_pair : (setup : Setup) (c : CpuId) (b : BufId) (u : Tid) (name : Name) (k : Buffer) (g : Progress) (visit : Visit) (post : Post)
+pub other_pair : (setup : Setup) (c : CpuId) (b : BufId) (u : Tid) (name : Name) (k : Buffer) (g : Progress) (visit : Visit) (post : Where)
     → is_caller u name ≡ false → MayEdit name k g → Pair b u k g visit post
     → Pair b u (edited_buffer name k) (progress_after name k g) (visit_moved b u name k visit)
     (post_moved setup c b u name (answer_of_buffer name k).slept (answer_of_buffer name k).woke post)

@@ -12,28 +12,42 @@ use Rattle.event_log.specs.declared.ids.LockId.TheVariants.{Pending, Buffer as A
 use Rattle.event_log.specs.History.{same_cpu, same_lock}
 use Rattle.event_log.specs.Sections.{Section}
 use Rattle.thread_blocks.specs.Queues.{same_tid}
-use Rattle.layer_traits.specs.Places.{is_thread}
-use Rattle.cpu.specs.Table.Blocks.{Buffer, Block, OfBuffer, OfPending, Name, AcqQ, Enter, TryPut, TryTake, Shut, WaitOn, SigRecv, SigSend, RelQ, Pend, TakeAll}
+use Rattle.layer_traits.specs.declared.locked.Side.{Side}
+use Rattle.layer_traits.specs.declared.locked.Side.TheVariants.{Receivers, Senders}
+use Rattle.layer_traits.specs.declared.moves.WaitList.{WaitList}
+use Rattle.layer_traits.specs.declared.moves.WaitList.TheVariants as wait_list
+use Rattle.layer_traits.specs.Places.{Where, Home, Hand, Pend as IsPending, Asleep, At, is_thread}
+use Rattle.cpu.specs.Table.Blocks.{Buffer, Block, OfBuffer, OfPending, Name, WaitOn, Pend, TakeAll}
 use Rattle.cpu.specs.Table.Edits.{edited, answer_of_buffer}
 use Rattle.cpu.specs.Table.Setups.{Setup, home_of, opening_buffer}
 use Rattle.cpu.specs.Wakeups.Order.{block_of}
-use Rattle.cpu.proofs.Wakeups.Posts.{Post, Home, InHand, IsPending, AtLock, AtWait, Waiting, Visit, Outside, In}
+use Rattle.cpu.proofs.Wakeups.Posts.{Waiting, Visit, Outside, list_of}
 use Rattle.cpu.proofs.Wakeups.Posts.{is_caller, waiters_of, post_by, post_woken, post_drained, post_pending, post_buffer, post, next_visit, visit_buffer, visit}
 use Rattle.cpu.proofs.Wakeups.Posts.{MayComeTo, MayComeAt}
 use Rattle.cpu.proofs.Wakeups.Called.{CallersAre, callers_are, is_the_caller}
 
--- what a post says of the machine and of the visit
-abbrev pub IsPlaced : Setup → Visit → Post → Type 0
+-- what a waiting list says of the visit of a thread that sleeps in it
+abbrev pub IsListed : BufId → WaitList → Visit → Type 0
+IsListed b wait_list.Sleepers visit = Unit {0}
+IsListed b wait_list.Receivers visit = visit ≡ Waiting b Receivers
+IsListed b wait_list.Senders visit = visit ≡ Waiting b Senders
+
+pub listed_side : (b : BufId) (side : Side) (visit : Visit) → IsListed b (list_of side) visit → visit ≡ Waiting b side
+listed_side b Receivers visit listed = listed
+listed_side b Senders visit listed = listed
+
+-- what a place says of the machine and of the visit
+abbrev pub IsPlaced : Setup → Visit → Where → Type 0
 IsPlaced setup visit Home = Unit {0}
-IsPlaced setup visit (InHand c) = c.0 < setup.cpus
-IsPlaced setup visit IsPending = Unit {0}
-IsPlaced setup visit (AtLock b) = b.0 < length setup.caps
-IsPlaced setup visit (AtWait b side) = (b.0 < length setup.caps) × (visit ≡ In b (Waiting side))
+IsPlaced setup visit (Hand c) = c.0 < setup.cpus
+IsPlaced setup visit (IsPending q) = Unit {0}
+IsPlaced setup visit (Asleep (At (AtBuffer b) list)) = (b.0 < length setup.caps) × IsListed b list visit
+IsPlaced setup visit (Asleep (At (Pending d) list)) = ⊥
 
 -- who is inside a call has a home
 abbrev pub HasHome : Setup → Tid → Visit → Type 0
 HasHome setup u Outside = Unit {0}
-HasHome setup u (In b call_phase) = nat_lt u.0 (length setup.homes) ≡ true
+HasHome setup u visit = nat_lt u.0 (length setup.homes) ≡ true
 
 pub record Placed (setup : Setup) (past : List (Section Name)) : Type 0 where
   pub posts : (u : Tid) → IsPlaced setup (visit setup u past) (post setup u past)
@@ -79,21 +93,13 @@ placed_by setup visit false c within = within
 -- only those that ask for the lock or wait are put to sleep
 placed_waiters : (setup : Setup) (d : BufId) (name : Name) (k : Buffer) (visit : Visit) → d.0 < length setup.caps
     → IsPlaced setup (next_visit d name k visit) (waiters_of d name)
-placed_waiters setup d (AcqQ t) k visit within = within
-placed_waiters setup d (Enter t side) k visit within = within
-placed_waiters setup d (TryPut t m) k visit within = within
-placed_waiters setup d (TryTake t) k visit within = within
-placed_waiters setup d (Shut t) k visit within = within
-placed_waiters setup d (WaitOn t side) k visit within = (within, refl)
-placed_waiters setup d (SigRecv t) k visit within = within
-placed_waiters setup d (SigSend t) k visit within = within
-placed_waiters setup d (RelQ t) k visit within = within
-placed_waiters setup d (Pend s) k visit within = within
-placed_waiters setup d TakeAll k visit within = within
+placed_waiters setup d (WaitOn t Receivers) k visit within = (within, refl)
+placed_waiters setup d (WaitOn t Senders) k visit within = (within, refl)
+placed_waiters setup d name k visit within = (within, tt)
 
 has_home : (setup : Setup) (u : Tid) (visit : Visit) → nat_lt u.0 (length setup.homes) ≡ true → HasHome setup u visit
 has_home setup u Outside known = tt
-has_home setup u (In b call_phase) known = known
+has_home setup u visit known = known
 
 module _ (setup : Setup) (past : List (Section Name)) (placed : Placed setup past) (c : CpuId) (within : c.0 < setup.cpus)
     (d : BufId) (name : Name) (callers : CallersAre setup past c d name) where
@@ -126,18 +132,15 @@ module _ (setup : Setup) (past : List (Section Name)) (placed : Placed setup pas
       by_test false own = placed.callers u
 
 module _ (setup : Setup) (past : List (Section Name)) (placed : Placed setup past) (c d : CpuId) where
-  placed_drained : (visit : Visit) (x : Post) → IsPlaced setup visit x → IsPlaced setup visit (post_drained x)
-  placed_drained visit Home at = tt
-  placed_drained visit (InHand e) at = at
-  placed_drained visit IsPending at = tt
-  placed_drained visit (AtLock b) at = at
-  placed_drained visit (AtWait b side) at = at
+  placed_drained : (visit : Visit) (x : Where) → IsPlaced setup visit x → IsPlaced setup visit (post_drained x)
+  placed_drained visit (IsPending q) at = tt
+  placed_drained visit x at = at
 
   posts_pending : (name : Name) → MayComeTo setup past c d name → (u : Tid)
       → IsPlaced setup (visit setup u past) (post_pending setup d u name (post setup u past))
   posts_pending (Pend s) may u = by_test (same_tid s u)
     where
-      by_test : (mine : Bool) → IsPlaced setup (visit setup u past) (if mine then IsPending else post setup u past)
+      by_test : (mine : Bool) → IsPlaced setup (visit setup u past) (if mine then IsPending d else post setup u past)
       by_test true = tt
       by_test false = placed.posts u
   posts_pending TakeAll may u = by_test (same_cpu (home_of setup u) d)

@@ -7,37 +7,26 @@ use Rattle.event_log.specs.declared.ids.BufId.{BufId}
 use Rattle.event_log.specs.declared.ids.LockId.{LockId}
 use Rattle.event_log.specs.declared.ids.LockId.TheVariants.{Pending, Buffer as AtBuffer}
 use Rattle.event_log.specs.declared.ids.TheConstants.{THREADS}
-use Rattle.event_log.specs.History.{same_cpu}
+use Rattle.event_log.specs.History.{same_cpu, same_lock}
 use Rattle.event_log.specs.Sections.{Section}
 use Rattle.thread_blocks.specs.Queues.{same_tid}
 use Rattle.layer_traits.specs.declared.locked.Side.{Side}
 use Rattle.layer_traits.specs.declared.locked.Side.TheVariants.{Receivers, Senders}
-use Rattle.layer_traits.specs.Places.{is_thread, one_if}
+use Rattle.layer_traits.specs.declared.moves.WaitList.{WaitList}
+use Rattle.layer_traits.specs.declared.moves.WaitList.TheVariants as wait_list
+use Rattle.layer_traits.specs.ListsAgree.{is_at}
+use Rattle.layer_traits.specs.Places.{Where, Home, Hand, Pend as IsPending, Asleep, At, wait_channel_of, is_thread, one_if}
 use Rattle.cpu.specs.Table.Blocks.{Buffer, Block, OfBuffer, OfPending, Name, AcqQ, Enter, TryPut, TryTake, Shut, WaitOn, SigRecv, SigSend, RelQ, Pend, TakeAll}
-use Rattle.cpu.specs.Table.Edits.{may_put, may_take, answer_of_buffer}
+use Rattle.cpu.specs.Table.Edits.{answer_of_buffer}
 use Rattle.cpu.specs.Table.Setups.{Setup, home_of}
-use Rattle.cpu.specs.Wakeups.Order.{Progress, Begins, WasRefused, Owes, MayTry, block_of}
+use Rattle.cpu.specs.Wakeups.Order.{Progress, Begins, HasEntered, WasRefused, Owes, MayTry, progress_after, block_of}
 
--- where a thread is: at home (it runs, is ready or has ended), in the hand of a CPU, among the pending, or asleep at a buffer
-pub data Post : Type 0 where
-  Home : Post
-  InHand : (cpu : CpuId) → Post
-  IsPending : Post
-  AtLock : (buffer : BufId) → Post
-  AtWait : (buffer : BufId) (side : Side) → Post
-
--- what a thread does inside a call: it has the lock and enters or closes next, tries next, tried in vain, waits, or owes these signals
-pub data CallPhase : Type 0 where
-  GotIt : CallPhase
-  Trying : (side : Side) → CallPhase
-  Failed : (side : Side) → CallPhase
-  Waiting : (side : Side) → CallPhase
-  Owing : (receivers senders : Bool) → CallPhase
-
--- whether a thread is inside a call, as its sections tell, at which buffer, and what it does there
+-- where a thread is in its call, as its sections tell: in none, at a buffer with what it has done there as the owner of the lock, or it waits
+-- on a side of the buffer. One that was woken has entered its line, whatever the new owner has done.
 pub data Visit : Type 0 where
   Outside : Visit
-  In : (buffer : BufId) (call_phase : CallPhase) → Visit
+  In : (buffer : BufId) (progress : Progress) → Visit
+  Waiting : (buffer : BufId) (side : Side) → Visit
 
 abbrev pub is_buffer : BufId → BufId → Bool
 is_buffer b d = b.0 == d.0
@@ -48,72 +37,43 @@ is_side Senders Senders = true
 is_side Receivers Senders = false
 is_side Senders Receivers = false
 
--- Marks of a post.
+-- Marks of a place.
 
-abbrev pub is_home : Post → Bool
-is_home Home = true
-is_home (InHand c) = false
-is_home IsPending = false
-is_home (AtLock b) = false
-is_home (AtWait b side) = false
+-- the waiting list of a side
+abbrev pub list_of : Side → WaitList
+list_of Receivers = wait_list.Receivers
+list_of Senders = wait_list.Senders
 
-abbrev pub is_hand : CpuId → Post → Bool
-is_hand c (InHand d) = same_cpu d c
-is_hand c Home = false
-is_hand c IsPending = false
-is_hand c (AtLock b) = false
-is_hand c (AtWait b side) = false
+-- it sleeps in this list of the buffer
+abbrev pub sleeps_in : BufId → WaitList → Where → Bool
+sleeps_in b list x = is_at (AtBuffer b) list (wait_channel_of x)
 
-abbrev pub is_pending : Post → Bool
-is_pending IsPending = true
-is_pending Home = false
-is_pending (InHand c) = false
-is_pending (AtLock b) = false
-is_pending (AtWait b side) = false
+-- it sleeps at the buffer
+abbrev pub sleeps_at : BufId → Where → Bool
+sleeps_at b (Asleep (At lock list)) = same_lock lock (AtBuffer b)
+sleeps_at b x = false
 
-abbrev pub is_lock : BufId → Post → Bool
-is_lock b (AtLock d) = is_buffer b d
-is_lock b Home = false
-is_lock b (InHand c) = false
-is_lock b IsPending = false
-is_lock b (AtWait d side) = false
-
-abbrev pub is_wait : BufId → Side → Post → Bool
-is_wait b side (AtWait d other) = is_buffer b d && is_side side other
-is_wait b side Home = false
-is_wait b side (InHand c) = false
-is_wait b side IsPending = false
-is_wait b side (AtLock d) = false
-
-abbrev pub is_asleep : Post → Bool
-is_asleep (AtLock d) = true
-is_asleep (AtWait d side) = true
-is_asleep Home = false
-is_asleep (InHand c) = false
-is_asleep IsPending = false
+abbrev pub is_pending : Where → Bool
+is_pending (IsPending q) = true
+is_pending x = false
 
 -- it was woken by another CPU and is not at home yet
-abbrev pub is_moved : Post → Bool
-is_moved (InHand c) = true
-is_moved IsPending = true
-is_moved Home = false
-is_moved (AtLock d) = false
-is_moved (AtWait d side) = false
+abbrev pub is_moved : Where → Bool
+is_moved (Hand c) = true
+is_moved (IsPending q) = true
+is_moved x = false
 
 -- Marks of a visit.
 
 abbrev pub names : BufId → Visit → Bool
 names b Outside = false
-names b (In d call_phase) = is_buffer b d
+names b (In d progress) = is_buffer b d
+names b (Waiting d side) = is_buffer b d
 
 -- it owns the lock, or will own it before it does anything else
 abbrev pub goes_on : Visit → Bool
-goes_on Outside = false
-goes_on (In d GotIt) = true
-goes_on (In d (Trying side)) = true
-goes_on (In d (Failed side)) = true
-goes_on (In d (Owing receivers senders)) = true
-goes_on (In d (Waiting side)) = false
+goes_on (In d progress) = true
+goes_on visit = false
 
 abbrev pub is_inside : BufId → Visit → Bool
 is_inside b visit = names b visit && goes_on visit
@@ -121,11 +81,11 @@ is_inside b visit = names b visit && goes_on visit
 -- what it does first once it has the lock
 abbrev pub starts_here : Visit → Bool
 starts_here Outside = false
-starts_here (In d GotIt) = true
-starts_here (In d (Trying side)) = true
-starts_here (In d (Failed side)) = false
-starts_here (In d (Owing receivers senders)) = false
-starts_here (In d (Waiting side)) = false
+starts_here (In d Begins) = true
+starts_here (In d (HasEntered side)) = true
+starts_here (In d (WasRefused side)) = false
+starts_here (In d (Owes receivers senders)) = false
+starts_here (Waiting d side) = false
 
 abbrev pub is_starting : BufId → Visit → Bool
 is_starting b visit = names b visit && starts_here visit
@@ -133,11 +93,11 @@ is_starting b visit = names b visit && starts_here visit
 -- it stands in the line of this side
 abbrev pub stands : Side → Visit → Bool
 stands side Outside = false
-stands side (In d GotIt) = false
-stands side (In d (Trying other)) = is_side side other
-stands side (In d (Failed other)) = is_side side other
-stands side (In d (Waiting other)) = is_side side other
-stands side (In d (Owing receivers senders)) = false
+stands side (In d Begins) = false
+stands side (In d (HasEntered other)) = is_side side other
+stands side (In d (WasRefused other)) = is_side side other
+stands side (Waiting d other) = is_side side other
+stands side (In d (Owes receivers senders)) = false
 
 abbrev pub is_lined : BufId → Side → Visit → Bool
 is_lined b side visit = names b visit && stands side visit
@@ -145,11 +105,9 @@ is_lined b side visit = names b visit && stands side visit
 -- the owner's progress is what its visit says
 abbrev pub InStep : Visit → Progress → Type 0
 InStep Outside g = Unit {0}
-InStep (In d GotIt) g = g ≡ Begins
-InStep (In d (Trying side)) g = MayTry side g
-InStep (In d (Failed side)) g = g ≡ WasRefused side
-InStep (In d (Waiting side)) g = Unit {0}
-InStep (In d (Owing receivers senders)) g = g ≡ Owes receivers senders
+InStep (In d (HasEntered side)) g = MayTry side g
+InStep (In d progress) g = g ≡ progress
+InStep (Waiting d side) g = Unit {0}
 
 -- The folds.
 
@@ -164,78 +122,70 @@ caller_in (WaitOn t side) = Some t
 caller_in (SigRecv t) = Some t
 caller_in (SigSend t) = Some t
 caller_in (RelQ t) = Some t
-caller_in (Pend s) = None
-caller_in TakeAll = None
+caller_in name = None
 
 abbrev pub is_caller : Tid → Name → Bool
 is_caller u name = is_thread u (caller_in name)
 
 -- where a caller sleeps
-abbrev pub waiters_of : BufId → Name → Post
-waiters_of b (WaitOn t side) = AtWait b side
-waiters_of b name = AtLock b
+abbrev pub list_by : Name → WaitList
+list_by (WaitOn t side) = list_of side
+list_by name = wait_list.Sleepers
 
-abbrev pub post_by : Bool → CpuId → Post
-post_by here c = if here then Home else InHand c
+abbrev pub waiters_of : BufId → Name → Where
+waiters_of b name = Asleep (At (AtBuffer b) (list_by name))
+
+abbrev pub post_by : Bool → CpuId → Where
+post_by here c = if here then Home else Hand c
 
 -- a woken thread is at home at once, or in the hand of the CPU that woke it
-abbrev pub post_woken : Setup → CpuId → Tid → Post
+abbrev pub post_woken : Setup → CpuId → Tid → Where
 post_woken setup c u = post_by (same_cpu (home_of setup u) c) c
 
-abbrev pub post_slept : BufId → Tid → Name → Bool → Post → Post
+abbrev pub post_slept : BufId → Tid → Name → Bool → Where → Where
 post_slept b u name slept x = if slept && is_caller u name then waiters_of b name else x
 
-abbrev pub post_moved : Setup → CpuId → BufId → Tid → Name → Bool → Option Tid → Post → Post
+abbrev pub post_moved : Setup → CpuId → BufId → Tid → Name → Bool → Option Tid → Where → Where
 post_moved setup c b u name slept woke x = if is_thread u woke then post_woken setup c u else post_slept b u name slept x
 
-abbrev pub post_drained : Post → Post
-post_drained IsPending = Home
-post_drained Home = Home
-post_drained (InHand c) = InHand c
-post_drained (AtLock b) = AtLock b
-post_drained (AtWait b side) = AtWait b side
+abbrev pub post_drained : Where → Where
+post_drained (IsPending q) = Home
+post_drained x = x
 
-abbrev pub post_pending : Setup → CpuId → Tid → Name → Post → Post
-post_pending setup d u (Pend s) x = if same_tid s u then IsPending else x
+abbrev pub post_pending : Setup → CpuId → Tid → Name → Where → Where
+post_pending setup d u (Pend s) x = if same_tid s u then IsPending d else x
 post_pending setup d u TakeAll x = if same_cpu (home_of setup u) d then post_drained x else x
 post_pending setup d u name x = x
 
-abbrev pub post_buffer : Setup → CpuId → BufId → Tid → Name → Option Block → Post → Post
+abbrev pub post_buffer : Setup → CpuId → BufId → Tid → Name → Option Block → Where → Where
 post_buffer setup c b u name (Some (OfBuffer k)) x = post_moved setup c b u name (answer_of_buffer name k).slept (answer_of_buffer name k).woke x
 post_buffer setup c b u name (Some (OfPending threads)) x = x
 post_buffer setup c b u name None x = x
 
-abbrev pub post_at : Setup → CpuId → LockId → Tid → Name → Option Block → Post → Post
+abbrev pub post_at : Setup → CpuId → LockId → Tid → Name → Option Block → Where → Where
 post_at setup c (AtBuffer b) u name o x = post_buffer setup c b u name o x
 post_at setup c (Pending d) u name o x = post_pending setup d u name x
 
-abbrev pub post : Setup → Tid → List (Section Name) → Post
+abbrev pub post : Setup → Tid → List (Section Name) → Where
 post setup u [] = Home
 post setup u (s ∷ past) = post_at setup s.cpu s.lock u s.edit (block_of setup s.lock past) (post setup u past)
 
 -- what a caller does after its section
 abbrev pub acquired_visit : BufId → Visit → Visit
-acquired_visit b Outside = In b GotIt
-acquired_visit b (In d (Waiting side)) = In b (Trying side)
+acquired_visit b Outside = In b Begins
+acquired_visit b (Waiting d side) = In b (HasEntered side)
 acquired_visit b (In d other) = In d other
 
-abbrev pub signalled : Side → Visit → Visit
-signalled Receivers (In d (Owing receivers senders)) = In d (Owing false senders)
-signalled Senders (In d (Owing receivers senders)) = In d (Owing receivers false)
-signalled side other = other
+-- a section that keeps the lock is one step of its owner's progress
+abbrev pub owners_visit : BufId → Name → Buffer → Visit → Visit
+owners_visit b name k (In d progress) = In b (progress_after name k progress)
+owners_visit b name k visit = visit
 
 abbrev pub next_visit : BufId → Name → Buffer → Visit → Visit
 next_visit b (AcqQ t) k visit = acquired_visit b visit
-next_visit b (Enter t side) k visit = In b (Trying side)
-next_visit b (TryPut t m) k visit = if may_put t k then In b (Owing true true) else In b (Failed Senders)
-next_visit b (TryTake t) k visit = if may_take t k then In b (Owing true true) else In b (Failed Receivers)
-next_visit b (Shut t) k visit = In b (Owing true true)
-next_visit b (WaitOn t side) k visit = In b (Waiting side)
-next_visit b (SigRecv t) k visit = signalled Receivers visit
-next_visit b (SigSend t) k visit = signalled Senders visit
+next_visit b (WaitOn t side) k visit = Waiting b side
 next_visit b (RelQ t) k visit = Outside
-next_visit b (Pend s) k visit = visit
-next_visit b TakeAll k visit = visit
+next_visit b name k visit = owners_visit b name k visit
 
 abbrev pub visit_moved : BufId → Tid → Name → Buffer → Visit → Visit
 visit_moved b u name k visit = if is_caller u name then next_visit b name k visit else visit
@@ -258,15 +208,15 @@ visit setup u (s ∷ past) = visit_at s.lock u s.edit (block_of setup s.lock pas
 -- the section is the one that is due to its caller
 abbrev pub IsDue : BufId → Name → Visit → Type 0
 IsDue b (AcqQ t) Outside = Unit {0}
-IsDue b (AcqQ t) (In d (Waiting side)) = d ≡ b
-IsDue b (Enter t side) (In d GotIt) = d ≡ b
-IsDue b (Shut t) (In d GotIt) = d ≡ b
-IsDue b (TryPut t m) (In d (Trying Senders)) = d ≡ b
-IsDue b (TryTake t) (In d (Trying Receivers)) = d ≡ b
-IsDue b (WaitOn t side) (In d (Failed other)) = (d ≡ b) × (other ≡ side)
-IsDue b (SigRecv t) (In d (Owing receivers senders)) = d ≡ b
-IsDue b (SigSend t) (In d (Owing receivers senders)) = d ≡ b
-IsDue b (RelQ t) (In d (Owing receivers senders)) = (d ≡ b) × (receivers ≡ false) × (senders ≡ false)
+IsDue b (AcqQ t) (Waiting d side) = d ≡ b
+IsDue b (Enter t side) (In d Begins) = d ≡ b
+IsDue b (Shut t) (In d Begins) = d ≡ b
+IsDue b (TryPut t m) (In d (HasEntered Senders)) = d ≡ b
+IsDue b (TryTake t) (In d (HasEntered Receivers)) = d ≡ b
+IsDue b (WaitOn t side) (In d (WasRefused other)) = (d ≡ b) × (other ≡ side)
+IsDue b (SigRecv t) (In d (Owes receivers senders)) = d ≡ b
+IsDue b (SigSend t) (In d (Owes receivers senders)) = d ≡ b
+IsDue b (RelQ t) (In d (Owes receivers senders)) = (d ≡ b) × (receivers ≡ false) × (senders ≡ false)
 IsDue b name visit = ⊥
 
 -- a thread is at home on a CPU
@@ -274,7 +224,7 @@ abbrev pub is_local : Setup → CpuId → Tid → Bool
 is_local setup c u = same_cpu (home_of setup u) c && nat_lt u.0 (length setup.homes)
 
 -- the caller of a section runs on its CPU, and the section is due to it
-pub record IsCallers (setup : Setup) (c : CpuId) (b : BufId) (name : Name) (t : Tid) (post : Post) (visit : Visit) : Type 0 where
+pub record IsCallers (setup : Setup) (c : CpuId) (b : BufId) (name : Name) (t : Tid) (post : Where) (visit : Visit) : Type 0 where
   pub local : is_local setup c t ≡ true
   pub here : post ≡ Home
   pub due : IsDue b name visit
@@ -284,7 +234,7 @@ MayComeBy setup past c b name None = ⊥
 MayComeBy setup past c b name (Some t) = IsCallers setup c b name t (post setup t past) (visit setup t past)
 
 abbrev pub MayComeTo : Setup → List (Section Name) → CpuId → CpuId → Name → Type 0
-MayComeTo setup past c d (Pend s) = (post setup s past ≡ InHand c) × (home_of setup s ≡ d)
+MayComeTo setup past c d (Pend s) = (post setup s past ≡ Hand c) × (home_of setup s ≡ d)
 MayComeTo setup past c d TakeAll = c ≡ d
 MayComeTo setup past c d name = ⊥
 

@@ -14,7 +14,7 @@ use Rattle.event_log.proofs.Same.{same_cpu_true}
 use Rattle.event_log.proofs.Exclusion.{phase_own, phase_other}
 use Rattle.layer_traits.specs.declared.steps.Step.{Step}
 use Rattle.layer_traits.specs.declared.steps.Step.TheVariants.{Stepped, Halted}
-use Rattle.layer_traits.specs.Places.{is_thread, one_if, count_in}
+use Rattle.layer_traits.specs.Places.{Home, is_thread, one_if, count_in}
 use Rattle.layer_traits.specs.Plans.{is_in_section, at_give}
 use Rattle.layer_traits.specs.Along.{Outcome}
 use Rattle.layer_traits.specs.Passes.{or_else}
@@ -28,7 +28,7 @@ use Rattle.cpu.specs.Wakeups.Order.{block_of}
 use Rattle.cpu.specs.Wakeups.Lost.{SystemsKeepOrder, SystemsLoseNoWakeUp, FreeLocksHaveNoSleepers}
 use Rattle.cpu.proofs.Wakeups.Lists.{refuted}
 use Rattle.cpu.proofs.Wakeups.Ordered.{buffer_awake, order_loses_no_wake_up}
-use Rattle.cpu.proofs.Wakeups.Posts.{Home, is_local, post, visit, MayComeAt}
+use Rattle.cpu.proofs.Wakeups.Posts.{is_local, post, visit, MayComeAt}
 use Rattle.cpu.proofs.Wakeups.Called.{Good, good_none, good_step}
 use Rattle.cpu.proofs.Wakeups.Agreement.{visit_of_call, is_done, seat, Agrees, IsSettled}
 use Rattle.cpu.proofs.Wakeups.CpuStep.{foreign_step, give_ok}
@@ -38,9 +38,8 @@ use Rattle.cpu.proofs.Wakeups.Chosen.{ChoiceOk, choice_ok}
 
 -- an action that ends a section ends one that may come
 abbrev pub IsFair : Setup → List (Action Name) → Action Name → Type 0
-IsFair setup past (Take cpu lock) = Unit {0}
-IsFair setup past (Try cpu lock hit) = Unit {0}
 IsFair setup past (Give cpu lock name) = MayComeAt setup (sections_in past) cpu lock name
+IsFair setup past other = Unit {0}
 
 abbrev pub IsFairLog : Setup → List (Action Name) → Type 0
 IsFairLog setup log = IsLawful (IsFair setup) log
@@ -140,8 +139,7 @@ module _ (setup : Setup) (c : CpuId) (log : List (Action Name)) (fair : IsFairLo
 
   rests_nowhere : {A : Type 0} (now : Phase) (lock : LockId) → is_in_section now ≡ false → lock_in now ≡ Some lock → A
   rests_nowhere Rests lock off at = no_lock at
-  rests_nowhere (WaitsAt there) lock off at = absurd (cc off)
-  rests_nowhere (Holds there) lock off at = absurd (cc off)
+  rests_nowhere other lock off at = absurd (cc off)
 
   pub step_ok : (p : Private) → Ok setup c p log → StepOk setup c log (cpu_step setup c p log)
   step_ok p ok = by_section (is_in_section (phase c log)) refl

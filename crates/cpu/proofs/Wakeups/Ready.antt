@@ -25,7 +25,8 @@ use Rattle.layer_traits.specs.BufferBlocks.{is_first, first_item, items_put, oth
 use Rattle.cpu.specs.Table.Blocks.{Buffer, OfBuffer, Reported, Done, WasClosed, DidShut, NotYet, front, front_stands_in, side_of}
 use Rattle.cpu.specs.Table.Edits.{can_put, can_take, due_receiver, due_sender, entered, put, taken, shut, report_of_put, report_of_take}
 use Rattle.cpu.specs.Table.Edits.{reports, wakes, edited_buffer, answer_of_buffer}
-use Rattle.cpu.specs.Table.Setups.{Setup, Enters, Tries, Signals, Call, Private, thread_at, stands_at, home_threads, open_calls, have_ended}
+use Rattle.layer_traits.specs.declared.call_states.Stage.TheVariants.{Enters, Tries, Signals}
+use Rattle.cpu.specs.Table.Setups.{Setup, Call, Private, thread_at, stands_at, home_threads, open_calls, have_ended}
 use Rattle.cpu.specs.Table.Choice.{Halts, Goes, new_call, with_call, begins, at_instruction, at_call, at_current, at_hand, choice}
 use Rattle.cpu.specs.Table.Choice.{first_signal, second_signal, effected, entry_of, recorded_try}
 use Rattle.cpu.specs.Table.Steps.{Whole, IsReached, block_at, halted_by, steps_by}

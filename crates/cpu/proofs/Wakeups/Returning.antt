@@ -16,7 +16,8 @@ use Rattle.layer_traits.specs.BufferBlocks.{may_join}
 use Rattle.cpu.specs.Table.Blocks.{Buffer, OfBuffer, Name, RelQ, Pend, side_of}
 use Rattle.cpu.specs.Table.Blocks.{Reported, Nothing, Position, Answer}
 use Rattle.cpu.specs.Table.Edits.{edited_buffer, acquired, entered, reports, wakes, answer, answer_of_acquire, answer_of_buffer}
-use Rattle.cpu.specs.Table.Setups.{Setup, Acquires, Enters, Tries, Signals, SignalsOwn, Releases, Returns}
+use Rattle.layer_traits.specs.declared.call_states.Stage.TheVariants.{Idle, Acquires, Enters, Tries, Signals, SignalsOwn, Releases}
+use Rattle.cpu.specs.Table.Setups.{Setup}
 use Rattle.cpu.specs.Table.Setups.{Call, Private, thread_at, home_of, home_threads, have_ended, stands_at}
 use Rattle.cpu.specs.Table.Choice.{section_at, first_signal, second_signal, asked, Goes, choice, with_call, entry_of, effected, recorded}
 use Rattle.cpu.specs.Table.Choice.{woken, guest_after, returned, returned_at, settled, after_section}
@@ -325,7 +326,7 @@ module _ (setup : Setup) (c : CpuId) (t : Tid) where
       → Returned s (n + 3) traced
   releases s n left k call traced none gets =
       let last : Call = record call { stage = Releases } in
-      let gone : Call = record call { stage = Returns } in
+      let gone : Call = record call { stage = Idle } in
       let q = gets.state in
       let asks = asks_for setup c q t last traced gets.inside in
       let told : answer_of_buffer (RelQ t) k ≡ reports Nothing = ap (λ x. wakes (first x)) none in

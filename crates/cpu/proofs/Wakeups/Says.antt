@@ -18,8 +18,10 @@ use Rattle.layer_traits.specs.declared.steps.Reason.TheVariants.{AllEnded, Trace
 use Rattle.layer_traits.specs.Plans.{reply}
 use Rattle.cpu.specs.Table.Blocks.{Name, Reported, Nothing, Position, Done, WasClosed, DidShut, NotYet, Drained, Answer}
 use Rattle.cpu.specs.Table.Edits.{kernel}
-use Rattle.cpu.specs.Table.Setups.{Setup, CallStage, Acquires, Enters, Tries, Waits, AcquiresAgain, Signals, SignalsOwn}
-use Rattle.cpu.specs.Table.Setups.{Releases, Returns, Call, Thread, Private, new_thread, thread_at, with_thread, program_of}
+use Rattle.layer_traits.specs.declared.call_states.Stage.{Stage}
+use Rattle.layer_traits.specs.declared.call_states.Stage.TheVariants.{Idle, Acquires, Enters, Tries, Waits, AcquiresAgain, Signals, SignalsOwn, Releases}
+use Rattle.cpu.specs.Table.Setups.{Setup}
+use Rattle.cpu.specs.Table.Setups.{Call, Thread, Private, new_thread, thread_at, with_thread, program_of}
 use Rattle.cpu.specs.Table.Setups.{stands_at, at_boot, home_of, home_threads, open_calls, have_ended, opening}
 use Rattle.cpu.specs.Table.Choice.{asked, Choice, Halts, Alone, Goes, new_call, with_call, with_guest}
 use Rattle.cpu.specs.Table.Choice.{begins, at_instruction, at_call, at_ready, at_current, at_hand, choice}
@@ -31,34 +33,24 @@ use Rattle.cpu.specs.Wakeups.Quiet.{IsNextEffect}
 use Rattle.cpu.proofs.Wakeups.Lists.{refuted}
 use Rattle.cpu.proofs.Wakeups.Agreement.{at_same, at_other}
 
-abbrev pub is_before : CallStage → Bool
-is_before Acquires = true
-is_before Enters = true
-is_before Tries = true
-is_before Waits = true
-is_before AcquiresAgain = true
+abbrev pub is_before : Stage → Bool
 is_before Signals = false
 is_before SignalsOwn = false
 is_before Releases = false
-is_before Returns = false
+is_before Idle = false
+is_before stage = true
 
 -- what a call asks that has a line
 abbrev pub HasLine : Group → Type 0
-HasLine Sends = Unit {0}
-HasLine Receives = Unit {0}
 HasLine Closes = ⊥
+HasLine asks = Unit {0}
 
 -- only a call that has a line tries and waits
-abbrev pub FitsGroup : Group → CallStage → Type 0
+abbrev pub FitsGroup : Group → Stage → Type 0
 FitsGroup asks Tries = HasLine asks
 FitsGroup asks Waits = HasLine asks
 FitsGroup asks AcquiresAgain = HasLine asks
-FitsGroup asks Acquires = Unit {0}
-FitsGroup asks Enters = Unit {0}
-FitsGroup asks Signals = Unit {0}
-FitsGroup asks SignalsOwn = Unit {0}
-FitsGroup asks Releases = Unit {0}
-FitsGroup asks Returns = Unit {0}
+FitsGroup asks stage = Unit {0}
 
 -- what a call says before its effect
 abbrev pub SaysCall : List Instruction → State → Call → Type 0
@@ -104,7 +96,7 @@ module _ (setup : Setup) (c : CpuId) where
       })
 
   fine_recorded : (p : Private) (t : Tid) (call : Call) → t.0 < length p.threads → AllFine setup p
-      → (thread_at p t).call ≡ Some call → (stage : CallStage) → call.stage ≡ stage → (told : Reported)
+      → (thread_at p t).call ≡ Some call → (stage : Stage) → call.stage ≡ stage → (told : Reported)
       → AllFine setup (recorded c p t call stage told)
   fine_recorded p t call known fine is Acquires at told =
       fine_call p t call (record call { stage = Enters }) known fine is (λ says e. let said = says (ap is_before at) in (said.0, said.1, tt))
@@ -132,9 +124,8 @@ module _ (setup : Setup) (c : CpuId) where
       by_shut (Drained threads) = fine
 
       by_asks : (asks : Group) → call.asks ≡ asks → (told : Reported) → AllFine setup (recorded_entry c p t call asks told)
-      by_asks Sends asked told = by_report (subst HasLine (sym asked) tt) told
-      by_asks Receives asked told = by_report (subst HasLine (sym asked) tt) told
       by_asks Closes asked told = by_shut told
+      by_asks asks asked told = by_report (subst HasLine (sym asked) tt) told
   fine_recorded p t call known fine is Tries at (Done op m) =
       fine_call p t call (record call { message = m; effect = Some op; stage = Signals }) known fine is (λ says e. absurd (cc e))
   fine_recorded p t call known fine is Tries at (WasClosed op) =
@@ -151,8 +142,8 @@ module _ (setup : Setup) (c : CpuId) where
       (λ says e. let said = says (ap is_before at) in (said.0, said.1, subst (FitsGroup call.asks) at said.2))
   fine_recorded p t call known fine is Signals at told = fine_call p t call (record call { stage = SignalsOwn }) known fine is (λ says e. absurd (cc e))
   fine_recorded p t call known fine is SignalsOwn at told = fine_call p t call (record call { stage = Releases }) known fine is (λ says e. absurd (cc e))
-  fine_recorded p t call known fine is Releases at told = fine_call p t call (record call { stage = Returns }) known fine is (λ says e. absurd (cc e))
-  fine_recorded p t call known fine is Returns at told = fine
+  fine_recorded p t call known fine is Releases at told = fine_call p t call (record call { stage = Idle }) known fine is (λ says e. absurd (cc e))
+  fine_recorded p t call known fine is Idle at told = fine
 
   fine_slept : (slept : Bool) (p : Private) → AllFine setup p → AllFine setup (slept_if slept p)
   fine_slept true p fine = fine
@@ -177,8 +168,8 @@ module _ (setup : Setup) (c : CpuId) where
   fine_settled : (p : Private) → AllFine setup p → AllFine setup (settled setup p)
   fine_settled p fine = by_hand p.hand p.current
     where
-      by_stage : (t : Tid) (call : Call) (stage : CallStage) → AllFine setup (returned_at setup p t call stage)
-      by_stage t call Returns =
+      by_stage : (t : Tid) (call : Call) (stage : Stage) → AllFine setup (returned_at setup p t call stage)
+      by_stage t call Idle =
           fine_set p t
           (record (thread_at p t) { guest = guest_after call.asks call.closed (stands_at setup p t) call.message (thread_at p t).guest; call = None }) fine
           (record { quits = λ e. refl; says = tt })

@@ -4,7 +4,6 @@ use Rattle.std.proofs.Common.{Some, None, is_some, nat_lt, if◌then◌else◌, 
 use Rattle.std.proofs.lemmas.Bool.{and_from, and_left, and_right, false_from_ne_true}
 use Rattle.event_log.specs.declared.ids.CpuId.{CpuId}
 use Rattle.event_log.specs.declared.ids.Tid.{Tid}
-use Rattle.event_log.specs.declared.ids.BufId.{BufId}
 use Rattle.event_log.specs.declared.entries.Entry.{Entry}
 use Rattle.event_log.specs.History.{same_cpu}
 use Rattle.event_log.specs.Messages.{Message}
@@ -14,18 +13,21 @@ use Rattle.thread_blocks.specs.Queues.{same_tid}
 use Rattle.thread_blocks.proofs.Members.{same_tid_self, same_tid_true}
 use Rattle.layer_traits.specs.declared.locked.Side.{Side}
 use Rattle.layer_traits.specs.declared.locked.Side.TheVariants.{Receivers, Senders}
-use Rattle.layer_traits.specs.Places.{is_thread, one_if, count_in}
+use Rattle.layer_traits.specs.Places.{Where, Home, Hand, Pend as IsPending, Asleep, is_home, is_hand, is_thread, one_if, count_in}
 use Rattle.layer_traits.proofs.CountLemmas.{same_tid_sym, count_append}
-use Rattle.cpu.specs.Table.Blocks.{Buffer, Name, TryPut, TryTake, WaitOn, Pend, TakeAll, side_of, Reported, Done, WasClosed, NotYet, Answer}
+use Rattle.cpu.specs.Table.Blocks.{Buffer, Name, TryPut, TryTake, Pend, TakeAll, side_of, Reported, Done, WasClosed, NotYet, Answer}
 use Rattle.cpu.specs.Table.Edits.{may_put, may_take, report_of_put, report_of_take, answer_of_buffer, drawn_position}
-use Rattle.cpu.specs.Table.Setups.{Setup, CallStage, Acquires, Enters, Tries, Waits, AcquiresAgain, Signals, SignalsOwn}
-use Rattle.cpu.specs.Table.Setups.{Releases, Returns, Call, Thread, Private, thread_at, with_thread, home_of, stands_at}
+use Rattle.layer_traits.specs.declared.call_states.Stage.{Stage}
+use Rattle.layer_traits.specs.declared.call_states.Stage.TheVariants.{Idle, Acquires, Enters, Tries, Waits, AcquiresAgain, Signals, SignalsOwn, Releases}
+use Rattle.cpu.specs.Table.Setups.{Setup}
+use Rattle.cpu.specs.Table.Setups.{Call, Thread, Private, thread_at, with_thread, home_of, stands_at}
 use Rattle.cpu.specs.Table.Choice.{section_at, first_section, try_of, first_signal, second_signal, with_call}
 use Rattle.cpu.specs.Table.Choice.{with_guest, goes_to, recorded, recorded_entry, recorded_try, entry_of}
 use Rattle.cpu.specs.Table.Choice.{slept_if, woken, returned_at, returned_by, returned_in, settled, guest_after, after_call}
+use Rattle.cpu.specs.Wakeups.Order.{Begins, HasEntered, WasRefused, Owes}
 use Rattle.cpu.proofs.Wakeups.Lists.{refuted}
-use Rattle.cpu.proofs.Wakeups.Posts.{Post, Home, InHand, IsPending, AtLock, AtWait, GotIt, Trying, Failed, Owing, Visit, Outside, In}
-use Rattle.cpu.proofs.Wakeups.Posts.{is_home, is_hand, is_pending, caller_in, is_caller, waiters_of, post_slept}
+use Rattle.cpu.proofs.Wakeups.Posts.{Visit, Outside, In}
+use Rattle.cpu.proofs.Wakeups.Posts.{is_pending, caller_in, is_caller, waiters_of, post_slept}
 use Rattle.cpu.proofs.Wakeups.Posts.{post_moved, post_drained, post_pending, next_visit, visit_moved, is_local}
 use Rattle.cpu.proofs.Wakeups.Agreement.{owing_own, visit_of_stage, visit_of_call, is_last, is_done, seat, Agrees, IsSettled, at_same}
 use Rattle.cpu.proofs.Wakeups.Agreement.{at_other, Same, same_with, agrees_same, runs, within, agrees_slept, agrees_woken}
@@ -37,7 +39,7 @@ abbrev pub DoneRuns : Setup → CpuId → Private → Type 0
 DoneRuns setup c p = (u : Tid) → is_local setup c u ≡ true → is_done (thread_at p u).call ≡ true → is_thread u p.current ≡ true
 
 module _ (setup : Setup) (c : CpuId) where
-  settled_in : (p : Private) (T : Tid → Visit) (P : Tid → Post) → Agrees setup c p T P → DoneRuns setup c p
+  settled_in : (p : Private) (T : Tid → Visit) (P : Tid → Where) → Agrees setup c p T P → DoneRuns setup c p
       → (hand current : Option Tid) → p.hand ≡ hand → p.current ≡ current
       → Agrees setup c (returned_in setup p hand current) T P × IsSettled setup c (returned_in setup p hand current)
   settled_in p T P agrees done (Some s) current holds runs_now = (agrees, λ u local is. (ap is_some holds, done u local is))
@@ -50,9 +52,9 @@ module _ (setup : Setup) (c : CpuId) where
       not_yet : is_done (thread_at p t).call ≡ false → IsSettled setup c p
       not_yet off u local is = refuted off (subst (λ v. is_done (thread_at p v).call ≡ true) (sym (same_tid_true t u (others_done u local is))) is)
 
-      by_stage : (call : Call) → (thread_at p t).call ≡ Some call → (stage : CallStage) → call.stage ≡ stage
+      by_stage : (call : Call) → (thread_at p t).call ≡ Some call → (stage : Stage) → call.stage ≡ stage
           → Agrees setup c (returned_at setup p t call stage) T P × IsSettled setup c (returned_at setup p t call stage)
-      by_stage call is Returns at =
+      by_stage call is Idle at =
           let local = (runs setup c p T P agrees t runs_now).0 in
           let known = within setup c p T P agrees t local in
           let x : Thread =
@@ -89,13 +91,13 @@ module _ (setup : Setup) (c : CpuId) where
       by_call None is = (agrees, not_yet (ap is_done is))
       by_call (Some call) is = by_stage call is call.stage refl
 
-  pub agrees_settled : (p : Private) (T : Tid → Visit) (P : Tid → Post) → Agrees setup c p T P → DoneRuns setup c p
+  pub agrees_settled : (p : Private) (T : Tid → Visit) (P : Tid → Where) → Agrees setup c p T P → DoneRuns setup c p
       → Agrees setup c (settled setup p) T P × IsSettled setup c (settled setup p)
   agrees_settled p T P agrees done = settled_in p T P agrees done p.hand p.current refl refl
 
 -- The stage of a call, and what its section tells.
 
-pub section_caller : (t : Tid) (call : Call) (stage : CallStage) → caller_in (section_at t call stage) ≡ Some t
+pub section_caller : (t : Tid) (call : Call) (stage : Stage) → caller_in (section_at t call stage) ≡ Some t
 section_caller t call stage = by_asks call.asks stage
   where
     by_side : (side : Side) → (caller_in (try_of t call side) ≡ Some t) × (caller_in (first_signal t side) ≡ Some t)
@@ -108,28 +110,17 @@ section_caller t call stage = by_asks call.asks stage
     by_first Receives = refl
     by_first Closes = refl
 
-    by_asks : (asks : Group) (stage : CallStage) → caller_in (section_at t call stage) ≡ Some t
-    by_asks asks Acquires = refl
+    by_asks : (asks : Group) (stage : Stage) → caller_in (section_at t call stage) ≡ Some t
     by_asks asks Enters = by_first call.asks
     by_asks asks Tries = (by_side (side_of call.asks)).0
-    by_asks asks Waits = refl
-    by_asks asks AcquiresAgain = refl
     by_asks asks Signals = (by_side (side_of call.asks)).1
     by_asks asks SignalsOwn = (by_side (side_of call.asks)).2
-    by_asks asks Releases = refl
-    by_asks asks Returns = refl
+    by_asks asks stage = refl
 
 -- whether the section is the last of its call
-abbrev pub is_release : CallStage → Bool
+abbrev pub is_release : Stage → Bool
 is_release Releases = true
-is_release Acquires = false
-is_release Enters = false
-is_release Tries = false
-is_release Waits = false
-is_release AcquiresAgain = false
-is_release Signals = false
-is_release SignalsOwn = false
-is_release Returns = false
+is_release stage = false
 
 -- the state after a section was heard: all but the call is as it was, and the call stands where its next visit says
 pub record Recorded (p q : Private) (t : Tid) (next : Visit) (ends : Bool) : Type 0 where
@@ -163,69 +154,69 @@ module _ (p : Private) (t : Tid) (known : t.0 < length p.threads) where
   module _ (c : CpuId) (call : Call) (k : Buffer) where
     at_entry : (asks : Group) → call.asks ≡ asks
         → Recorded p (recorded_entry c p t call asks (answer_of_buffer (first_section t asks) k).told) t
-        (next_visit call.buffer (first_section t asks) k (In call.buffer GotIt)) false
+        (next_visit call.buffer (first_section t asks) k (In call.buffer Begins)) false
     at_entry Sends is =
         let now : Call = record call { position = drawn_position Senders k; stage = Tries } in
-        subst (λ a. Recorded p (with_call p t (Some now)) t (In call.buffer (Trying (side_of a))) false) is (recorded_call now)
+        subst (λ a. Recorded p (with_call p t (Some now)) t (In call.buffer (HasEntered (side_of a))) false) is (recorded_call now)
     at_entry Receives is =
         let now : Call = record call { position = drawn_position Receivers k; stage = Tries } in
-        subst (λ a. Recorded p (with_call p t (Some now)) t (In call.buffer (Trying (side_of a))) false) is (recorded_call now)
+        subst (λ a. Recorded p (with_call p t (Some now)) t (In call.buffer (HasEntered (side_of a))) false) is (recorded_call now)
     at_entry Closes is =
         let now : Call = record call { position = k.closes } in
-        recorded_traced _ (In call.buffer (Owing true true)) false (p.trace ++ entry_of c t now k.effects call.message ∷ [])
+        recorded_traced _ (In call.buffer (Owes true true)) false (p.trace ++ entry_of c t now k.effects call.message ∷ [])
         (recorded_call (record now { effect = Some k.effects; stage = Signals }))
 
-    at_done : (op : ℕ) (m : Message) → Recorded p (recorded_try c p t call (Done op m)) t (In call.buffer (Owing true true)) false
+    at_done : (op : ℕ) (m : Message) → Recorded p (recorded_try c p t call (Done op m)) t (In call.buffer (Owes true true)) false
     at_done op m =
-        recorded_traced _ (In call.buffer (Owing true true)) false (p.trace ++ entry_of c t (record call { message = m }) op m ∷ [])
+        recorded_traced _ (In call.buffer (Owes true true)) false (p.trace ++ entry_of c t (record call { message = m }) op m ∷ [])
         (recorded_call (record call { message = m; effect = Some op; stage = Signals }))
 
-    at_closed : (op : ℕ) → Recorded p (recorded_try c p t call (WasClosed op)) t (In call.buffer (Owing true true)) false
+    at_closed : (op : ℕ) → Recorded p (recorded_try c p t call (WasClosed op)) t (In call.buffer (Owes true true)) false
     at_closed op =
-        recorded_traced _ (In call.buffer (Owing true true)) false (p.trace ++ entry_of c t (record call { closed = true }) op call.message ∷ [])
+        recorded_traced _ (In call.buffer (Owes true true)) false (p.trace ++ entry_of c t (record call { closed = true }) op call.message ∷ [])
         (recorded_call (record call { closed = true; effect = Some op; stage = Signals }))
 
     at_put : (closed : Bool) (op : ℕ) (m : Message) → Recorded p (recorded_try c p t call (report_of_put closed op m)) t (In call.buffer
-        (Owing true true)) false
+        (Owes true true)) false
     at_put true op m = at_closed op
     at_put false op m = at_done op m
 
-    at_take : (items : List Message) (op : ℕ) → Recorded p (recorded_try c p t call (report_of_take items op)) t (In call.buffer (Owing true true)) false
+    at_take : (items : List Message) (op : ℕ) → Recorded p (recorded_try c p t call (report_of_take items op)) t (In call.buffer (Owes true true)) false
     at_take [] op = at_closed op
     at_take (m ∷ items) op = at_done op m
 
-    at_try : (may : Bool) (told : Reported) → Recorded p (recorded_try c p t call told) t (In call.buffer (Owing true true)) false
+    at_try : (may : Bool) (told : Reported) → Recorded p (recorded_try c p t call told) t (In call.buffer (Owes true true)) false
         → Recorded p (recorded_try c p t call (if may then told else NotYet)) t
-        (if may then In call.buffer (Owing true true) else In call.buffer (Failed (side_of call.asks))) false
+        (In call.buffer (if may then Owes true true else WasRefused (side_of call.asks))) false
     at_try true told does = does
     at_try false told does = recorded_call (record call { stage = Waits })
 
     at_tries : (asks : Group) → call.asks ≡ asks
         → Recorded p (recorded_try c p t call (answer_of_buffer (try_of t call (side_of asks)) k).told) t
-        (next_visit call.buffer (try_of t call (side_of asks)) k (In call.buffer (Trying (side_of asks)))) false
+        (next_visit call.buffer (try_of t call (side_of asks)) k (In call.buffer (HasEntered (side_of asks)))) false
     at_tries Sends is =
         subst (λ a. Recorded p (recorded_try c p t call (answer_of_buffer (TryPut t call.message) k).told) t
-        (if may_put t k then In call.buffer (Owing true true) else In call.buffer (Failed (side_of a))) false) is
+        (In call.buffer (if may_put t k then Owes true true else WasRefused (side_of a))) false) is
         (at_try (may_put t k) (report_of_put k.closed k.effects call.message) (at_put k.closed k.effects call.message))
     at_tries Receives is =
         subst (λ a. Recorded p (recorded_try c p t call (answer_of_buffer (TryTake t) k).told) t
-        (if may_take t k then In call.buffer (Owing true true) else In call.buffer (Failed (side_of a))) false) is
+        (In call.buffer (if may_take t k then Owes true true else WasRefused (side_of a))) false) is
         (at_try (may_take t k) (report_of_take k.items k.effects) (at_take k.items k.effects))
     at_tries Closes is =
         subst (λ a. Recorded p (recorded_try c p t call (answer_of_buffer (TryPut t call.message) k).told) t
-        (if may_put t k then In call.buffer (Owing true true) else In call.buffer (Failed (side_of a))) false) is
+        (In call.buffer (if may_put t k then Owes true true else WasRefused (side_of a))) false) is
         (at_try (may_put t k) (report_of_put k.closed k.effects call.message) (at_put k.closed k.effects call.message))
 
-    signal_visit : (side : Side) → next_visit call.buffer (first_signal t side) k (In call.buffer (Owing true true)) ≡ In call.buffer (owing_own side)
+    signal_visit : (side : Side) → next_visit call.buffer (first_signal t side) k (In call.buffer (Owes true true)) ≡ In call.buffer (owing_own side)
     signal_visit Senders = refl
     signal_visit Receivers = refl
 
-    own_visit : (side : Side) → next_visit call.buffer (second_signal t side) k (In call.buffer (owing_own side)) ≡ In call.buffer (Owing false false)
+    own_visit : (side : Side) → next_visit call.buffer (second_signal t side) k (In call.buffer (owing_own side)) ≡ In call.buffer (Owes false false)
     own_visit Senders = refl
     own_visit Receivers = refl
 
     -- what a call hears at each stage
-    pub recorded_at : (stage : CallStage) → is_last stage ≡ false
+    pub recorded_at : (stage : Stage) → is_last stage ≡ false
         → Recorded p (recorded c p t call stage (answer_of_buffer (section_at t call stage) k).told) t
         (next_visit call.buffer (section_at t call stage) k (visit_of_stage call.buffer (side_of call.asks) stage)) (is_release stage)
     recorded_at Acquires going = recorded_call (record call { stage = Enters })
@@ -238,29 +229,14 @@ module _ (p : Private) (t : Tid) (known : t.0 < length p.threads) where
         (record call { stage = SignalsOwn }))
     recorded_at SignalsOwn going =
         subst (λ z. Recorded p (goes_to p t call Releases) t z false) (sym (own_visit (side_of call.asks))) (recorded_call (record call { stage = Releases }))
-    recorded_at Releases going = recorded_call (record call { stage = Returns })
-    recorded_at Returns going = absurd (cc going)
+    recorded_at Releases going = recorded_call (record call { stage = Idle })
+    recorded_at Idle going = absurd (cc going)
 
 -- the section after which a call is done puts nobody to sleep
-pub release_awake : (t : Tid) (call : Call) (k : Buffer) (stage : CallStage) → is_release stage ≡ true
+pub release_awake : (t : Tid) (call : Call) (k : Buffer) (stage : Stage) → is_release stage ≡ true
     → (answer_of_buffer (section_at t call stage) k).slept ≡ false
 release_awake t call k Releases on = refl
-release_awake t call k Acquires on = absurd (cc on)
-release_awake t call k Enters on = absurd (cc on)
-release_awake t call k Tries on = absurd (cc on)
-release_awake t call k Waits on = absurd (cc on)
-release_awake t call k AcquiresAgain on = absurd (cc on)
-release_awake t call k Signals on = absurd (cc on)
-release_awake t call k SignalsOwn on = absurd (cc on)
-release_awake t call k Returns on = absurd (cc on)
-
-pub waiter_not_home : (d : BufId) (name : Name) → is_home (waiters_of d name) ≡ false
-waiter_not_home d (WaitOn t side) = refl
-waiter_not_home d name = refl
-
-pub waiter_not_hand : (c : CpuId) (d : BufId) (name : Name) → is_hand c (waiters_of d name) ≡ false
-waiter_not_hand c d (WaitOn t side) = refl
-waiter_not_hand c d name = refl
+release_awake t call k stage on = absurd (cc on)
 
 -- A section of the current thread's call.
 
@@ -289,14 +265,14 @@ woken_current setup c (Some s) p = by_test (same_cpu (home_of setup s) c)
     by_test false = refl
 
 -- in a private state that agrees, the hand is empty and thread t runs within this call
-pub record IsCalling (setup : Setup) (c : CpuId) (p : Private) (T : Tid → Visit) (P : Tid → Post) (t : Tid) (call : Call) : Type 0 where
+pub record IsCalling (setup : Setup) (c : CpuId) (p : Private) (T : Tid → Visit) (P : Tid → Where) (t : Tid) (call : Call) : Type 0 where
   pub agrees : Agrees setup c p T P
   pub settled_before : IsSettled setup c p
   pub empty : p.hand ≡ None
   pub runs_now : p.current ≡ Some t
   pub is : (thread_at p t).call ≡ Some call
 
-module _ (setup : Setup) (c : CpuId) (p : Private) (T : Tid → Visit) (P : Tid → Post) (t : Tid) (call : Call)
+module _ (setup : Setup) (c : CpuId) (p : Private) (T : Tid → Visit) (P : Tid → Where) (t : Tid) (call : Call)
     (calling : IsCalling setup c p T P t call) where
   open calling use {agrees, settled_before, empty, runs_now, is}
 
@@ -317,10 +293,10 @@ module _ (setup : Setup) (c : CpuId) (p : Private) (T : Tid → Visit) (P : Tid 
     abbrev N : Tid → Visit
     N u = visit_moved call.buffer u name k (T u)
 
-    abbrev is_waiter : Tid → Post
+    abbrev is_waiter : Tid → Where
     is_waiter u = post_slept call.buffer u name a.slept (P u)
 
-    abbrev now : Tid → Post
+    abbrev now : Tid → Where
     now u = post_moved setup c call.buffer u name a.slept a.woke (P u)
 
     abbrev recorded_now : Private
@@ -357,13 +333,13 @@ module _ (setup : Setup) (c : CpuId) (p : Private) (T : Tid → Visit) (P : Tid 
         (λ on.
         let at : is_waiter t ≡ waiters_of call.buffer name = ap (λ d. if d then waiters_of call.buffer name else P t) (and_from a.slept
         (is_caller t name) on mine) in
-        (ap is_home at ∙ waiter_not_home call.buffer name, ap (is_hand c) at ∙ waiter_not_hand c call.buffer name))
+        (ap is_home at, ap (is_hand c) at))
 
     no_home : (s : Tid) → a.woke ≡ Some s → (is_home (is_waiter s) ≡ false) × (nat_lt s.0 (length setup.homes) ≡ true)
     no_home s woke = (by_test (a.slept && is_caller s name), (asleep s woke).1)
       where
         by_test : (d : Bool) → is_home (if d then waiters_of call.buffer name else P s) ≡ false
-        by_test true = waiter_not_home call.buffer name
+        by_test true = refl
         by_test false = (asleep s woke).0
 
     agrees_after : Agrees setup c (woken setup c a.woke (slept_if a.slept recorded_now)) N now
@@ -393,28 +369,22 @@ module _ (setup : Setup) (c : CpuId) (p : Private) (T : Tid → Visit) (P : Tid 
 
 -- A section on pending threads.
 
-pub hand_not_home : (c : CpuId) (x : Post) → is_hand c x ≡ true → is_home x ≡ false
-hand_not_home c (InHand d) on = refl
+pub hand_not_home : (c : CpuId) (x : Where) → is_hand c x ≡ true → is_home x ≡ false
 hand_not_home c Home on = absurd (cc on)
-hand_not_home c IsPending on = refl
-hand_not_home c (AtLock b) on = refl
-hand_not_home c (AtWait b side) on = refl
+hand_not_home c x on = refl
 
-pub drained_hand : (c : CpuId) (x : Post) → is_hand c (post_drained x) ≡ is_hand c x
+pub drained_hand : (c : CpuId) (x : Where) → is_hand c (post_drained x) ≡ is_hand c x
 drained_hand c Home = refl
-drained_hand c (InHand d) = refl
-drained_hand c IsPending = refl
-drained_hand c (AtLock b) = refl
-drained_hand c (AtWait b side) = refl
+drained_hand c (Hand d) = refl
+drained_hand c (IsPending q) = refl
+drained_hand c (Asleep p) = refl
 
-drained_stays_home : (x : Post) → is_home x ≡ true → is_home (post_drained x) ≡ true
-drained_stays_home Home on = refl
-drained_stays_home (InHand d) on = absurd (cc on)
-drained_stays_home IsPending on = refl
-drained_stays_home (AtLock b) on = absurd (cc on)
-drained_stays_home (AtWait b side) on = absurd (cc on)
+drained_stays_home : (x : Where) → is_home x ≡ true → is_home (post_drained x) ≡ true
+drained_stays_home (Hand d) on = absurd (cc on)
+drained_stays_home (Asleep p) on = absurd (cc on)
+drained_stays_home x on = refl
 
-module _ (setup : Setup) (c : CpuId) (p : Private) (T : Tid → Visit) (P : Tid → Post)
+module _ (setup : Setup) (c : CpuId) (p : Private) (T : Tid → Visit) (P : Tid → Where)
     (agrees : Agrees setup c p T P) (settled_before : IsSettled setup c p) where
   -- the thread in the hand is put among the pending
   pub agrees_pended : (d : CpuId) (s : Tid) → p.hand ≡ Some s
@@ -427,18 +397,18 @@ module _ (setup : Setup) (c : CpuId) (p : Private) (T : Tid → Visit) (P : Tid 
       held = sym (agrees.hands s) ∙ ap (is_thread s) holds ∙ same_tid_self s
 
       sits : (u : Tid) (mine : Bool) → same_tid s u ≡ mine
-          → one_if (is_thread u p.current) + count_in u p.ready ≡ one_if (seat setup c u (if mine then IsPending else P u) (thread_at p u).ended)
+          → one_if (is_thread u p.current) + count_in u p.ready ≡ one_if (seat setup c u (if mine then IsPending d else P u) (thread_at p u).ended)
       sits u true is =
           agrees.seats u ∙ ap (λ h. one_if (is_local setup c u && (h && not (thread_at p u).ended)))
           (subst (λ v. is_home (P v) ≡ false) (same_tid_true s u is) (hand_not_home c (P s) held))
       sits u false other = agrees.seats u
 
-      empties : (u : Tid) (mine : Bool) → same_tid s u ≡ mine → is_thread u None ≡ is_hand c (if mine then IsPending else P u)
+      empties : (u : Tid) (mine : Bool) → same_tid s u ≡ mine → is_thread u None ≡ is_hand c (if mine then IsPending d else P u)
       empties u true is = refl
       empties u false other = sym (ap (is_thread u) holds ∙ other) ∙ agrees.hands u
 
       at_home : (u : Tid) → is_local setup c u ≡ true → (thread_at p u).ended ≡ true → (mine : Bool)
-          → same_tid s u ≡ mine → is_home (if mine then IsPending else P u) ≡ true
+          → same_tid s u ≡ mine → is_home (if mine then IsPending d else P u) ≡ true
       at_home u local ended true is =
           refuted (subst (λ v. is_home (P v) ≡ false) (same_tid_true s u is) (hand_not_home c (P s) held)) (agrees.ends u local ended)
       at_home u local ended false other = agrees.ends u local ended
@@ -464,7 +434,7 @@ module _ (setup : Setup) (c : CpuId) (p : Private) (T : Tid → Visit) (P : Tid 
     ends = λ u local ended. at_home u (same_cpu (home_of setup u) c) (agrees.ends u local ended);
   }
     where
-      unmoved : (u : Tid) → same_cpu (home_of setup u) c ≡ true → (x : Post) → P u ≡ x → is_pending x ≡ false → post_drained x ≡ x
+      unmoved : (u : Tid) → same_cpu (home_of setup u) c ≡ true → (x : Where) → P u ≡ x → is_pending x ≡ false → post_drained x ≡ x
           → one_if (is_thread u p.current) + count_in u (p.ready ++ list) ≡ one_if (seat setup c u (post_drained (P u)) (thread_at p u).ended)
       unmoved u here x at off still =
           let none : count_in u list ≡ 0 = counts u ∙ (λ i. one_if (here i && is_pending (at i))) ∙ ap one_if off in
@@ -474,7 +444,7 @@ module _ (setup : Setup) (c : CpuId) (p : Private) (T : Tid → Visit) (P : Tid 
           let same : P u ≡ post_drained (P u) = at ∙ sym still ∙ ap post_drained (sym at) in
           now ∙ agrees.seats u ∙ ap (λ y. one_if (seat setup c u y (thread_at p u).ended)) same
 
-      sits : (u : Tid) (here : Bool) → same_cpu (home_of setup u) c ≡ here → (x : Post) → P u ≡ x
+      sits : (u : Tid) (here : Bool) → same_cpu (home_of setup u) c ≡ here → (x : Where) → P u ≡ x
           → one_if (is_thread u p.current) + count_in u (p.ready ++ list)
           ≡ one_if (seat setup c u (if here then post_drained (P u) else P u) (thread_at p u).ended)
       sits u false away x at =
@@ -483,7 +453,7 @@ module _ (setup : Setup) (c : CpuId) (p : Private) (T : Tid → Visit) (P : Tid 
           let now : one_if (is_thread u p.current) + count_in u (p.ready ++ list) ≡ one_if (is_thread u p.current) + count_in u p.ready =
           omega (arith, none, more) in
           now ∙ agrees.seats u
-      sits u true here IsPending at =
+      sits u true here (IsPending q) at =
           let one : count_in u list ≡ 1 = counts u ∙ (λ i. one_if (here i && is_pending (at i))) in
           let more : count_in u (p.ready ++ list) ≡ count_in u p.ready + count_in u list = count_append u p.ready list in
           let none : one_if (is_thread u p.current) + count_in u p.ready ≡ 0 =
@@ -494,9 +464,8 @@ module _ (setup : Setup) (c : CpuId) (p : Private) (T : Tid → Visit) (P : Tid 
           let alive : (thread_at p u).ended ≡ false = false_from_ne_true (thread_at p u).ended (λ e. refuted (ap is_home at) (agrees.ends u local e)) in
           now ∙ sym ((λ i. one_if (local i && (is_home (post_drained (at i)) && not (alive i)))))
       sits u true here Home at = unmoved u here Home at refl refl
-      sits u true here (InHand e) at = unmoved u here (InHand e) at refl refl
-      sits u true here (AtLock b) at = unmoved u here (AtLock b) at refl refl
-      sits u true here (AtWait b side) at = unmoved u here (AtWait b side) at refl refl
+      sits u true here (Hand e) at = unmoved u here (Hand e) at refl refl
+      sits u true here (Asleep z) at = unmoved u here (Asleep z) at refl refl
 
       held : (u : Tid) (here : Bool) → is_hand c (P u) ≡ is_hand c (if here then post_drained (P u) else P u)
       held u true = sym (drained_hand c (P u))
@@ -507,7 +476,7 @@ module _ (setup : Setup) (c : CpuId) (p : Private) (T : Tid → Visit) (P : Tid 
       at_home u false on = on
 
 -- the current thread yields: it stands behind those that are ready, and nobody runs
-pub agrees_yielded : (setup : Setup) (c : CpuId) (p : Private) (T : Tid → Visit) (P : Tid → Post)
+pub agrees_yielded : (setup : Setup) (c : CpuId) (p : Private) (T : Tid → Visit) (P : Tid → Where)
     → Agrees setup c p T P → (t : Tid) → p.current ≡ Some t → (guest : State)
     → Agrees setup c (record (with_guest p t guest) { current = None; ready = p.ready ++ t ∷ [] }) T P
 agrees_yielded setup c p T P agrees t runs_now guest = record {
@@ -547,7 +516,7 @@ guest_calls p t guest known u = by_test (same_tid t u) refl
 
 -- A section of another CPU.
 
-pub agrees_foreign : (setup : Setup) (c : CpuId) (p : Private) (T N : Tid → Visit) (P M : Tid → Post) → Agrees setup c p T P
+pub agrees_foreign : (setup : Setup) (c : CpuId) (p : Private) (T N : Tid → Visit) (P M : Tid → Where) → Agrees setup c p T P
     → ((u : Tid) → is_local setup c u ≡ true → N u ≡ T u) → ((u : Tid) → is_local setup c u ≡ true → is_home (M u) ≡ is_home (P u))
     → ((u : Tid) → is_hand c (M u) ≡ is_hand c (P u)) → Agrees setup c p N M
 agrees_foreign setup c p T N P M agrees visits homes in_hands = record {

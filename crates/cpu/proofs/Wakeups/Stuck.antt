@@ -5,7 +5,7 @@ use Rattle.std.proofs.lemmas.Bool.{and_parts, and_from, false_from_ne_true, lt-l
 use Rattle.event_log.specs.declared.ids.CpuId.{CpuId}
 use Rattle.event_log.specs.declared.ids.Tid.{Tid}
 use Rattle.event_log.specs.declared.ids.BufId.{BufId}
-use Rattle.event_log.specs.declared.ids.LockId.TheVariants.{Buffer as AtBuffer}
+use Rattle.event_log.specs.declared.ids.LockId.TheVariants.{Pending, Buffer as AtBuffer}
 use Rattle.event_log.specs.declared.ids.TheConstants.{THREADS}
 use Rattle.event_log.specs.declared.entries.Kind.{Kind}
 use Rattle.event_log.specs.declared.entries.Kind.TheVariants.{Recv as RecvKind, SendClosed, RecvClosed}
@@ -15,19 +15,22 @@ use Rattle.event_log.specs.History.{same_cpu}
 use Rattle.event_log.specs.Sections.{sections_in}
 use Rattle.event_log.proofs.Same.{same_cpu_self}
 use Rattle.guest.specs.declared.instructions.Instruction.{Instruction}
-use Rattle.guest.specs.declared.instructions.Instruction.TheVariants.{Set, Add, Sub, Jnz, Send, Recv, Close, Yield as YieldLine, Exit}
+use Rattle.guest.specs.declared.instructions.Instruction.TheVariants.{Send, Recv, Close}
 use Rattle.guest.specs.State.{State}
 use Rattle.thread_blocks.specs.Queues.{is_in, first}
 use Rattle.thread_blocks.proofs.Members.{same_tid_self}
 use Rattle.layer_traits.specs.declared.steps.Reason.{Reason}
 use Rattle.layer_traits.specs.declared.locked.Side.{Side}
 use Rattle.layer_traits.specs.declared.locked.Side.TheVariants.{Receivers, Senders}
-use Rattle.layer_traits.specs.Places.{is_thread, one_if, count_in}
+use Rattle.layer_traits.specs.declared.moves.WaitList.TheVariants as wait_list
+use Rattle.layer_traits.specs.Places.{Where, Home, Hand, Pend as IsPending, Asleep, At, is_home, is_hand, is_thread, one_if, count_in}
 use Rattle.layer_traits.proofs.ListsLemmas.{counted_in}
 use Rattle.cpu.specs.Table.Blocks.{Buffer, OfBuffer, side_of}
 use Rattle.cpu.specs.Table.Edits.{line_of}
-use Rattle.cpu.specs.Table.Setups.{Setup, CallStage, Acquires, Enters, Tries, Waits, AcquiresAgain, Signals}
-use Rattle.cpu.specs.Table.Setups.{SignalsOwn, Releases, Returns, Call, Private, thread_at, home_of, stands_at}
+use Rattle.layer_traits.specs.declared.call_states.Stage.{Stage}
+use Rattle.layer_traits.specs.declared.call_states.Stage.TheVariants.{AcquiresAgain, SignalsOwn}
+use Rattle.cpu.specs.Table.Setups.{Setup}
+use Rattle.cpu.specs.Table.Setups.{Call, Private, thread_at, home_of, stands_at}
 use Rattle.cpu.specs.Table.Choice.{at_hand}
 use Rattle.cpu.specs.Table.Steps.{Whole, block_at, halted_by, halted_at}
 use Rattle.cpu.specs.Wakeups.Order.{Progress, progress}
@@ -35,21 +38,20 @@ use Rattle.cpu.specs.Wakeups.Lost.{Allows, NoWakeUpIsLost}
 use Rattle.cpu.specs.Wakeups.Quiet.{HomesExist, IsQuietBy, IsQuiet, IsNextEffect, IsStuckCall, IsLive, IsStuck, QuietIsStuck}
 use Rattle.cpu.proofs.Wakeups.Lists.{refuted}
 use Rattle.cpu.proofs.Wakeups.Ordered.{buffer_awake, calm_loses_nothing}
-use Rattle.cpu.proofs.Wakeups.Posts.{Post, Home, InHand, IsPending, AtLock, AtWait, Waiting, Visit, Outside, In}
-use Rattle.cpu.proofs.Wakeups.Posts.{is_buffer, is_side, is_home, is_hand, is_pending, is_lock, is_wait, names}
+use Rattle.cpu.proofs.Wakeups.Posts.{Waiting, Visit, Outside, In, list_of, sleeps_in, is_side, is_pending, names}
 use Rattle.cpu.proofs.Wakeups.Posts.{goes_on, starts_here, stands, is_lined, is_local, post, visit, marked}
-use Rattle.cpu.proofs.Wakeups.Pairs.{Pair, buffer_self, buffer_true, marked_some, front_counted}
+use Rattle.cpu.proofs.Wakeups.Pairs.{Pair, buffer_self, buffer_true, sleeps_here, marked_some, front_counted}
 use Rattle.cpu.proofs.Wakeups.Called.{Good}
-use Rattle.cpu.proofs.Wakeups.Placed.{IsPlaced, HasHome, buffer_there}
+use Rattle.cpu.proofs.Wakeups.Placed.{IsListed, IsPlaced, HasHome, listed_side, buffer_there}
 use Rattle.cpu.proofs.Wakeups.Agreement.{owing_own, visit_of_stage, visit_of_call, seat, Agrees}
 use Rattle.cpu.proofs.Wakeups.Says.{is_before, HasLine, FitsGroup, Says}
 use Rattle.cpu.proofs.Wakeups.Reaching.{fair_good}
 use Rattle.cpu.proofs.Wakeups.SystemInv.{SystemInv, reached_inv, cpu_there}
 
--- a post of a thread that sleeps
-pub data Asleep (x : Post) : Type 0 where
-  at_lock : (b : BufId) → x ≡ AtLock b → Asleep x
-  at_wait : (b : BufId) (side : Side) → x ≡ AtWait b side → Asleep x
+-- where a thread sleeps: for the lock of a buffer, or on a side of it
+pub data Sleeps (x : Where) : Type 0 where
+  at_lock : (b : BufId) → x ≡ Asleep (At (AtBuffer b) wait_list.Sleepers) → Sleeps x
+  at_wait : (b : BufId) (side : Side) → x ≡ Asleep (At (AtBuffer b) (list_of side)) → Sleeps x
 
 -- Lines and waiting lists by side.
 
@@ -57,13 +59,13 @@ abbrev waiting_of : Side → Buffer → List Tid
 waiting_of Senders k = k.waiting_senders
 waiting_of Receivers k = k.waiting_receivers
 
-line_count : (b : BufId) (u : Tid) (k : Buffer) (g : Progress) (visit : Visit) (x : Post) → Pair b u k g visit x
+line_count : (b : BufId) (u : Tid) (k : Buffer) (g : Progress) (visit : Visit) (x : Where) → Pair b u k g visit x
     → (side : Side) → count_in u (line_of side k) ≡ marked u (is_lined b side visit)
 line_count b u k g visit x pair Senders = pair.send_line
 line_count b u k g visit x pair Receivers = pair.receive_line
 
-wait_count : (b : BufId) (u : Tid) (k : Buffer) (g : Progress) (visit : Visit) (x : Post) → Pair b u k g visit x
-    → (side : Side) → count_in u (waiting_of side k) ≡ marked u (is_wait b side x)
+wait_count : (b : BufId) (u : Tid) (k : Buffer) (g : Progress) (visit : Visit) (x : Where) → Pair b u k g visit x
+    → (side : Side) → count_in u (waiting_of side k) ≡ marked u (sleeps_in b (list_of side) x)
 wait_count b u k g visit x pair Senders = pair.senders
 wait_count b u k g visit x pair Receivers = pair.receivers
 
@@ -101,14 +103,15 @@ side_true Senders Receivers on = absurd (cc on)
 -- what a waiting visit is of
 abbrev buffer_or : BufId → Visit → BufId
 buffer_or b Outside = b
-buffer_or b (In d call_phase) = d
+buffer_or b (In d g) = d
+buffer_or b (Waiting d side) = d
 
 abbrev side_or : Side → Visit → Side
-side_or side (In d (Waiting other)) = other
+side_or side (Waiting d other) = other
 side_or side other = side
 
 abbrev is_waiting : Visit → Bool
-is_waiting (In d (Waiting other)) = true
+is_waiting (Waiting d other) = true
 is_waiting other = false
 
 owing_waits_not : (b : BufId) (side : Side) → is_waiting (In b (owing_own side)) ≡ false
@@ -116,21 +119,15 @@ owing_waits_not b Senders = refl
 owing_waits_not b Receivers = refl
 
 -- the call whose visit is a wait has to ask for the lock again
-waits_again : (call : Call) (b : BufId) (side : Side) → visit_of_call (Some call) ≡ In b (Waiting side)
+waits_again : (call : Call) (b : BufId) (side : Side) → visit_of_call (Some call) ≡ Waiting b side
     → (is_before call.stage ≡ true) × (call.buffer ≡ b) × (side_of call.asks ≡ side) × (call.stage ≡ AcquiresAgain)
 waits_again call b side is = by_stage call.stage refl is
   where
-    by_stage : (stage : CallStage) → call.stage ≡ stage → visit_of_stage call.buffer (side_of call.asks) stage ≡ In b (Waiting side)
+    by_stage : (stage : Stage) → call.stage ≡ stage → visit_of_stage call.buffer (side_of call.asks) stage ≡ Waiting b side
         → (is_before call.stage ≡ true) × (call.buffer ≡ b) × (side_of call.asks ≡ side) × (call.stage ≡ AcquiresAgain)
     by_stage AcquiresAgain at now = (ap is_before at, ap (buffer_or b) now, ap (side_or side) now, at)
-    by_stage Acquires at now = absurd (cc now)
-    by_stage Enters at now = absurd (cc now)
-    by_stage Tries at now = absurd (cc now)
-    by_stage Waits at now = absurd (cc now)
-    by_stage Signals at now = absurd (cc now)
     by_stage SignalsOwn at now = refuted (owing_waits_not call.buffer (side_of call.asks)) (ap is_waiting now)
-    by_stage Releases at now = absurd (cc now)
-    by_stage Returns at now = absurd (cc now)
+    by_stage stage at now = absurd (cc now)
 
 -- an instruction asks for one effect
 same_effect : (line : Instruction) (s : State) (a x : Group) (b d : BufId) (m n : Message)
@@ -138,20 +135,16 @@ same_effect : (line : Instruction) (s : State) (a x : Group) (b d : BufId) (m n 
 same_effect (Send e r i) s a x b d m n one other = (one.0 ∙ sym other.0, one.1 ∙ sym other.1)
 same_effect (Recv e r i) s a x b d m n one other = (one.0 ∙ sym other.0, one.1 ∙ sym other.1)
 same_effect (Close e) s a x b d m n one other = (one.0 ∙ sym other.0, one.1 ∙ sym other.1)
-same_effect (Set r i) s a x b d m n one other = absurd one
-same_effect (Add r q) s a x b d m n one other = absurd one
-same_effect (Sub r q) s a x b d m n one other = absurd one
-same_effect (Jnz r i) s a x b d m n one other = absurd one
-same_effect YieldLine s a x b d m n one other = absurd one
-same_effect Exit s a x b d m n one other = absurd one
+same_effect line s a x b d m n one other = absurd one
 
 inside_known : (setup : Setup) (u : Tid) (b : BufId) (visit : Visit) → names b visit ≡ true → HasHome setup u visit → nat_lt u.0 (length setup.homes) ≡ true
 inside_known setup u b Outside on home = absurd (cc on)
-inside_known setup u b (In d call_phase) on home = home
+inside_known setup u b visit on home = home
 
 same_named : (b d : BufId) (visit : Visit) → names b visit ≡ true → names d visit ≡ true → b ≡ d
 same_named b d Outside on other = absurd (cc on)
-same_named b d (In e call_phase) on other = buffer_true b e on ∙ sym (buffer_true d e other)
+same_named b d (In e g) on other = buffer_true b e on ∙ sym (buffer_true d e other)
+same_named b d (Waiting e side) on other = buffer_true b e on ∙ sym (buffer_true d e other)
 
 module _ (setup : Setup) (s : Whole) (homes : HomesExist setup) (kept : SystemInv setup s) (quiet : IsQuiet setup s) where
   good : Good setup (sections_in s.log)
@@ -184,14 +177,14 @@ module _ (setup : Setup) (s : Whole) (homes : HomesExist setup) (kept : SystemIn
       by_reason (Some reason) is at = by_hand reason p.hand refl is
 
   -- a live thread sleeps
-  asleep : (p : Private) (u : Tid) → IsLive setup s p u → Asleep (post setup u (sections_in s.log))
+  asleep : (p : Private) (u : Tid) → IsLive setup s p u → Sleeps (post setup u (sections_in s.log))
   asleep p u live = by_post (post setup u (sections_in s.log)) refl
     where
       c : CpuId
       c = home_of setup u
 
       by_reason : post setup u (sections_in s.log) ≡ Home → (r : Option Reason)
-          → IsQuietBy setup (home_of setup u) p r → Asleep (post setup u (sections_in s.log))
+          → IsQuietBy setup (home_of setup u) p r → Sleeps (post setup u (sections_in s.log))
       by_reason at (Some reason) ended = refuted live.alive (ended u refl live.known)
       by_reason at None idle =
           let one : one_if (seat setup (home_of setup u) u (post setup u (sections_in s.log)) (thread_at p u).ended) ≡ 1 =
@@ -200,16 +193,18 @@ module _ (setup : Setup) (s : Whole) (homes : HomesExist setup) (kept : SystemIn
           let sits = (agrees (home_of setup u) p live.here).seats u in
           absurd (omega (arith, one, none, sits))
 
-      by_post : (x : Post) → post setup u (sections_in s.log) ≡ x → Asleep (post setup u (sections_in s.log))
-      by_post (AtLock b) at = at_lock b at
-      by_post (AtWait b side) at = at_wait b side at
+      by_post : (x : Where) → post setup u (sections_in s.log) ≡ x → Sleeps (post setup u (sections_in s.log))
+      by_post (Asleep (At (AtBuffer b) wait_list.Sleepers)) at = at_lock b at
+      by_post (Asleep (At (AtBuffer b) wait_list.Receivers)) at = at_wait b Receivers at
+      by_post (Asleep (At (AtBuffer b) wait_list.Senders)) at = at_wait b Senders at
+      by_post (Asleep (At (Pending d) list)) at = absurd (subst (IsPlaced setup (visit setup u (sections_in s.log))) at (kept.placed.posts u))
       by_post Home at = by_reason at (halted_at setup (home_of setup u) p) (quiet.cpus (home_of setup u) p live.here)
-      by_post (InHand e) at =
+      by_post (Hand e) at =
           let known : e.0 < setup.cpus = subst (IsPlaced setup (visit setup u (sections_in s.log))) at (kept.placed.posts u) in
           let cpu = cpu_there setup s kept e known in
           let held : is_thread u cpu.0.hand ≡ true = (agrees e cpu.0 cpu.1).hands u ∙ ap (is_hand e) at ∙ same_cpu_self e in
           refuted (ap (is_thread u) (empty e cpu.0 cpu.1)) held
-      by_post IsPending at =
+      by_post (IsPending q) at =
           let none = good.pending (home_of setup u) u [] (quiet.pending (home_of setup u) (homes.1 u live.known)) in
           let one : one_if (same_cpu (home_of setup u) (home_of setup u) && is_pending (post setup u (sections_in s.log))) ≡ 1 =
           (λ i. one_if (same_cpu_self (home_of setup u) i && is_pending (at i))) in
@@ -247,47 +242,48 @@ module _ (setup : Setup) (s : Whole) (homes : HomesExist setup) (kept : SystemIn
           live : (p : Private) × IsLive setup s p t
           live = live_at t b inside.0
 
-          by_sleep : Asleep (post setup t (sections_in s.log)) → Some t ≡ None
+          by_sleep : Sleeps (post setup t (sections_in s.log)) → Some t ≡ None
           by_sleep (at_wait d side at) =
-              let placed : (d.0 < length setup.caps) × (visit setup t (sections_in s.log) ≡ In d (Waiting side)) =
+              let placed : (d.0 < length setup.caps) × IsListed d (list_of side) (visit setup t (sections_in s.log)) =
               subst (IsPlaced setup (visit setup t (sections_in s.log))) at (kept.placed.posts t) in
-              refuted (ap goes_on placed.1) inside.1
+              refuted (ap goes_on (listed_side d side (visit setup t (sections_in s.log)) placed.1)) inside.1
           by_sleep (at_lock d at) =
-              let within : d.0 < length setup.caps = subst (IsPlaced setup (visit setup t (sections_in s.log))) at (kept.placed.posts t) in
-              let there = buffer_there setup d (sections_in s.log) within in
-              let starts = (good.pairs d t there.0 there.1).starts (ap (is_lock d) at ∙ buffer_self d) in
+              let placed : (d.0 < length setup.caps) × Unit {0} = subst (IsPlaced setup (visit setup t (sections_in s.log))) at (kept.placed.posts t) in
+              let there = buffer_there setup d (sections_in s.log) placed.0 in
+              let asleep_there = ap (sleeps_in d wait_list.Sleepers) at ∙ sleeps_here d wait_list.Sleepers in
+              let starts = (good.pairs d t there.0 there.1).starts asleep_there in
               let named = (and_parts (names d (visit setup t (sections_in s.log))) (starts_here (visit setup t (sections_in s.log))) starts).0 in
               let same : b ≡ d = same_named b d (visit setup t (sections_in s.log)) inside.0 named in
-              refuted (pair.owner is).2 (subst (λ x. is_lock x (post setup t (sections_in s.log)) ≡ true) (sym same) (ap (is_lock d) at ∙ buffer_self d))
+              refuted (pair.owner is).2 (subst (λ x. sleeps_in x wait_list.Sleepers (post setup t (sections_in s.log)) ≡ true) (sym same) asleep_there)
 
   no_sleepers : (b : BufId) (k : Buffer) → block_at setup (AtBuffer b) s.log ≡ Some (OfBuffer k) → k.sleepers ≡ []
   no_sleepers b k block = ((buffer_awake setup (sections_in s.log) good.ordered b k block).idle (unowned b k block)).1
 
   -- so a live thread waits at its wait
   waits : (p : Private) (u : Tid) → IsLive setup s p u
-      → (b : BufId) × (side : Side) × (post setup u (sections_in s.log) ≡ AtWait b side) × (visit setup u (sections_in s.log) ≡ In b (Waiting side))
+      → (b : BufId) × (side : Side) × (post setup u (sections_in s.log) ≡ Asleep (At (AtBuffer b) (list_of side))) × (visit setup u (sections_in s.log) ≡ Waiting b side)
   waits p u live = by_sleep (asleep p u live)
     where
-      by_sleep : Asleep (post setup u (sections_in s.log))
-          → (b : BufId) × (side : Side) × (post setup u (sections_in s.log) ≡ AtWait b side) × (visit setup u (sections_in s.log) ≡ In b (Waiting side))
+      by_sleep : Sleeps (post setup u (sections_in s.log))
+          → (b : BufId) × (side : Side) × (post setup u (sections_in s.log) ≡ Asleep (At (AtBuffer b) (list_of side))) × (visit setup u (sections_in s.log) ≡ Waiting b side)
       by_sleep (at_wait b side at) =
-          let placed : (b.0 < length setup.caps) × (visit setup u (sections_in s.log) ≡ In b (Waiting side)) =
+          let placed : (b.0 < length setup.caps) × IsListed b (list_of side) (visit setup u (sections_in s.log)) =
           subst (IsPlaced setup (visit setup u (sections_in s.log))) at (kept.placed.posts u) in
-          (b, side, at, placed.1)
+          (b, side, at, listed_side b side (visit setup u (sections_in s.log)) placed.1)
       by_sleep (at_lock b at) =
-          let within : b.0 < length setup.caps = subst (IsPlaced setup (visit setup u (sections_in s.log))) at (kept.placed.posts u) in
-          let there = buffer_there setup b (sections_in s.log) within in
+          let placed : (b.0 < length setup.caps) × Unit {0} = subst (IsPlaced setup (visit setup u (sections_in s.log))) at (kept.placed.posts u) in
+          let there = buffer_there setup b (sections_in s.log) placed.0 in
           let counts = (good.pairs b u there.0 there.1).sleepers in
           let none : count_in u there.0.sleepers ≡ 0 = ap (count_in u) (no_sleepers b there.0 there.1) in
-          let one : marked u (is_lock b (post setup u (sections_in s.log))) ≡ 1 =
-          (λ i. one_if (small u live.known i && is_lock b (at i))) ∙ ap one_if (buffer_self b) in
+          let one : marked u (sleeps_in b wait_list.Sleepers (post setup u (sections_in s.log))) ≡ 1 =
+          (λ i. one_if (small u live.known i && sleeps_in b wait_list.Sleepers (at i))) ∙ ap one_if (sleeps_here b wait_list.Sleepers) in
           absurd (omega (arith, counts, none, one))
 
   -- the call of a live thread
   stuck_call : (p : Private) (u : Tid) → IsLive setup s p u → (call : Call) × ((thread_at p u).call ≡ Some call) × IsStuckCall setup s p u call
   stuck_call p u live = by_call (thread_at p u).call refl
     where
-      wait : (b : BufId) × (side : Side) × (post setup u (sections_in s.log) ≡ AtWait b side) × (visit setup u (sections_in s.log) ≡ In b (Waiting side))
+      wait : (b : BufId) × (side : Side) × (post setup u (sections_in s.log) ≡ Asleep (At (AtBuffer b) (list_of side))) × (visit setup u (sections_in s.log) ≡ Waiting b side)
       wait = waits p u live
 
       turned : visit setup u (sections_in s.log) ≡ visit_of_call (thread_at p u).call
@@ -314,8 +310,8 @@ module _ (setup : Setup) (s : Whole) (homes : HomesExist setup) (kept : SystemIn
               → (k : Buffer) (m : Message) (e : Kind) → group_of e ≡ call.asks
               → block_at setup (AtBuffer call.buffer) s.log ≡ Some (OfBuffer k) → Allows k e m → ⊥
           refused call line same_buffer same_side k m e asks block allowed =
-              let mine : visit setup u (sections_in s.log) ≡ In call.buffer (Waiting (side_of call.asks)) =
-              wait.3 ∙ (λ i. In (sym same_buffer i) (Waiting (sym same_side i))) in
+              let mine : visit setup u (sections_in s.log) ≡ Waiting call.buffer (side_of call.asks) =
+              wait.3 ∙ (λ i. Waiting (sym same_buffer i) (sym same_side i)) in
               let one : marked u (is_lined call.buffer (side_of call.asks) (visit setup u (sections_in s.log))) ≡ 1 =
               (λ i. one_if (small u live.known i && is_lined call.buffer (side_of call.asks) (mine i)))
               ∙ (λ i. one_if (buffer_self call.buffer i && side_self (side_of call.asks) i)) in
@@ -335,11 +331,11 @@ module _ (setup : Setup) (s : Whole) (homes : HomesExist setup) (kept : SystemIn
                   and_parts (names call.buffer (visit setup t (sections_in s.log))) (stands (side_of call.asks) (visit setup t (sections_in s.log))) lined in
                   let other = live_at t call.buffer parts.0 in
                   let at = waits other.0 t other.1 in
-                  let there : is_wait call.buffer (side_of call.asks) (post setup t (sections_in s.log)) ≡ true =
-                  ap (is_wait call.buffer (side_of call.asks)) at.2
-                  ∙ and_from (is_buffer call.buffer at.0) (is_side (side_of call.asks) at.1)
-                  (sym (ap (names call.buffer) at.3) ∙ parts.0) (sym (ap (stands (side_of call.asks)) at.3) ∙ parts.1) in
-                  let one : marked t (is_wait call.buffer (side_of call.asks) (post setup t (sections_in s.log))) ≡ 1 =
+                  let same_buffer : call.buffer ≡ at.0 = buffer_true call.buffer at.0 (sym (ap (names call.buffer) at.3) ∙ parts.0) in
+                  let same_side : side_of call.asks ≡ at.1 = side_true (side_of call.asks) at.1 (sym (ap (stands (side_of call.asks)) at.3) ∙ parts.1) in
+                  let there : sleeps_in call.buffer (list_of (side_of call.asks)) (post setup t (sections_in s.log)) ≡ true =
+                  (λ i. sleeps_in (same_buffer i) (list_of (same_side i)) (at.2 i)) ∙ sleeps_here at.0 (list_of at.1) in
+                  let one : marked t (sleeps_in call.buffer (list_of (side_of call.asks)) (post setup t (sections_in s.log))) ≡ 1 =
                   (λ i. one_if (small t other.1.known i && there i)) in
                   let counts = wait_count call.buffer t k _ _ _ pair (side_of call.asks) in
                   let stands_there = counted_in t (waiting_of (side_of call.asks) k) (omega (arith, one, counts)) in

@@ -11,7 +11,7 @@ use Rattle.layer_traits.specs.Plans.{is_in_section}
 use Rattle.layer_traits.specs.Along.{starts, others, steps}
 use Rattle.cpu.specs.Table.Blocks.{Name}
 use Rattle.cpu.specs.Table.Setups.{Setup, Private}
-use Rattle.cpu.specs.Table.Choice.{Choice, Halts, Alone, Goes, choice}
+use Rattle.cpu.specs.Table.Choice.{Choice, Goes, choice}
 use Rattle.cpu.specs.Table.Steps.{chosen, step_in, cpu_step, AlongTable}
 use Rattle.cpu.specs.Wakeups.Lost.{IsWorked, CpusLoseNoWakeUp}
 use Rattle.cpu.proofs.Wakeups.Lists.{refuted}
@@ -37,9 +37,8 @@ short : (setup : Setup) (c : CpuId) (p : Private) (past : List (Action Name)) �
 short setup c p past = by_section (is_in_section (phase c past))
   where
     by_choice : (what : Choice) → IsShort (chosen setup c p what past).acts
-    by_choice (Halts reason) = inl refl
-    by_choice (Alone q) = inl refl
     by_choice (Goes q) = inr (_, refl)
+    by_choice other = inl refl
 
     by_section : (inside : Bool) → IsShort (step_in setup c p past inside).acts
     by_section true = inr (_, refl)

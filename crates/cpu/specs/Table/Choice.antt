@@ -18,7 +18,9 @@ use Rattle.guest.specs.declared.instructions.Instruction.TheVariants.{Set, Add, 
 use Rattle.guest.specs.State.{State, message_from, after_local, after_send, after_recv, after_close, after_closed, after_yield}
 use Rattle.cpu.specs.Table.Blocks.{Name, AcqQ, Enter, TryPut, TryTake, Shut, WaitOn, SigRecv, SigSend, RelQ, Pend, TakeAll, side_of, effect_of}
 use Rattle.cpu.specs.Table.Blocks.{Reported, Position, Done, WasClosed, DidShut, NotYet, Drained, Answer}
-use Rattle.cpu.specs.Table.Setups.{Setup, CallStage, Acquires, Enters, Tries, Waits, AcquiresAgain, Signals, SignalsOwn, Releases, Returns, Call, Private}
+use Rattle.layer_traits.specs.declared.call_states.Stage.{Stage}
+use Rattle.layer_traits.specs.declared.call_states.Stage.TheVariants.{Idle, Acquires, Enters, Tries, Waits, AcquiresAgain, Signals, SignalsOwn, Releases}
+use Rattle.cpu.specs.Table.Setups.{Setup, Call, Private}
 use Rattle.cpu.specs.Table.Setups.{thread_at, with_thread, home_of, stands_at, home_threads, open_calls, have_ended}
 
 -- The section that is asked.
@@ -54,8 +56,8 @@ first_section t Sends = Enter t Senders
 first_section t Receives = Enter t Receivers
 first_section t Closes = Shut t
 
--- the section of a call at each stage; at Returns none is due
-abbrev pub section_at : Tid → Call → CallStage → Name
+-- the section of a call at each stage; at Idle none is due
+abbrev pub section_at : Tid → Call → Stage → Name
 section_at t call Acquires = AcqQ t
 section_at t call Enters = first_section t call.asks
 section_at t call Tries = try_of t call (side_of call.asks)
@@ -64,7 +66,7 @@ section_at t call AcquiresAgain = AcqQ t
 section_at t call Signals = first_signal t (side_of call.asks)
 section_at t call SignalsOwn = second_signal t (side_of call.asks)
 section_at t call Releases = RelQ t
-section_at t call Returns = RelQ t
+section_at t call Idle = RelQ t
 
 -- outside a call a section is the taking of all that are pending: by a yield, or by a CPU that has nobody to run
 abbrev pub asked_by : CpuId → Tid → Option Call → Ask
@@ -155,7 +157,7 @@ abbrev pub entry_of : CpuId → Tid → Call → ℕ → Message → Entry
 entry_of c t call op m = record { cpu = c; thread = t; kind = effect_of call.asks call.closed; buffer = call.buffer; value = m; op = op; pos = call.position }
 
 -- the call goes on to this stage
-abbrev pub goes_to : Private → Tid → Call → CallStage → Private
+abbrev pub goes_to : Private → Tid → Call → Stage → Private
 goes_to p t call stage = with_call p t (Some (record call { stage = stage }))
 
 -- the call has its effect, and its entry is written
@@ -187,7 +189,7 @@ recorded_try c p t call NotYet = goes_to p t call Waits
 recorded_try c p t call _ = p
 
 -- what the section of a stage told
-abbrev pub recorded : CpuId → Private → Tid → Call → CallStage → Reported → Private
+abbrev pub recorded : CpuId → Private → Tid → Call → Stage → Reported → Private
 recorded c p t call Acquires told = goes_to p t call Enters
 recorded c p t call Enters told = recorded_entry c p t call call.asks told
 recorded c p t call Tries told = recorded_try c p t call told
@@ -195,8 +197,8 @@ recorded c p t call Waits told = goes_to p t call AcquiresAgain
 recorded c p t call AcquiresAgain told = goes_to p t call Tries
 recorded c p t call Signals told = goes_to p t call SignalsOwn
 recorded c p t call SignalsOwn told = goes_to p t call Releases
-recorded c p t call Releases told = goes_to p t call Returns
-recorded c p t call Returns told = p
+recorded c p t call Releases told = goes_to p t call Idle
+recorded c p t call Idle told = p
 
 -- a caller that sleeps runs no longer
 abbrev pub slept_if : Bool → Private → Private
@@ -223,8 +225,8 @@ abbrev pub returned : Setup → Private → Tid → Call → Private
 returned setup p t call =
     with_thread p t (record (thread_at p t) { guest = guest_after call.asks call.closed (stands_at setup p t) call.message (thread_at p t).guest; call = None })
 
-abbrev pub returned_at : Setup → Private → Tid → Call → CallStage → Private
-returned_at setup p t call Returns = returned setup p t call
+abbrev pub returned_at : Setup → Private → Tid → Call → Stage → Private
+returned_at setup p t call Idle = returned setup p t call
 returned_at setup p t call _ = p
 
 abbrev pub returned_by : Setup → Private → Tid → Option Call → Private

@@ -111,15 +111,7 @@ edited_buffer TakeAll k = k
 abbrev pub edited_pending : Name → List Tid → List Tid
 edited_pending (Pend s) threads = joined s threads
 edited_pending TakeAll threads = []
-edited_pending (AcqQ t) threads = threads
-edited_pending (Enter t side) threads = threads
-edited_pending (TryPut t m) threads = threads
-edited_pending (TryTake t) threads = threads
-edited_pending (Shut t) threads = threads
-edited_pending (WaitOn t side) threads = threads
-edited_pending (SigRecv t) threads = threads
-edited_pending (SigSend t) threads = threads
-edited_pending (RelQ t) threads = threads
+edited_pending name threads = threads
 
 -- what a section makes of a block
 abbrev pub edited : Name → Block → Block
@@ -168,16 +160,7 @@ answer_of_buffer TakeAll k = reports Nothing
 -- what a section on a queue of pending threads answers
 abbrev pub answer_of_pending : Name → List Tid → Answer
 answer_of_pending TakeAll threads = reports (Drained threads)
-answer_of_pending (Pend s) threads = reports Nothing
-answer_of_pending (AcqQ t) threads = reports Nothing
-answer_of_pending (Enter t side) threads = reports Nothing
-answer_of_pending (TryPut t m) threads = reports Nothing
-answer_of_pending (TryTake t) threads = reports Nothing
-answer_of_pending (Shut t) threads = reports Nothing
-answer_of_pending (WaitOn t side) threads = reports Nothing
-answer_of_pending (SigRecv t) threads = reports Nothing
-answer_of_pending (SigSend t) threads = reports Nothing
-answer_of_pending (RelQ t) threads = reports Nothing
+answer_of_pending name threads = reports Nothing
 
 -- what a section answers
 abbrev pub answer : Name → Block → Answer

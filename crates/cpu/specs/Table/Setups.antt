@@ -12,6 +12,7 @@ use Rattle.event_log.specs.Runs.{Group}
 use Rattle.guest.specs.declared.instructions.Instruction.{Instruction}
 use Rattle.guest.specs.State.{State, at_start, next_of}
 use Rattle.cpu.specs.Table.Blocks.{Buffer, Block, OfBuffer, OfPending}
+use Rattle.layer_traits.specs.declared.call_states.Stage.{Stage}
 use Rattle.layer_traits.specs.Passes.{or_else}
 
 -- how many CPUs there are, the home of each thread, its program, the capacity of each buffer, and for how many entries a CPU's trace has room
@@ -22,21 +23,9 @@ pub record Setup : Type 0 where
   pub caps : List ℕ
   pub trace_room : ℕ
 
--- where a call stands: the section that is due to it. One that has been woken asks for the lock again; one at Returns has done its last
--- section and returns once the thread that this woke is put among its home's pending threads.
-pub data CallStage : Type 0 where
-  Acquires : CallStage
-  Enters : CallStage
-  Tries : CallStage
-  Waits : CallStage
-  AcquiresAgain : CallStage
-  Signals : CallStage
-  SignalsOwn : CallStage
-  Releases : CallStage
-  Returns : CallStage
-
 -- a call under way: what it asks of which buffer, its message (what it sends, or has received), its position in its line (of a close:
--- among the closes), the number of its effect once it has come, whether it then found the buffer closed, and its stage
+-- among the closes), the number of its effect once it has come, whether it then found the buffer closed, and its stage: the section that is
+-- due to it. One at Idle has done its last section and returns once the thread that this woke is put among its home's pending threads.
 pub record Call : Type 0 where
   pub asks : Group
   pub buffer : BufId
@@ -44,7 +33,7 @@ pub record Call : Type 0 where
   pub position : ℕ
   pub effect : Option ℕ
   pub closed : Bool
-  pub stage : CallStage
+  pub stage : Stage
 
 -- a thread: its line and registers, its call under way, and whether it has ended
 pub record Thread : Type 0 where

@@ -69,15 +69,10 @@ IsLinedIn (Some call) = IsLined call
 
 -- a call fits the stage: none but one in a line tries, waits, or asks for the lock again
 abbrev pub FitsStage : Stage → Option Call → Type 0
-FitsStage Idle call = Unit {0}
-FitsStage Acquires call = Unit {0}
-FitsStage Enters call = Unit {0}
 FitsStage Tries call = IsLinedIn call
 FitsStage Waits call = IsLinedIn call
 FitsStage AcquiresAgain call = IsLinedIn call
-FitsStage Signals call = Unit {0}
-FitsStage SignalsOwn call = Unit {0}
-FitsStage Releases call = Unit {0}
+FitsStage stage call = Unit {0}
 
 -- thread t runs and is inside this call
 pub record IsGoing (own : Buffering) (guests : List State) (t : Tid) (call : Call) : Type 0 where
@@ -140,12 +135,7 @@ abbrev pub AsksFor : Instruction → State → Call → Type 0
 AsksFor (instruction.Send b from k) guest call = call ≡ asks_for.Send b (message_from guest from)
 AsksFor (instruction.Recv b into k) guest call = call ≡ asks_for.Recv b
 AsksFor (instruction.Close b) guest call = call ≡ asks_for.Close b
-AsksFor instruction.Yield guest call = ⊥
-AsksFor instruction.Exit guest call = ⊥
-AsksFor (instruction.Set r n) guest call = ⊥
-AsksFor (instruction.Add r q) guest call = ⊥
-AsksFor (instruction.Sub r q) guest call = ⊥
-AsksFor (instruction.Jnz r k) guest call = ⊥
+AsksFor other guest call = ⊥
 
 -- thread t runs, is in no call, and stands at this one
 pub record IsBeginning (setup : Setup) (own : Buffering) (guests : List State) (t : Tid) (call : Call) : Type 0 where

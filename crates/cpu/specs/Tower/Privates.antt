@@ -18,42 +18,28 @@ use Rattle.layer_traits.specs.declared.calls.Reply.{Reply}
 use Rattle.layer_traits.specs.declared.passes.Pass.{Pass}
 use Rattle.layer_traits.specs.declared.passes.Pass.TheVariants as pass
 use Rattle.layer_traits.specs.declared.call_states.Stage.{Stage}
-use Rattle.layer_traits.specs.declared.call_states.Stage.TheVariants as tower
+use Rattle.layer_traits.specs.declared.call_states.Stage.TheVariants.{Idle, Acquires, Enters, Tries, Waits, AcquiresAgain, Signals, SignalsOwn, Releases}
 use Rattle.layer_traits.specs.declared.call_states.CallState.{CallState}
 use Rattle.layer_traits.specs.LockLaw.{slept_for}
 use Rattle.layer_traits.specs.Places.{Threads, is_thread}
 use Rattle.layer_traits.specs.Plans.{Left}
 use Rattle.layer_traits.specs.BufferLaw.{Buffering, begun_at, buffer_of, entry_of, going, call_state_of}
 use Rattle.cpu.specs.Guests.{after_answer}
-use Rattle.cpu.specs.Table.Setups.{Setup, CallStage, Acquires, Enters, Tries, Waits, AcquiresAgain, Signals}
-use Rattle.cpu.specs.Table.Setups.{SignalsOwn, Releases, Returns, Call, Thread, Private, program_of}
+use Rattle.cpu.specs.Table.Setups.{Setup, Call, Thread, Private, program_of}
 
--- the stage of a call: one whose caller slept for the lock, or waited, has done that section
-abbrev pub stage_of : Stage → (slept waits : Option BufId) → CallStage
-stage_of tower.Idle slept waits = Acquires
-stage_of tower.Acquires None waits = Acquires
-stage_of tower.Acquires (Some b) waits = Enters
-stage_of tower.Enters slept waits = Enters
-stage_of tower.Tries slept waits = Tries
-stage_of tower.Waits slept None = Waits
-stage_of tower.Waits slept (Some b) = AcquiresAgain
-stage_of tower.AcquiresAgain None waits = AcquiresAgain
-stage_of tower.AcquiresAgain (Some b) waits = Tries
-stage_of tower.Signals slept waits = Signals
-stage_of tower.SignalsOwn slept waits = SignalsOwn
-stage_of tower.Releases slept waits = Releases
+-- the table's stage of a call: one whose caller slept for the lock, or waited, has done that section
+abbrev pub stage_of : Stage → (slept waits : Option BufId) → Stage
+stage_of Acquires (Some b) waits = Enters
+stage_of Waits slept (Some b) = AcquiresAgain
+stage_of AcquiresAgain (Some b) waits = Tries
+stage_of stage slept waits = stage
 
--- the stage of a call whose section is done and answers once the thread that it woke has left the hand
-abbrev pub deferred_stage : Stage → CallStage
-deferred_stage tower.Idle = Acquires
-deferred_stage tower.Acquires = Acquires
-deferred_stage tower.Enters = Enters
-deferred_stage tower.Tries = Tries
-deferred_stage tower.Waits = Waits
-deferred_stage tower.AcquiresAgain = AcquiresAgain
-deferred_stage tower.Signals = SignalsOwn
-deferred_stage tower.SignalsOwn = Releases
-deferred_stage tower.Releases = Returns
+-- the table's stage of a call whose section is done and answers once the thread that it woke has left the hand
+abbrev pub deferred_stage : Stage → Stage
+deferred_stage Signals = SignalsOwn
+deferred_stage SignalsOwn = Releases
+deferred_stage Releases = Idle
+deferred_stage stage = stage
 
 -- the message of a call: that of its effect, once this has come
 abbrev pub message_of : TowerCall → Option Effect → Message
@@ -70,16 +56,8 @@ position_of position None = position
 -- whether its effect found the buffer closed
 abbrev pub closed_by : TowerCall → Kind → Bool
 closed_by (asks.Send b m) kind.SendClosed = true
-closed_by (asks.Send b m) kind.Send = false
-closed_by (asks.Send b m) kind.Recv = false
-closed_by (asks.Send b m) kind.Close = false
-closed_by (asks.Send b m) kind.RecvClosed = false
 closed_by (asks.Recv b) kind.RecvClosed = true
-closed_by (asks.Recv b) kind.Send = false
-closed_by (asks.Recv b) kind.Recv = false
-closed_by (asks.Recv b) kind.Close = false
-closed_by (asks.Recv b) kind.SendClosed = false
-closed_by (asks.Close b) kind = false
+closed_by call other = false
 
 abbrev pub was_closed : TowerCall → Option Effect → Bool
 was_closed call (Some f) = closed_by call f.kind
@@ -94,7 +72,7 @@ asks_in (asks.Send b m) = Sends
 asks_in (asks.Recv b) = Receives
 asks_in (asks.Close b) = Closes
 
-abbrev pub call_from : TowerCall → ℕ → Option Effect → CallStage → Call
+abbrev pub call_from : TowerCall → ℕ → Option Effect → Stage → Call
 call_from call position effect stage = record {
   asks = asks_in call;
   buffer = buffer_of call;
@@ -105,7 +83,7 @@ call_from call position effect stage = record {
   stage = stage;
 }
 
-abbrev pub stage_from : Stage → (slept waits : Option BufId) → (deferred : Bool) → CallStage
+abbrev pub stage_from : Stage → (slept waits : Option BufId) → (deferred : Bool) → Stage
 stage_from stage slept waits true = deferred_stage stage
 stage_from stage slept waits false = stage_of stage slept waits
 
@@ -159,8 +137,7 @@ guests_after setup t (Some reply) guests =
 -- the trace after a poll: an effect writes its entry in the poll in which it comes
 abbrev pub trace_after : CpuId → Tid → BufId → (before after : Option Effect) → List Entry → List Entry
 trace_after c t b None (Some f) trace = trace ++ entry_of c t b f ∷ []
-trace_after c t b None None trace = trace
-trace_after c t b (Some f) after trace = trace
+trace_after c t b before after trace = trace
 
 -- the private state after a poll of a call
 abbrev pub private_after : Setup → CpuId → Tid → TowerCall → Buffering → List State → List Entry → Left Buffering Reply → Private
@@ -171,12 +148,7 @@ private_after setup c t call own guests trace left = private_of left.own (guests
 abbrev pub guests_passed : Setup → Pass → Option Tid → Option (Unit {0}) → List State → List State
 guests_passed setup pass.YieldNow (Some t) (Some answer) guests =
     slice_set guests t.0 (after_yield (next_of (program_of setup t) (guest_at guests t)) (guest_at guests t))
-guests_passed setup pass.YieldNow (Some t) None guests = guests
-guests_passed setup pass.YieldNow None answer guests = guests
-guests_passed setup pass.Switch current answer guests = guests
-guests_passed setup pass.Drain current answer guests = guests
-guests_passed setup (pass.MakeReady u) current answer guests = guests
-guests_passed setup pass.End current answer guests = guests
+guests_passed setup other current answer guests = guests
 
 -- the private state after a poll of a pass
 abbrev pub private_passed : Setup → Buffering → List State → List Entry → Pass → Left Buffering (Unit {0}) → Private

@@ -1,6 +1,7 @@
 -- The premises of the laws on quiet systems and on calls alone are met: by states of the worked runs.
 use Rattle.std.specs.Prelude.{◌≡◌, ◌+◌, ◌≤◌, [], ◌∷◌, Some, None, option_map}
-use Rattle.cpu.specs.Table.Setups.{Private, Releases}
+use Rattle.layer_traits.specs.declared.call_states.Stage.TheVariants.{Releases}
+use Rattle.cpu.specs.Table.Setups.{Private}
 use Rattle.cpu.specs.Table.Steps.{Whole, IsReached, cpu_numbered}
 use Rattle.cpu.specs.Table.Worked.{thread, of, run, one_sender, two_sends, two_cpus, call_of}
 use Rattle.cpu.specs.Table.Closing.{closed_apart, closed_aside}

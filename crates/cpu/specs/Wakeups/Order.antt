@@ -20,15 +20,11 @@ pub data Progress : Type 0 where
 
 abbrev pub receivers_signalled : Progress → Progress
 receivers_signalled (Owes receivers senders) = Owes false senders
-receivers_signalled Begins = Begins
-receivers_signalled (HasEntered side) = HasEntered side
-receivers_signalled (WasRefused side) = WasRefused side
+receivers_signalled g = g
 
 abbrev pub senders_signalled : Progress → Progress
 senders_signalled (Owes receivers senders) = Owes receivers false
-senders_signalled Begins = Begins
-senders_signalled (HasEntered side) = HasEntered side
-senders_signalled (WasRefused side) = WasRefused side
+senders_signalled g = g
 
 -- the progress after a section on the buffer
 abbrev pub progress_after : Name → Buffer → Progress → Progress
@@ -63,14 +59,11 @@ progress setup lock (s ∷ past) =
 abbrev pub MayTry : Side → Progress → Type 0
 MayTry side Begins = Unit {0}
 MayTry side (HasEntered line) = line ≡ side
-MayTry side (WasRefused line) = ⊥
-MayTry side (Owes receivers senders) = ⊥
+MayTry side g = ⊥
 
 abbrev pub IsOwing : Progress → Type 0
 IsOwing (Owes receivers senders) = Unit {0}
-IsOwing Begins = ⊥
-IsOwing (HasEntered side) = ⊥
-IsOwing (WasRefused side) = ⊥
+IsOwing g = ⊥
 
 -- a section may come on the buffer: only the owner edits; it enters or closes at once, waits only where its try was in vain, signals only after
 -- an effect, and gives the lock back only once both sides are signalled

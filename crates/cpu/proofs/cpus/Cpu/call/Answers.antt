@@ -2,7 +2,8 @@ use Rattle.std.proofs.Common.{◌<◌, ◌++◌, length, Option, refl, ap, sym, 
 use Rattle.event_log.specs.declared.ids.CpuId.{CpuId}
 use Rattle.layer_traits.specs.declared.calls.Effect.{Effect}
 use Rattle.layer_traits.specs.BufferLaw.{answer_in, buffer_of, call_state_of}
-use Rattle.cpu.specs.Guests.{answer_with, entries_of, polled}
+use Rattle.layer_traits.specs.BufferLaw.{answer_with}
+use Rattle.cpu.specs.Guests.{entries_of, polled}
 use Rattle.cpu.specs.Cpus.{ActsGrow, programs_of, fresh_at, guest_at, stands_at, with_guest}
 use Rattle.cpu.proofs.GuestLists.{programs_with}
 use Rattle.cpu.proofs.Passing.{called_grows, follows_grow}
@@ -98,7 +99,7 @@ returns-clause-is g c =
       under_way_is = c.poll_kind-answer.ensures.under_way less;
       guests_is = (rw table at c.note_poll-fresh.ensures.guests)
           ∙ ap (λ (f : Option Effect). with_guest p.guests.items t.0 (λ x. polled x f (answer_with f c.poll_kind-answer.result))) effect;
-      trace_is = (rw (c.buffer_of-buffer.ensures, call) at c.note_effect.ensures.items)
+      trace_is = (rw (c.buffer-buffer.ensures, call) at c.note_effect.ensures.items)
           ∙ ap (λ (f : Option Effect). p.trace.items ++ entries_of p.number t (buffer_of c.args.asked) f)
           ((rw table at c.note_poll-fresh.ensures.fresh) ∙ ap (λ (f : Option Effect). fresh_at (guest_at p.guests.items t.0) f) effect);
       strict = c.requires.not_full;
@@ -168,7 +169,7 @@ observed_poll g c step =
       under_way_is = c.poll_kind-answer.ensures.under_way less;
       guests_is = (rw table at c.note_poll-fresh.ensures.guests)
           ∙ ap (λ (f : Option Effect). with_guest p.guests.items c.args.thread.0 (λ x. polled x f (answer_with f c.poll_kind-answer.result))) effect;
-      trace_is = (rw (c.buffer_of-buffer.ensures, call) at c.note_effect.ensures.items)
+      trace_is = (rw (c.buffer-buffer.ensures, call) at c.note_effect.ensures.items)
           ∙ ap (λ (f : Option Effect). p.trace.items ++ entries_of p.number c.args.thread (buffer_of c.args.asked) f)
           ((rw table at c.note_poll-fresh.ensures.fresh) ∙ ap (λ (f : Option Effect). fresh_at (guest_at p.guests.items c.args.thread.0) f) effect);
     }

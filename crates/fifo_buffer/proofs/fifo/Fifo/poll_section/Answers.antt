@@ -31,7 +31,7 @@ poll-answer-requires-clause-call g c =
     let home = runs_home (C.opening m) cpu (C.seen m) (C.own p).lock.sleep.threads c.args.t (law.moves_legal m cpu acts)
     (law.stands p m c.requires.fits).stands c.requires.may.current in
     let edit_is = c.section-edit.ensures ∙ ap (section_at c.args.t c.args.call.now) c.requires.stage in
-    rw (edit_is, c.buffer_in-buffer.ensures)
+    rw (edit_is, c.buffer-buffer.ensures)
     (may_poll_section (C.opening m) cpu c.args.t home c.args.call.now (going
     (call_state_of c.args.self.now.call_states.call_states c.args.t) c.args.call.now) (C.seen m)
     (C.own p) (C.under_way p) c.requires.may)
@@ -61,7 +61,7 @@ returns-clause-section_polled g c =
     = ap (λ call_states. call_state_of call_states t) c.record_answer.ensures.call_states ∙ get_or-set_same c.args.self.now.call_states.call_states t.0
     (recorded_if call_state call_state.stage told) no_call (omega (arith, small, size)) in
     let edit_is = c.section-edit.ensures ∙ ap (section_at t call) c.requires.stage in
-    let seen = rw (edit_is, c.buffer_in-buffer.ensures) at c.poll-answer.ensures.seen in
+    let seen = rw (edit_is, c.buffer-buffer.ensures) at c.poll-answer.ensures.seen in
     let still = rw edit_is at c.poll-answer.ensures.still in
     let caller : Caller = record {
       opening = C.opening m;
@@ -96,7 +96,7 @@ returns-clause-follows g c stepwise =
     let call_state = going (call_state_of c.args.self.now.call_states.call_states t) call in
     let call_states = c.args.self.now.call_states.call_states in
     let edit_is = c.section-edit.ensures ∙ ap (section_at t call) c.requires.stage in
-    let follows = rw (edit_is, c.buffer_in-buffer.ensures) at (c.poll-answer.ensures.follows stepwise) in
+    let follows = rw (edit_is, c.buffer-buffer.ensures) at (c.poll-answer.ensures.follows stepwise) in
     let told = told_by outcome_of c.poll-answer.result c.poll-answer.new.payload.parcel in
     rw (← recorded_left t call call_state call_states c.record_answer.new.self.call_states call_state.stage
     (C.own c.poll-answer.new.self) told c.record_answer.result

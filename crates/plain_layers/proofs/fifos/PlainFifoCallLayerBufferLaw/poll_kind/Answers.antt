@@ -26,8 +26,8 @@ whole-outcome-requires-clause-buffer g c =
     let S = g.S.ThreadLayer in
     let m = c.args.m.now in
     let fits = c.requires.fits in
-    buffer_there (S.opening m) c.buffer_in.result fits.2.fresh
-    (subst (λ b. b.0 < length (caps_in (inner (S.opening m)))) (sym c.buffer_in.ensures) c.requires.there)
+    buffer_there (S.opening m) c.buffer.result fits.2.fresh
+    (subst (λ b. b.0 < length (caps_in (inner (S.opening m)))) (sym c.buffer.ensures) c.requires.there)
 
 pub bounds-self-from : goal.bounds-self-from
 bounds-self-from g c =
@@ -78,9 +78,9 @@ returns-clause-called g c there =
     (slice_set c.args.self.now.call_states c.from.result c.next.result)
     (entries_in (inner (S.opening m)) (buffer_sections (S.seen m))) (entries_in (inner o) (buffer_sections (S.seen n)))
     (answer_in (slice_set c.args.self.now.call_states c.from.result c.next.result) c.args.t c.reply.result)) (sym said.opening)
-    (done_called (S.opening m) (S.cpu_of lower) c.buffer_in.result c.attempt_in.result (S.seen m) (S.seen n) (S.own lower).threads
+    (done_called (S.opening m) (S.cpu_of lower) c.buffer.result c.attempt_in.result (S.seen m) (S.seen n) (S.own lower).threads
     (S.own c.whole-outcome.new.part) c.whole-outcome.result said.done Acts c.args.t c.args.call.now c.args.self.now.call_states
-    (slice_set c.args.self.now.call_states c.from.result c.next.result) c.attempt_in.ensures c.buffer_in.ensures within c.requires.same fits.3.waits set
+    (slice_set c.args.self.now.call_states c.from.result c.next.result) c.attempt_in.ensures c.buffer.ensures within c.requires.same fits.3.waits set
     (answer_in (slice_set c.args.self.now.call_states c.from.result c.next.result) c.args.t c.reply.result) answered)
 
 pub returns-clause-moves : goal.returns-clause-moves
@@ -93,7 +93,7 @@ returns-clause-moves g c =
     let said = c.whole-outcome.ensures in
     let Acts = λ (d : CpuId). S.ActsFor m d × S.IsWhole × IsOwned (λ e. S.ActsFor m e) (inner (S.opening m)) in
     subst (λ o. MovesGrow Acts (S.cpu_of lower) (moves_in (sleep_kernel attempts (S.opening m)) (S.seen m)) (moves_in (sleep_kernel attempts o) (S.seen n)))
-    (sym said.opening) (done_moves (S.opening m) (S.cpu_of lower) c.buffer_in.result c.attempt_in.result (S.seen m) (S.seen n) (S.own lower).threads
+    (sym said.opening) (done_moves (S.opening m) (S.cpu_of lower) c.buffer.result c.attempt_in.result (S.seen m) (S.seen n) (S.own lower).threads
     (S.own c.whole-outcome.new.part) c.whole-outcome.result said.done Acts)
 
 pub returns-clause-framed : goal.returns-clause-framed
@@ -120,7 +120,7 @@ returns-clause-framed g c =
         owned_after (λ e. S.ActsFor m e) (λ e. S.ActsFor n e) (S.opening m) (S.opening n) said.opening said.acts fits.2,
         record {
           none = said.none;
-          deferred = done_deferred (S.opening m) (S.cpu_of lower) c.buffer_in.result c.attempt_in.result (S.seen m) (S.seen n) (S.own lower).threads
+          deferred = done_deferred (S.opening m) (S.cpu_of lower) c.buffer.result c.attempt_in.result (S.seen m) (S.seen n) (S.own lower).threads
               (S.own c.whole-outcome.new.part) c.whole-outcome.result said.done;
           waits = subst (λ (l : List CallState). (u : Tid) → (call_state_of l u).stage ≢ Idle → (call_state_of l u).effect ≡ None) (sym set)
               (set_waits c.args.self.now.call_states c.args.t c.args.call.now (effect_in c.whole-outcome.result.out) within fits.3.waits);
@@ -155,9 +155,9 @@ returns-clause-prompt g c = λ whole none.
     (sym (subst (λ (f : Option Effect). option_map (λ kind. reply_with kind f) c.reply.result ≡ reply_to c.args.call.now f) c.effect-effect.ensures
     c.reply.ensures) ∙ ap (λ (o : Option ReplyKind). option_map (λ kind. reply_with kind (effect_in c.whole-outcome.result.out)) o) none) in (
       subst (λ o. IsRefused c.args.call.now (caps_in (inner (S.opening m))) (entries_in (inner o) (buffer_sections (S.seen n)))) (sym said.opening)
-          (done_refused (S.opening m) (S.cpu_of lower) c.buffer_in.result c.attempt_in.result (S.seen m) (S.seen n) (S.own lower).threads
+          (done_refused (S.opening m) (S.cpu_of lower) c.buffer.result c.attempt_in.result (S.seen m) (S.seen n) (S.own lower).threads
           (S.own c.whole-outcome.new.part) c.whole-outcome.result said.done c.args.t c.args.call.now
-          c.attempt_in.ensures c.buffer_in.ensures fits.2.fresh nothing),
-      done_sleeps (S.opening m) (S.cpu_of lower) c.buffer_in.result c.attempt_in.result (S.seen m) (S.seen n) (S.own lower).threads
+          c.attempt_in.ensures c.buffer.ensures fits.2.fresh nothing),
+      done_sleeps (S.opening m) (S.cpu_of lower) c.buffer.result c.attempt_in.result (S.seen m) (S.seen n) (S.own lower).threads
           (S.own c.whole-outcome.new.part) c.whole-outcome.result said.done nothing,
     )
