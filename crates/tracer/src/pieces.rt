@@ -5,8 +5,9 @@ ghost use Rattle.std.specs.List.{slice_split};
 ghost use Rattle.tracer.specs.Judging.{GivesOrReason, piece_at, word_at, digits_at, ended, in_range, is_value};
 ghost use Rattle.tracer.specs.Lines.{left_of};
 
+use crate::numerals::Numeral;
 use crate::verdicts::Reason;
-use event_log::{is_number, number_to};
+use event_log::number_to;
 use memchr::memchr;
 
 /// The first line of the text, without its line feed, and what stands behind that. A line is longer
@@ -76,14 +77,15 @@ pub fn word<'a>(word: &[u8], pieces: Pieces<'a>) -> Result<Pieces<'a>, Reason>
 ///
 /// Errors: `Spelling` if no piece is left, or the next one spells no number.
 #[inline(always)]
-pub fn digits(pieces: Pieces<'_>) -> Result<(&[u8], Pieces<'_>), Reason>
-    ensures { GivesOrReason (λ x. (x.0.now, left_of x.1)) result (digits_at (left_of pieces.entry)) }
+pub fn digits(pieces: Pieces<'_>) -> Result<(Numeral<'_>, Pieces<'_>), Reason>
+    ensures { GivesOrReason (λ x. (x.0.text.now, left_of x.1)) result (digits_at (left_of pieces.entry)) }
 {
     let (front, rest) = piece(pieces)?;
-    if !is_number(front) {
+    let numeral = Numeral::of(front);
+    if !numeral.is_number() {
         return Err(Reason::Spelling);
     }
-    Ok((front, rest))
+    Ok((numeral, rest))
 }
 
 /// Tests that no piece is left.
