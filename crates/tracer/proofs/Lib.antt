@@ -7,6 +7,7 @@ pub mod PieceLemmas
 pub mod TallyLemmas
 pub mod VerdictLemmas
 pub mod SplitLemmas
+pub mod NumeralLemmas
 pub mod ReadLemmas
 pub mod VersionLemmas
 pub mod KnownLemmas

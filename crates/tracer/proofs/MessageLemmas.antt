@@ -1,7 +1,7 @@
 -- A message is spelled and read again, and what is read as a message is spelled so.
-use Rattle.std.proofs.Common.{◌≡◌, ℕ, ◌<◌, ◌≤◌, ◌^◌, ◌==◌, Bool, true, false, not, ◌&&◌, List, [], ◌∷◌, length, map, drop}
+use Rattle.std.proofs.Common.{◌≡◌, ℕ, ◌<◌, ◌≤◌, ◌^◌, ◌==◌, Bool, true, false, not, ◌&&◌, List, [], ◌∷◌, length, map}
 use Rattle.std.proofs.Common.{Result, Ok, Err, Some, refl, sym, ap, subst, ◌∙◌, lt-ltb, lit<, arith}
-use Rattle.std.specs.Prelude.{decimal, nat_lt, nat_le, slice_index_or}
+use Rattle.std.specs.Prelude.{decimal, nat_lt, nat_le}
 use Rattle.std.specs.Str.{bytes_eq}
 use Rattle.std.specs.List.{AllByRecursion, list_all, join_with_byte}
 use Rattle.std.proofs.lemmas.Bool.{and_parts}
@@ -12,6 +12,7 @@ use Rattle.event_log.specs.declared.messages.TheConstants.{WORDS}
 use Rattle.event_log.specs.Messages.{Message, IsMessage, padded}
 use Rattle.event_log.specs.Digits.{is_number, number_to}
 use Rattle.event_log.specs.Reading.{◌>>=◌}
+use Rattle.event_log.specs.Rings.{first, rest}
 use Rattle.event_log.proofs.DigitsLemmas.{IsSpelled, number_to-Some, number_to-decimal, spelled_number}
 use Rattle.event_log.proofs.MessageLemmas.{padded_eq}
 use Rattle.tracer.specs.declared.verdicts.Reason.{Reason}
@@ -39,12 +40,13 @@ not_other differs true same is equal e = sym e
 not_other differs false same is equal e = absurd (cc)
 
 -- the first message is the wanted one
-pub takes_first : (x m : Message) (items : List Message) (differs : Bool) → 0 < length items → x ≡ slice_index_or items 0 x
-    → differs ≡ not (bytes_eq (padded x) (padded m) && (length x == length m)) → differs ≡ false → take_first m items ≡ Ok (drop 1 items)
-takes_first x m [] differs some is test equal = absurd (let z : 0 < 0 = some in omega arith)
-takes_first x m (y ∷ ys) differs some is test equal =
+pub takes_first : (x m : Message) (items : List Message) (differs : Bool) → first items ≡ Some x
+    → differs ≡ not (bytes_eq (padded x) (padded m) && (length x == length m)) → differs ≡ false → take_first m items ≡ Ok (rest items)
+takes_first x m [] differs is test equal = absurd (cc)
+takes_first x m (y ∷ ys) differs is test equal =
     let same : bytes_eq x m ≡ true = not_other differs _ (bytes_eq x m) test equal (padded_eq x m) in
-    rw (← is, same) refl
+    let head : y ≡ x = cc in
+    rw (head, same) refl
 
 -- a message that was read is this one
 pub is_read : (read : Result Message Reason) (x m : Message) (same : Bool) → read ≡ Ok x

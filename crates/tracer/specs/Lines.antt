@@ -9,4 +9,12 @@ abbrev pub left_of : Pieces → List (List ℕ)
 left_of pieces = elim pieces.rest [ None ↦ [] | Some line ↦ line_pieces line.now ]
 
 abbrev pub digits_of : EntryDigits → Digits
-digits_of d = record { cpu = d.cpu.now; thread = d.thread.now; kind = d.kind; buffer = d.buffer.now; value = d.value.now; op = d.op.now; pos = d.pos.now }
+digits_of d = record {
+  cpu = d.cpu.text.now;
+  thread = d.thread.text.now;
+  kind = d.kind;
+  buffer = d.buffer.text.now;
+  value = d.value.text.now;
+  op = d.op.text.now;
+  pos = d.pos.text.now;
+}

@@ -6,7 +6,7 @@ use Rattle.tracer.specs.declared.judge.Judge.{Judge}
 use Rattle.tracer.specs.Judging.{Seen, Progress}
 
 abbrev pub seen_in : Tally → Seen
-seen_in t = record { capacity = t.capacity; items = t.items.items; ops = t.ops; sends = t.sends; recvs = t.recvs; closes = t.closes }
+seen_in t = record { capacity = t.capacity; items = t.items; ops = t.ops; sends = t.sends; recvs = t.recvs; closes = t.closes }
 
 -- what the step gives is there now; where it gives a reason, that is the answer
 abbrev pub StepsTo : {X : Type 0} → Result X Reason → Result (Unit {0}) Reason → X → Type 0

@@ -6,37 +6,34 @@ ghost use Rattle.tracer.specs.Judging.{put_in, take_first, item_effect};
 ghost use Rattle.tracer.specs.Tallies.{StepsTo};
 
 use crate::verdicts::Reason;
-use arrayvec::ArrayVec;
-use event_log::{CAPACITY, Kind, Msg};
+use event_log::{CAPACITY, Kind, Msg, Ring};
 
 /// Puts `value` behind the items.
 ///
 /// Errors: `Full` where there are as many items as the capacity; then nothing changed.
-fn put(items: &mut ArrayVec<Msg, CAPACITY>, capacity: usize, value: &Msg) -> Result<(), Reason>
+fn put(items: &mut Ring<Msg>, capacity: usize, value: &Msg) -> Result<(), Reason>
     requires { capacity ≤ CAPACITY }
-    ensures { StepsTo (put_in value.now capacity items.old.items) result items.new.items }
+    ensures { StepsTo (put_in value.now capacity items.old) result items.new }
 {
     if items.len() >= capacity {
         return Err(Reason::Full);
     }
-    items.push(*value);
+    items.put(*value);
     Ok(())
 }
 
 /// Takes the first item, which must be `value`.
 ///
-/// Errors: `EmptyTake` where there is none, `WrongValue` where it is another; then nothing
-/// changed.
-fn take(items: &mut ArrayVec<Msg, CAPACITY>, value: &Msg) -> Result<(), Reason>
-    ensures { StepsTo (take_first value.now items.old.items) result items.new.items }
+/// Errors: `EmptyTake` where there is none, `WrongValue` where it is another, which is gone then.
+fn take(items: &mut Ring<Msg>, value: &Msg) -> Result<(), Reason>
+    ensures { StepsTo (take_first value.now items.old) result items.new }
 {
-    if items.is_empty() {
+    let Some(first) = items.take() else {
         return Err(Reason::EmptyTake);
-    }
-    if items[0] != *value {
+    };
+    if first != *value {
         return Err(Reason::WrongValue);
     }
-    items.remove(0);
     Ok(())
 }
 
@@ -47,16 +44,16 @@ fn take(items: &mut ArrayVec<Msg, CAPACITY>, value: &Msg) -> Result<(), Reason>
 /// Errors: `CloseState` if a send finds the buffer closed, or a call that found it closed finds it
 /// open. `Full` if a send finds as many items as the capacity. `EmptyTake` if a receive finds no
 /// item, and `WrongValue` if it finds another first item. `NotEmpty` if a receive that found the
-/// buffer closed finds items. Then nothing changed.
+/// buffer closed finds items. Nothing is judged behind an error, so the items need not be as before.
 pub fn act(
-    items: &mut ArrayVec<Msg, CAPACITY>,
+    items: &mut Ring<Msg>,
     capacity: usize,
     closed: bool,
     kind: Kind,
     value: &Msg,
 ) -> Result<(), Reason>
     requires { capacity ≤ CAPACITY }
-    ensures { StepsTo (item_effect kind value.now closed capacity items.old.items) result items.new.items }
+    ensures { StepsTo (item_effect kind value.now closed capacity items.old) result items.new }
 {
     match kind {
         Kind::Send if closed => Err(Reason::CloseState),
@@ -64,7 +61,7 @@ pub fn act(
         Kind::Recv => take(items, value),
         Kind::Close => Ok(()),
         Kind::SendClosed | Kind::RecvClosed if !closed => Err(Reason::CloseState),
-        Kind::RecvClosed if !items.is_empty() => Err(Reason::NotEmpty),
+        Kind::RecvClosed if items.len() > 0 => Err(Reason::NotEmpty),
         Kind::SendClosed | Kind::RecvClosed => Ok(()),
     }
 }

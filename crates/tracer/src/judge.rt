@@ -12,7 +12,7 @@ use crate::lines::{
     capacity_digits, count_digits, entry_digits, entry_in, is_of_version, left_digits,
 };
 use crate::next_lines::NextLine;
-use crate::pieces::{Pieces, in_range, piece};
+use crate::pieces::{Pieces, piece};
 use crate::tally::Tally;
 use crate::verdicts::Reason;
 use crate::versions::Version;
@@ -123,7 +123,7 @@ impl Judge {
         ensures { StepsTo (count_line (left_of pieces.entry) (progress_of self.old)) result (progress_of self.new) }
     {
         let digits = count_digits(pieces)?;
-        let count = in_range(BUFFERS as u64, digits)?;
+        let count = digits.up_to(BUFFERS as u64)?;
         if count == 0 {
             return Err(Reason::Range);
         }
@@ -139,7 +139,7 @@ impl Judge {
         ensures { StepsTo (capacity_line count (left_of pieces.entry) (progress_of self.old)) result (progress_of self.new) }
     {
         let digits = capacity_digits(self.buffers.len() as u64, pieces)?;
-        let capacity = in_range(CAPACITY as u64, digits)?;
+        let capacity = digits.up_to(CAPACITY as u64)?;
         if capacity == 0 {
             return Err(Reason::Range);
         }

@@ -17,6 +17,7 @@ mod judge;
 mod laws;
 mod lines;
 mod next_lines;
+mod numerals;
 mod pieces;
 mod sinks;
 mod tally;

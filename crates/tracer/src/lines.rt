@@ -6,7 +6,8 @@ ghost use Rattle.tracer.specs.Judging.{GivesOrReason, kind_in, has_message, valu
 ghost use Rattle.tracer.specs.Judging.{capacity_digits, left_digits, count_digits};
 ghost use Rattle.tracer.specs.Lines.{left_of, digits_of};
 
-use crate::pieces::{Pieces, digits, ended, in_range, is_value, piece, word};
+use crate::numerals::Numeral;
+use crate::pieces::{Pieces, digits, ended, is_value, piece, word};
 use crate::verdicts::Reason;
 use crate::versions::Version;
 use crate::words::{are_messages, message_in, spells_message};
@@ -15,13 +16,13 @@ use event_log::{BUFFERS, BufId, CPUS, CpuId, ENTRIES, Entry, Kind, Msg, THREADS,
 /// The digits of an entry, of any size, and the piece of its message.
 #[derive(Clone, Copy)]
 pub struct EntryDigits<'a> {
-    pub cpu: &'a [u8],
-    pub thread: &'a [u8],
+    pub cpu: Numeral<'a>,
+    pub thread: Numeral<'a>,
     pub kind: Kind,
-    pub buffer: &'a [u8],
-    pub value: &'a [u8],
-    pub op: &'a [u8],
-    pub pos: &'a [u8],
+    pub buffer: Numeral<'a>,
+    pub value: Numeral<'a>,
+    pub op: Numeral<'a>,
+    pub pos: Numeral<'a>,
 }
 
 /// The kind that a word names.
@@ -67,13 +68,13 @@ pub fn is_of_version(version: Version, digits: EntryDigits<'_>) -> bool
     if has_message(digits.kind) {
         spells_message(version, digits.value)
     } else {
-        digits.value == b"-".as_slice()
+        digits.value.text == b"-".as_slice()
     }
 }
 
 /// The message that the piece spells, none where effects of this kind have none.
-fn value_in(kind: Kind, piece: &[u8]) -> Result<Msg, Reason>
-    ensures { result ≡ value_in kind piece.now }
+fn value_in(kind: Kind, piece: Numeral<'_>) -> Result<Msg, Reason>
+    ensures { result ≡ value_in kind piece.entry.text.now }
 {
     if has_message(kind) {
         message_in(piece)
@@ -105,7 +106,7 @@ pub fn entry_digits(pieces: Pieces<'_>) -> Result<EntryDigits<'_>, Reason>
         thread,
         kind,
         buffer,
-        value,
+        value: Numeral::of(value),
         op,
         pos,
     })
@@ -121,12 +122,12 @@ pub fn entry_in(digits: EntryDigits<'_>) -> Result<Entry, Reason>
     ensures op { IfOk result (λ e. e.op < ENTRIES) }
     ensures pos { IfOk result (λ e. e.pos < ENTRIES) }
 {
-    let cpu = in_range(CPUS as u64 - 1, digits.cpu)?;
-    let thread = in_range(THREADS as u64 - 1, digits.thread)?;
-    let buffer = in_range(BUFFERS as u64 - 1, digits.buffer)?;
+    let cpu = digits.cpu.up_to(CPUS as u64 - 1)?;
+    let thread = digits.thread.up_to(THREADS as u64 - 1)?;
+    let buffer = digits.buffer.up_to(BUFFERS as u64 - 1)?;
     let value = value_in(digits.kind, digits.value)?;
-    let op = in_range(ENTRIES as u64 - 1, digits.op)?;
-    let pos = in_range(ENTRIES as u64 - 1, digits.pos)?;
+    let op = digits.op.up_to(ENTRIES as u64 - 1)?;
+    let pos = digits.pos.up_to(ENTRIES as u64 - 1)?;
     Ok(Entry {
         cpu: CpuId(cpu as u8),
         thread: Tid(thread as u8),
@@ -142,8 +143,8 @@ pub fn entry_in(digits: EntryDigits<'_>) -> Result<Entry, Reason>
 ///
 /// Errors: `Spelling` if the pieces are not the word `buffers` and one number.
 #[tactic(auto, unfolding(crate::specs::Judging::count_digits))]
-pub fn count_digits(pieces: Pieces<'_>) -> Result<&[u8], Reason>
-    ensures { GivesOrReason (λ x. x.now) result (count_digits (left_of pieces.entry)) }
+pub fn count_digits(pieces: Pieces<'_>) -> Result<Numeral<'_>, Reason>
+    ensures { GivesOrReason (λ x. x.text.now) result (count_digits (left_of pieces.entry)) }
 {
     let rest = word(b"buffers", pieces)?;
     let (count, rest) = digits(rest)?;
@@ -155,8 +156,8 @@ pub fn count_digits(pieces: Pieces<'_>) -> Result<&[u8], Reason>
 ///
 /// Errors: `Spelling` if the pieces are not the word `cap`, the number `b` and one number.
 #[tactic(auto, unfolding(crate::specs::Judging::capacity_digits))]
-pub fn capacity_digits(b: u64, pieces: Pieces<'_>) -> Result<&[u8], Reason>
-    ensures { GivesOrReason (λ x. x.now) result (capacity_digits b (left_of pieces.entry)) }
+pub fn capacity_digits(b: u64, pieces: Pieces<'_>) -> Result<Numeral<'_>, Reason>
+    ensures { GivesOrReason (λ x. x.text.now) result (capacity_digits b (left_of pieces.entry)) }
 {
     let rest = word(b"cap", pieces)?;
     let (number, rest) = piece(rest)?;

@@ -5,8 +5,23 @@ ghost use Rattle.std.specs.List.{slice_split};
 ghost use Rattle.tracer.specs.Judging.{GivesOrReason, piece_at, word_at, digits_at, ended, in_range, is_value};
 ghost use Rattle.tracer.specs.Lines.{left_of};
 
+use crate::numerals::Numeral;
 use crate::verdicts::Reason;
-use event_log::{is_number, number_to};
+use event_log::number_to;
+use memchr::memchr;
+
+/// The first line of the text, without its line feed, and what stands behind that. A line is longer
+/// than a piece, so its end is looked for many bytes at a time.
+pub fn cut_line(text: &[u8]) -> Option<(&[u8], &[u8])>
+    ensures none { IfNone result (slice_split (λ b. b == 10) text.now ≡ text.now ∷ []) }
+    ensures some { IfSome result (λ p. slice_split (λ b. b == 10) text.now ≡ p.0.now ∷ slice_split (λ b. b == 10) p.1.now) }
+    ensures shorter { IfSome result (λ p. length p.0.now + 1 + length p.1.now ≡ length text.now) }
+{
+    match memchr(b'\n', text) {
+        Some(end) => Some((&text[..end], &text[end + 1..])),
+        None => None,
+    }
+}
 
 /// What stands before the first byte `at` of the text, and what stands behind it.
 #[inline(always)]
@@ -62,14 +77,15 @@ pub fn word<'a>(word: &[u8], pieces: Pieces<'a>) -> Result<Pieces<'a>, Reason>
 ///
 /// Errors: `Spelling` if no piece is left, or the next one spells no number.
 #[inline(always)]
-pub fn digits(pieces: Pieces<'_>) -> Result<(&[u8], Pieces<'_>), Reason>
-    ensures { GivesOrReason (λ x. (x.0.now, left_of x.1)) result (digits_at (left_of pieces.entry)) }
+pub fn digits(pieces: Pieces<'_>) -> Result<(Numeral<'_>, Pieces<'_>), Reason>
+    ensures { GivesOrReason (λ x. (x.0.text.now, left_of x.1)) result (digits_at (left_of pieces.entry)) }
 {
     let (front, rest) = piece(pieces)?;
-    if !is_number(front) {
+    let numeral = Numeral::of(front);
+    if !numeral.is_number() {
         return Err(Reason::Spelling);
     }
-    Ok((front, rest))
+    Ok((numeral, rest))
 }
 
 /// Tests that no piece is left.

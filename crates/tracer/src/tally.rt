@@ -10,14 +10,13 @@ use crate::effects::act;
 use crate::pieces::Pieces;
 use crate::verdicts::Reason;
 use crate::words::are_values;
-use arrayvec::ArrayVec;
-use event_log::{CAPACITY, Entry, Kind, Msg};
+use event_log::{CAPACITY, Entry, Kind, Msg, Ring};
 
 /// One buffer: its capacity, its items, front first, and how many effects it had.
 #[derive(Drop)]
 pub struct Tally {
     capacity: usize,
-    items: ArrayVec<Msg, CAPACITY>,
+    items: Ring<Msg>,
     ops: u64,
     sends: u64,
     recvs: u64,
@@ -37,7 +36,7 @@ impl Tally {
     {
         Tally {
             capacity,
-            items: ArrayVec::new(),
+            items: Ring::new(Msg::none()),
             ops: 0,
             sends: 0,
             recvs: 0,
@@ -110,7 +109,7 @@ impl Tally {
     pub fn holds(&self, values: Pieces<'_>) -> bool
         ensures { result ≡ are_values (left_of values.entry) (seen_in self.now).items }
     {
-        are_values(values, self.items.as_slice())
+        are_values(values, self.items.items().as_slice())
     }
 }
 

@@ -6,11 +6,12 @@ ghost use Rattle.event_log.specs.Digits.{is_number};
 ghost use Rattle.tracer.specs.Judging.{words_of, spells_message, message_in, is_within, is_message, are_values};
 ghost use Rattle.tracer.specs.Lines.{left_of};
 
+use crate::numerals::Numeral;
 use crate::pieces::{Pieces, cut, in_range, piece};
 use crate::verdicts::Reason;
 use crate::versions::Version;
 use arrayvec::ArrayVec;
-use event_log::{Msg, WORDS, is_number, number_to};
+use event_log::{Msg, WORDS, is_number};
 
 /// How many words a piece has: one more than commas.
 fn word_count(piece: &[u8]) -> usize
@@ -40,15 +41,15 @@ fn are_numbers(piece: &[u8]) -> bool
 }
 
 /// Whether a piece spells a message, of any size, as a text of this version may.
-pub fn spells_message(version: Version, piece: &[u8]) -> bool
-    ensures { result ≡ spells_message version piece.now }
+pub fn spells_message(version: Version, piece: Numeral<'_>) -> bool
+    ensures { result ≡ spells_message version piece.entry.text.now }
 {
     // most often it is one word, and nobody looks for a comma
-    if is_number(piece) {
+    if piece.is_number() {
         return true;
     }
-    match cut(piece, b',') {
-        Some((_, _)) => version.covers(Version::Three) && are_numbers(piece),
+    match cut(piece.text, b',') {
+        Some((_, _)) => version.covers(Version::Three) && are_numbers(piece.text),
         None => false,
     }
 }
@@ -75,12 +76,12 @@ fn words_in(piece: &[u8]) -> Result<Msg, Reason>
 /// The message that a piece spells, most often one of one word.
 ///
 /// Errors: `Range` where it has more words than a message has, or a word has more than 64 bits.
-pub fn message_in(piece: &[u8]) -> Result<Msg, Reason>
-    ensures { result ≡ message_in piece.now }
+pub fn message_in(piece: Numeral<'_>) -> Result<Msg, Reason>
+    ensures { result ≡ message_in piece.entry.text.now }
 {
-    match number_to(piece, u64::MAX) {
+    match piece.number() {
         Some(word) => Ok(Msg::one(word)),
-        None => words_in(piece),
+        None => words_in(piece.text),
     }
 }
 
@@ -88,7 +89,7 @@ pub fn message_in(piece: &[u8]) -> Result<Msg, Reason>
 fn is_message(piece: &[u8], message: &Msg) -> bool
     ensures { result ≡ is_message piece.now message.now }
 {
-    match message_in(piece) {
+    match message_in(Numeral::of(piece)) {
         Ok(read) => read == *message,
         Err(_) => false,
     }
@@ -99,7 +100,7 @@ pub fn are_messages(version: Version, mut pieces: Pieces<'_>) -> bool
     ensures { result ≡ list_all (spells_message version) (left_of pieces.entry) }
 {
     while let Ok((front, rest)) = piece(pieces) {
-        if !spells_message(version, front) {
+        if !spells_message(version, Numeral::of(front)) {
             return false;
         }
         pieces = rest;
@@ -112,7 +113,7 @@ pub fn are_within(mut pieces: Pieces<'_>) -> bool
     ensures { result ≡ list_all is_within (left_of pieces.entry) }
 {
     while let Ok((front, rest)) = piece(pieces) {
-        if message_in(front).is_err() {
+        if message_in(Numeral::of(front)).is_err() {
             return false;
         }
         pieces = rest;

@@ -3,4 +3,4 @@ use Rattle.tracer.proofs.MessageLemmas.{reads_number}
 use Rattle.tracer.proofs.words.message_in.Goals as goal
 
 pub returns-in-Some : goal.returns-in-Some
-returns-in-Some c = ap Ok c.one.ensures ∙ sym (reads_number c.args.piece.now c.in-Some.word (sym c.number_to.ensures.number ∙ c.in-Some.is))
+returns-in-Some c = ap Ok c.one.ensures ∙ sym (reads_number c.args.piece.text.now c.in-Some.word (sym c.number.ensures ∙ c.in-Some.is))
