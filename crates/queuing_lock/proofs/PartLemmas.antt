@@ -1,6 +1,7 @@
 -- A part and its polls, from what the part beneath says of its own: what is owed beneath, and what was done here.
 use Rattle.std.proofs.Common.{◌≡◌, ◌≢◌, true, false, if◌then◌else◌, List, ◌++◌, length, ◌≤◌, Option, Some, None, option_map, is_some, map, refl, ap, sym, ◌∙◌}
 use Rattle.std.proofs.Common.{subst, ◌<◌, arith}
+use Rattle.std.proofs.Math.Path.{transport}
 use Rattle.std.proofs.lemmas.Option.{slice_get_within}
 use Rattle.event_log.specs.declared.ids.BufId.{BufId}
 use Rattle.event_log.specs.declared.ids.CpuId.{CpuId}
@@ -111,7 +112,7 @@ pub record Before {F R B O : Type 0} (rules : LockRules F R B O) (opening : Lock
   pub may : MayGo (slept_for slept (lock_caller rules e)) (option_map (renamed_sched edit_in) under) b e (lock_caller rules e)
       (MayLock rules (here rules opening) c (renamed_events edit_in past) own.threads.hand b e)
 
-module _ {F R B O : Type 0} (rules : LockRules F R B O) (opening : LockId → Option (QueueBlock (SleepState (QBlock B))))
+module _ {F R B O : Type 0} {rules : LockRules F R B O} {opening : LockId → Option (QueueBlock (SleepState (QBlock B)))}
     (before : Before rules opening) where
   open before use {c, b, e, past, own, under, slept}
 
@@ -190,7 +191,7 @@ module _ {F R B O : Type 0} (rules : LockRules F R B O) (opening : LockId → Op
         (MayLock rules (here rules opening) c (renamed_events edit_in past) own.threads.hand b e)
         before.deferred goes (λ may. may.empty)
 
-    module _ (ActsFor : CpuId → Type 0) (new : List (QueueEvent (QLockEdit F R))) (got : Left (Sleeping (QOut O)) (Outcome (QOut O)))
+    module _ {ActsFor : CpuId → Type 0} {new : List (QueueEvent (QLockEdit F R))} {got : Left (Sleeping (QOut O)) (Outcome (QOut O))}
         (polled : SleepPolled (beneath rules opening) ActsFor c b (as_section e) past new own got) where
       -- the poll beneath is a poll here
       polled_here : SleepPolled (here rules opening) ActsFor c b e (renamed_events edit_in past) (renamed_events edit_in new) own got
@@ -259,16 +260,16 @@ module _ {F R B O : Type 0} (rules : LockRules F R B O) (opening : LockId → Op
     (acts acts' : List (Action (QueueEdit (QLockEdit F R)))) where
   pub locks_follow : (b : BufId) (e : QEdit F R) (own : Sleeping (QOut O)) (slept : List (Option BufId)) (got : Left (Sleeping (QOut O)) (Outcome (QOut O)))
       → slept_for slept (lock_caller rules e) ≡ None
+      → (got' : Left (Locking O) (Outcome (QOut O))) → got' ≡ left_after (lock_caller rules e) b slept got.own got.answer
       → Follows ActsFor (table_of (queue_rules (sleep_rules (busy_rules rules)) (sleep_moves (busy_rules rules)))) opening c
       (sleep_plan (sleep_moves (busy_rules rules)) (homes_in opening) c b (as_section e) own) acts acts' got
       → Follows ActsFor (table_of (queue_rules (lock_rules rules) (lock_moves rules))) (viewed nested_lock_of opening) c
       (lock_plan (lock_moves rules) (homes_in (viewed nested_lock_of opening)) c b e (record { sleep = own; slept = slept }))
-      (map (renamed (renamed_edit edit_in)) acts) (map (renamed (renamed_edit edit_in)) acts') (left_after (lock_caller rules e) b slept got.own got.answer)
-  locks_follow b e own slept got none follows =
-      subst (λ x. Follows ActsFor (table_of (queue_rules (lock_rules rules) (lock_moves rules))) (viewed nested_lock_of opening) c
-      (plan_for (lock_moves rules) (homes_in (viewed nested_lock_of opening)) c b e (record { sleep = own; slept = slept }) x)
-      (map (renamed (renamed_edit edit_in)) acts) (map (renamed (renamed_edit edit_in)) acts') (left_after (lock_caller rules e) b slept got.own got.answer))
-      (sym none)
+      (map (renamed (renamed_edit edit_in)) acts) (map (renamed (renamed_edit edit_in)) acts') got'
+  locks_follow b e own slept got none got' leaves follows =
+      transport (λ i. Follows ActsFor (table_of (queue_rules (lock_rules rules) (lock_moves rules))) (viewed nested_lock_of opening) c
+      (plan_for (lock_moves rules) (homes_in (viewed nested_lock_of opening)) c b e (record { sleep = own; slept = slept }) (sym none i))
+      (map (renamed (renamed_edit edit_in)) acts) (map (renamed (renamed_edit edit_in)) acts') (sym leaves i))
       (follows_raised ActsFor (table_of (queue_rules (lock_rules rules) (lock_moves rules))) (viewed nested_lock_of opening) c
       (λ l. left_after (lock_caller rules e) b slept l.own l.answer)
       (sleep_plan (lock_moves rules) (homes_in (viewed nested_lock_of opening)) c b e own)

@@ -169,7 +169,7 @@ module _ {E B O : Type 0} (rules : Rules E B O) (mv : MoveRules E O) (opening : 
       (stands_others H c (moves_over K more past) (moves_in K past) own (moves_others K c more past others)
       (subst (AreMoves H) joined (moves_lawful K wakes (more ++ past) lawful)) stands)
 
-  module _ (c below : CpuId) (table : List CpuId) (under : Option (QueueEvent E)) (past : List (QueueEvent E)) (own : Threads) (lawful : Lawful past)
+  module _ {c below : CpuId} {table : List CpuId} {under : Option (QueueEvent E)} {past : List (QueueEvent E)} {own : Threads} (lawful : Lawful past)
       (fits : PartFits rules mv opening c below table under past own) (s : SchedCall E) (may : MaySched K c past own (sched_under under own.current) s) where
     state_of : (o : Option (QueueEvent E)) → UnderFits mv H c o own → MaySched K c past own (sched_under o own.current) s → StateFor mv s own
     state_of None calls may = may.0
@@ -423,7 +423,7 @@ module _ {E B O : Type 0} (rules : Rules E B O) (mv : MoveRules E O) (opening : 
             let out = edit_out b e (cc) in
             ap (option_map Answer) out.1 ∙ sym (ap (λ a. Some (answer_by a)) out.2)
 
-      module _ (ActsFor : CpuId → Type 0) (acts : ActsFor c) (new : List (QueueEvent E)) (answer : QueueAnswer O)
+      module _ {ActsFor : CpuId → Type 0} (acts : ActsFor c) {new : List (QueueEvent E)} {answer : QueueAnswer O}
           (polled : QueuePolled K ActsFor (event below q) (Some answer) past new)
           (legal : Lawful new) where
         abbrev joined : List (QueueEvent E)

@@ -1,5 +1,8 @@
-use Rattle.std.proofs.Common.{◌∙◌, ap, sym, true, false, Some}
-use Rattle.layer_traits.specs.Conditions.{cv_rules}
+use Rattle.std.proofs.Common.{◌≡◌, ◌<◌, ◌∙◌, List, Option, None, if◌then◌else◌, is_some, slice_set, ap, sym, true, false, Some}
+use Rattle.layer_traits.specs.declared.conditions.CvOut.{CvOut}
+use Rattle.layer_traits.specs.declared.locked.QOut.{QOut}
+use Rattle.layer_traits.specs.declared.sleeps.Outcome.{Outcome}
+use Rattle.layer_traits.specs.Conditions.{CvCall, cv_rules}
 use Rattle.layer_traits.specs.CvLaw.{Waiting}
 use Rattle.layer_traits.specs.Locking.{lock_caller, lock_moves, lock_rules}
 use Rattle.layer_traits.specs.LockLaw.{lock_kernel, slept_for}
@@ -8,34 +11,32 @@ use Rattle.layer_traits.specs.Plans.{table_of}
 use Rattle.layer_traits.specs.QueueBlocks.{homes_in}
 use Rattle.layer_traits.specs.QueueRules.{queue_rules}
 use Rattle.layer_traits.specs.Queues.{moves_in}
+use Rattle.event_log.specs.declared.ids.BufId.{BufId}
+use Rattle.event_log.specs.declared.ids.TheConstants.{THREADS}
 use Rattle.event_log.specs.declared.ids.LockId.TheVariants.{Buffer}
+use Rattle.condvar.specs.Waiting.{is_wait}
 use Rattle.condvar.proofs.CondLemmas.{complete_told, current_awake, current_small, lock_tells, over_polled, waits_follow, waits_polled, waits_told}
 use Rattle.condvar.proofs.CondLemmas.{wake_ended, wake_kept, wake_told}
+use Rattle.condvar.proofs.cond.CondThreadLayerCvLaw.poll.Given.{Over}
 use Rattle.condvar.proofs.cond.CondThreadLayerCvLaw.poll.Goals as goal
+use Rattle.condvar.proofs.cond.CondThreadLayerCvLaw.poll.Goals.{After-caller_of-t, After-complete}
+
+-- the caller is a thread of the machine
+small : (g : Over) (c : After-caller_of-t g) → c.caller_of-t.result.0 < THREADS
+small g c =
+    let law = g.met.Q.ThreadLayer in
+    let m = c.args.m.now in
+    let p = c.args.self.now.lower in
+    let cpu = g.Q.ThreadLayer.cpu_of p in
+    let acts = law.own_cpu p m c.requires.fits in
+    current_small _ cpu _ (g.Q.ThreadLayer.own p).sleep.threads c.caller_of-t.result (law.moves_legal m cpu acts) (law.stands p m c.requires.fits).stands
+    (law.opens m cpu acts).room (c.requires.call.runs ∙ ap Some (sym c.caller_of-t.ensures))
 
 pub ends_wait-requires : goal.ends_wait-requires
-ends_wait-requires g c =
-    let Q = g.Q.ThreadLayer in
-    let law = g.met.Q.ThreadLayer in
-    let m = c.args.m.now in
-    let p = c.args.self.now.lower in
-    let acts = law.own_cpu p m c.requires.fits in
-    current_small (homes_in (Q.opening m)) (Q.cpu_of p) (moves_in (lock_kernel (cv_rules g.G.Guarded.monitor_rules) (Q.opening m)) (Q.seen m))
-    (Q.own p).sleep.threads
-    c.caller_of-t.result (law.moves_legal m (Q.cpu_of p) acts) (law.stands p m c.requires.fits).stands (law.opens m (Q.cpu_of p) acts).room
-    (c.requires.call.runs ∙ ap Some (sym c.caller_of-t.ensures))
+ends_wait-requires g c = small g (goal.at.ends_wait-requires g c).After-caller_of-t
 
 pub complete-requires : goal.complete-requires
-complete-requires g c =
-    let Q = g.Q.ThreadLayer in
-    let law = g.met.Q.ThreadLayer in
-    let m = c.args.m.now in
-    let p = c.args.self.now.lower in
-    let acts = law.own_cpu p m c.requires.fits in
-    current_small (homes_in (Q.opening m)) (Q.cpu_of p) (moves_in (lock_kernel (cv_rules g.G.Guarded.monitor_rules) (Q.opening m)) (Q.seen m))
-    (Q.own p).sleep.threads
-    c.caller_of-t.result (law.moves_legal m (Q.cpu_of p) acts) (law.stands p m c.requires.fits).stands (law.opens m (Q.cpu_of p) acts).room
-    (c.requires.call.runs ∙ ap Some (sym c.caller_of-t.ensures))
+complete-requires g c = small g (goal.at.complete-requires g c).After-caller_of-t
 
 pub returns-then-ends_wait-clause-seen : goal.returns-then-ends_wait-clause-seen
 returns-then-ends_wait-clause-seen g c =
@@ -61,53 +62,46 @@ returns-then-ends_wait-clause-seen g c =
     over_polled g.G.Guarded.monitor_rules k (λ d. Q.ActsFor m d) cpu c.args.call.buffer call (Q.seen m) own (Q.under_way p) c.side_of.result
     c.ends_wait.new.self.buffers some c.requires.call awake c.side_of.ensures now
 
+-- the thread does not wait: what the poll beneath leaves
+module _ (g : Over) (c : After-complete g) where
+  open g.G.Guarded use {monitor_rules, meant, told}
+
+  abbrev call : CvCall g.row.G.Denot
+  call = lock_meant (cv_meant meant) c.args.call.edit c.args.payload.now.parcel
+
+  abbrev waits : List (Option BufId)
+  waits = c.args.self.now.waits.buffers
+
+  abbrev own : Waiting g.row.G-Out.Denot
+  own = record { lock = g.Q.ThreadLayer.own c.args.self.now.lower; waits = waits }
+
+  abbrev answer : Option (Outcome (QOut (CvOut g.row.G-Out.Denot)))
+  answer = lock_tells told c.poll-answer.new.payload.parcel c.poll-answer.result
+
+  none : is_some (slept_for waits (lock_caller (cv_rules monitor_rules) call)) ≡ false
+  none = wake_told monitor_rules _ meant c.args.payload.now.parcel _ c.args.call.buffer c.args.call.edit _ own _ c.ends_wait.result false
+      c.caller_of-t.result c.requires.call c.ends_wait.ensures.was c.if-ends_wait.false c.caller_of-t.ensures
+
+  noted : c.complete.new.self.buffers
+      ≡ (if is_wait answer then slice_set waits (lock_caller (cv_rules monitor_rules) call).0 (Some c.args.call.buffer) else waits)
+  noted =
+      let kept = wake_kept waits c.ends_wait.new.self.buffers c.ends_wait.result c.caller_of-t.result c.ends_wait.ensures.now c.if-ends_wait.false in
+      let caller = c.caller_of-t.ensures in
+      waits_told told c.poll-answer.new.payload.parcel c.poll-answer.result _ c.args.call.buffer waits c.complete.new.self.buffers
+      (rw (← kept, ← caller) c.complete.ensures.waits)
+
+  gives : lock_tells told c.poll-answer.new.payload.parcel c.complete.result ≡ (if is_wait answer then None else answer)
+  gives = complete_told told c.poll-answer.new.payload.parcel c.poll-answer.result c.complete.result c.complete.ensures.complete
+
 pub returns-clause-seen : goal.returns-clause-seen
 returns-clause-seen g c =
-    let Q = g.Q.ThreadLayer in
-    let m = c.args.m.now in
-    let p = c.args.self.now.lower in
-    let cpu = Q.cpu_of p in
-    let rules = cv_rules g.G.Guarded.monitor_rules in
-    let k = lock_kernel rules (Q.opening m) in
-    let G = g.G.Guarded in
-    let call = lock_meant (cv_meant G.meant) c.args.call.edit c.args.payload.now.parcel in
-    let t = lock_caller rules call in
-    let waits = c.args.self.now.waits.buffers in
-    let own : Waiting _ = record { lock = Q.own p; waits = waits } in
-    let caller = c.caller_of-t.ensures in
-    let parcel = c.poll-answer.new.payload.parcel in
-    let none = wake_told G.monitor_rules k G.meant c.args.payload.now.parcel cpu c.args.call.buffer c.args.call.edit (Q.seen m) own (Q.under_way p)
-    c.ends_wait.result false c.caller_of-t.result c.requires.call c.ends_wait.ensures.was c.if-ends_wait.false caller in
-    let kept = wake_kept waits c.ends_wait.new.self.buffers c.ends_wait.result c.caller_of-t.result c.ends_wait.ensures.now c.if-ends_wait.false in
-    waits_polled g.G.Guarded.monitor_rules k (λ d. Q.ActsFor m d) cpu c.args.call.buffer call (Q.seen m) (Q.seen c.poll-answer.new.m) own
-    (Q.under_way c.poll-answer.new.self) (Q.own c.poll-answer.new.self) c.complete.new.self.buffers
-    (lock_tells G.told parcel c.poll-answer.result) (lock_tells G.told parcel c.complete.result) (slept_for waits t) none
-    c.poll-answer.ensures.seen
-    (waits_told G.told parcel c.poll-answer.result t c.args.call.buffer waits c.complete.new.self.buffers (rw (← kept, ← caller) c.complete.ensures.waits))
-    (complete_told G.told parcel c.poll-answer.result c.complete.result c.complete.ensures.complete)
+    let d = (goal.at.returns-clause-seen g c).After-complete in
+    waits_polled g.G.Guarded.monitor_rules _ _ _ c.args.call.buffer (call g d) _ _ (own g d) _ _ _ (answer g d) _ _ (none g d) c.poll-answer.ensures.seen
+    (noted g d) (gives g d)
 
 pub returns-clause-follows : goal.returns-clause-follows
 returns-clause-follows g c stepwise =
-    let Q = g.Q.ThreadLayer in
-    let m = c.args.m.now in
-    let p = c.args.self.now.lower in
-    let cpu = Q.cpu_of p in
+    let d = (goal.at.returns-clause-follows g c).After-complete in
     let rules = cv_rules g.G.Guarded.monitor_rules in
-    let k = lock_kernel rules (Q.opening m) in
-    let G = g.G.Guarded in
-    let call = lock_meant (cv_meant G.meant) c.args.call.edit c.args.payload.now.parcel in
-    let t = lock_caller rules call in
-    let waits = c.args.self.now.waits.buffers in
-    let own : Waiting _ = record { lock = Q.own p; waits = waits } in
-    let caller = c.caller_of-t.ensures in
-    let parcel = c.poll-answer.new.payload.parcel in
-    let none = wake_told G.monitor_rules k G.meant c.args.payload.now.parcel cpu c.args.call.buffer c.args.call.edit (Q.seen m) own (Q.under_way p)
-    c.ends_wait.result false c.caller_of-t.result c.requires.call c.ends_wait.ensures.was c.if-ends_wait.false caller in
-    let kept = wake_kept waits c.ends_wait.new.self.buffers c.ends_wait.result c.caller_of-t.result c.ends_wait.ensures.now c.if-ends_wait.false in
-    waits_follow (λ d. Q.ActsFor m d) (table_of (queue_rules (lock_rules rules) (lock_moves rules))) (Q.opening m) (lock_moves rules)
-    (homes_in (Q.opening m)) cpu
-    c.args.call.buffer call own (Q.acts m) (Q.acts c.poll-answer.new.m) (Q.own c.poll-answer.new.self) c.complete.new.self.buffers
-    (lock_tells G.told parcel c.poll-answer.result) (lock_tells G.told parcel c.complete.result) (slept_for waits t) none
-    (c.poll-answer.ensures.follows stepwise)
-    (waits_told G.told parcel c.poll-answer.result t c.args.call.buffer waits c.complete.new.self.buffers (rw (← kept, ← caller) c.complete.ensures.waits))
-    (complete_told G.told parcel c.poll-answer.result c.complete.result c.complete.ensures.complete)
+    waits_follow _ (table_of (queue_rules (lock_rules rules) (lock_moves rules))) _ (lock_moves rules) _ _ c.args.call.buffer (call g d) (own g d) _ _ _ _
+    (answer g d) _ _ (none g d) (c.poll-answer.ensures.follows stepwise) (noted g d) (gives g d)

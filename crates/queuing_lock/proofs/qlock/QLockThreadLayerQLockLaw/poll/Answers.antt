@@ -1,5 +1,7 @@
-use Rattle.std.proofs.Common.{◌≡◌, refl, true, false, Option, Some, None, ◌<◌, is_some, map, option_map, slice_set, ap, sym, ◌∙◌, subst}
+use Rattle.std.proofs.Common.{◌≡◌, refl, true, false, Option, Some, None, ◌≢◌, if◌then◌else◌, List, ◌<◌, is_some, map, option_map, slice_set, ap, sym, ◌∙◌, subst}
 use Rattle.std.proofs.Math.Path.{transport}
+use Rattle.event_log.specs.declared.ids.BufId.{BufId}
+use Rattle.event_log.specs.declared.ids.CpuId.{CpuId}
 use Rattle.event_log.specs.declared.ids.LockId.{LockId}
 use Rattle.event_log.specs.declared.ids.TheConstants.{THREADS}
 use Rattle.event_log.specs.History.{IsLawful}
@@ -7,9 +9,10 @@ use Rattle.event_log.specs.Actions.{renamed}
 use Rattle.layer_traits.specs.declared.locked.QOut.{QOut}
 use Rattle.layer_traits.specs.declared.locked.QOut.TheVariants.{Acquired}
 use Rattle.layer_traits.specs.declared.queue_edits.QueueBlock.{QueueBlock}
+use Rattle.layer_traits.specs.declared.scheds.SchedCall.TheVariants as call
 use Rattle.layer_traits.specs.declared.sleeps.Outcome.{Outcome}
 use Rattle.layer_traits.specs.Locking.{lock_caller, lock_moves, lock_rules}
-use Rattle.layer_traits.specs.LockLaw.{LockPolled, left_after, lock_plan, locking, slept_for}
+use Rattle.layer_traits.specs.LockLaw.{LockPolled, Locking, left_after, lock_plan, locking, slept_for}
 use Rattle.layer_traits.specs.Payloads.{lock_meant, lock_told, outcome_told}
 use Rattle.layer_traits.specs.Plans.{Follows, Left, table_of}
 use Rattle.layer_traits.specs.QueueBlocks.{homes_in}
@@ -28,23 +31,51 @@ use Rattle.queuing_lock.proofs.PartLemmas.{locks_follow, none, others_after, owe
 use Rattle.queuing_lock.proofs.PartLemmas.{under_is}
 use Rattle.queuing_lock.proofs.PollLemmas.{reported_is, reported_told, slept_told}
 use Rattle.queuing_lock.proofs.SleptLemmas.{slept_less}
+use Rattle.queuing_lock.proofs.qlock.QLockThreadLayerQLockLaw.poll.Given.{Over}
 use Rattle.queuing_lock.proofs.qlock.QLockThreadLayerQLockLaw.poll.Goals as goal
+use Rattle.queuing_lock.proofs.qlock.QLockThreadLayerQLockLaw.poll.Goals.{Start, After-poll, After-complete}
+
+-- what the part knows when the poll begins
+abbrev before : (g : Over) (c : Start g) → Before g.F.Locked.rules (g.S.ThreadLayer.opening c.args.m.now)
+before g c =
+    let S = g.S.ThreadLayer in
+    let met = g.met.S.ThreadLayer in
+    let self = c.args.self.now in
+    let m = c.args.m.now in
+    let cpu = S.cpu_of self.lower in
+    let acts = met.own_cpu self.lower m c.requires.fits.0 in
+    let stands = met.stands self.lower m c.requires.fits.0 in
+    record {
+      c = cpu;
+      b = c.args.call.buffer;
+      e = lock_meant g.F.Locked.meant c.args.call.edit c.args.payload.now.parcel;
+      past = S.seen m;
+      own = S.own self.lower;
+      under = S.under_way self.lower;
+      slept = self.slept.buffers;
+      starts = met.opens m cpu acts;
+      moves_legal = met.moves_legal m cpu acts;
+      stands = stands.stands;
+      lists = stands.lists;
+      fits = c.requires.fits.1;
+      deferred = c.requires.fits.2;
+      caller = c.requires.call.runs;
+      may = c.requires.call.may;
+    }
 
 -- the caller slept for the lock
 
 pub returns-then-asks_again-clause-framed : goal.returns-then-asks_again-clause-framed
 returns-then-asks_again-clause-framed g c =
     let S = g.S.ThreadLayer in
-    let rules = g.F.Locked.rules in
-    let self = c.args.self.now in
     let m = c.args.m.now in
+    let was = before g (goal.at.returns-then-asks_again-clause-framed g c).Start in
     record {
       fits = (
         c.requires.fits.0,
-        subst (λ l. SleptFits rules (viewed nested_lock_of (S.opening m)) (S.cpu_of self.lower) (renamed_events edit_in (S.seen m)) l) (sym c.over.ensures)
-            (slept_less rules (viewed nested_lock_of (S.opening m)) (S.cpu_of self.lower) c.caller-t.result
-            (renamed_events edit_in (S.seen m)) self.slept.buffers c.requires.fits.1),
-        c.requires.fits.2,
+        subst (λ l. SleptFits g.F.Locked.rules (viewed nested_lock_of (S.opening m)) was.c (renamed_events edit_in was.past) l) (sym c.over.ensures)
+            (slept_less g.F.Locked.rules (viewed nested_lock_of (S.opening m)) was.c c.caller-t.result (renamed_events edit_in was.past) was.slept was.fits),
+        was.deferred,
       );
       cpu = refl;
       stays = untouched (λ k. viewed nested_lock_of (S.opening k)) S.site S.room S.ActsFor m;
@@ -55,178 +86,100 @@ returns-then-asks_again-clause-framed g c =
 pub returns-then-asks_again-clause-seen : goal.returns-then-asks_again-clause-seen
 returns-then-asks_again-clause-seen g c =
     let S = g.S.ThreadLayer in
-    let met = g.met.S.ThreadLayer in
     let rules = g.F.Locked.rules in
-    let self = c.args.self.now in
     let m = c.args.m.now in
-    let cpu = S.cpu_of self.lower in
-    let b = c.args.call.buffer in
-    let parcel = c.args.payload.now.parcel in
-    let e = lock_meant g.F.Locked.meant c.args.call.edit parcel in
-    let slept = self.slept.buffers in
-    let own = S.own self.lower in
-    let under = S.under_way self.lower in
-    let acts = met.own_cpu self.lower m c.requires.fits.0 in
-    let before : Before rules (S.opening m) = record {
-      c = cpu;
-      b = b;
-      e = e;
-      past = S.seen m;
-      own = own;
-      under = under;
-      slept = slept;
-      starts = met.opens m cpu acts;
-      moves_legal = met.moves_legal m cpu acts;
-      stands = (met.stands self.lower m c.requires.fits.0).stands;
-      lists = (met.stands self.lower m c.requires.fits.0).lists;
-      fits = c.requires.fits.1;
-      deferred = c.requires.fits.2;
-      caller = c.requires.call.runs;
-      may = c.requires.call.may;
-    } in
-    let some : is_some (slept_for slept (lock_caller rules e)) ≡ true
-    = slept_asks rules (S.opening m) before g.F.Locked.meant parcel c.args.call.edit refl ∙ (sym c.asks_again.ensures ∙ c.if-asks_again.true) in
-    let over : c.over.new.self.buffers ≡ slice_set slept (lock_caller rules e).0 None = c.over.ensures
-    ∙ ap (λ t. slice_set slept t.0 None) (c.caller-t.ensures parcel) in
-    subst (λ l. LockPolled rules (here rules (S.opening m)) (λ d. S.ActsFor m d) cpu b e (slept_for slept (lock_caller rules e))
-    (renamed_events edit_in (S.seen m)) (renamed_events edit_in (S.seen m))
-    (record { sleep = own; slept = slept }) (option_map (renamed_sched edit_in) under)
-    (locking own l (Some (record { out = Acquired; slept = false; woke = None })))) (sym over)
-    (handed rules (S.opening m) before (λ d. S.ActsFor m d) some)
+    let was = before g (goal.at.returns-then-asks_again-clause-seen g c).Start in
+    let some : is_some (slept_for was.slept (lock_caller rules was.e)) ≡ true
+    = slept_asks was g.F.Locked.meant c.args.payload.now.parcel c.args.call.edit refl ∙ (sym c.asks_again.ensures ∙ c.if-asks_again.true) in
+    let over : c.over.new.self.buffers ≡ slice_set was.slept (lock_caller rules was.e).0 None = c.over.ensures
+    ∙ ap (λ t. slice_set was.slept t.0 None) (c.caller-t.ensures c.args.payload.now.parcel) in
+    subst (λ l. LockPolled rules (here rules (S.opening m)) (λ d. S.ActsFor m d) was.c was.b was.e (slept_for was.slept (lock_caller rules was.e))
+    (renamed_events edit_in was.past) (renamed_events edit_in was.past)
+    (record { sleep = was.own; slept = was.slept }) (option_map (renamed_sched edit_in) was.under)
+    (locking was.own l (Some (record { out = Acquired; slept = false; woke = None })))) (sym over) (handed was (λ d. S.ActsFor m d) some)
 
 -- it calls beneath
 
+-- who calls beneath did not sleep for the lock
+awake : (g : Over) (c : goal.After-poll-arg-3-1 g) → (let was = before g (goal.at.poll-requires-clause-call g c).Start in
+    is_some (slept_for was.slept (lock_caller g.F.Locked.rules was.e)) ≡ false)
+awake g c = slept_asks (before g (goal.at.poll-requires-clause-call g c).Start) g.F.Locked.meant c.args.payload.now.parcel c.args.call.edit refl
+    ∙ (sym c.asks_again.ensures ∙ c.if-asks_again.false)
+
 pub poll-requires-clause-call : goal.poll-requires-clause-call
-poll-requires-clause-call g c =
-    let S = g.S.ThreadLayer in
-    let met = g.met.S.ThreadLayer in
-    let rules = g.F.Locked.rules in
-    let self = c.args.self.now in
-    let m = c.args.m.now in
-    let cpu = S.cpu_of self.lower in
-    let b = c.args.call.buffer in
-    let parcel = c.args.payload.now.parcel in
-    let e = lock_meant g.F.Locked.meant c.args.call.edit parcel in
-    let slept = self.slept.buffers in
-    let own = S.own self.lower in
-    let under = S.under_way self.lower in
-    let acts = met.own_cpu self.lower m c.requires.fits.0 in
-    let before : Before rules (S.opening m) = record {
-      c = cpu;
-      b = b;
-      e = e;
-      past = S.seen m;
-      own = own;
-      under = under;
-      slept = slept;
-      starts = met.opens m cpu acts;
-      moves_legal = met.moves_legal m cpu acts;
-      stands = (met.stands self.lower m c.requires.fits.0).stands;
-      lists = (met.stands self.lower m c.requires.fits.0).lists;
-      fits = c.requires.fits.1;
-      deferred = c.requires.fits.2;
-      caller = c.requires.call.runs;
-      may = c.requires.call.may;
-    } in
-    let awake : is_some (slept_for slept (lock_caller rules e)) ≡ false
-    = slept_asks rules (S.opening m) before g.F.Locked.meant parcel c.args.call.edit refl ∙ (sym c.asks_again.ensures ∙ c.if-asks_again.false) in
-    owed rules (S.opening m) before awake
+poll-requires-clause-call g c = owed (before g (goal.at.poll-requires-clause-call g c).Start) (awake g c)
 
 pub complete-requires : goal.complete-requires
 complete-requires g c =
-    let S = g.S.ThreadLayer in
-    let met = g.met.S.ThreadLayer in
-    let rules = g.F.Locked.rules in
-    let self = c.args.self.now in
-    let m = c.args.m.now in
-    let cpu = S.cpu_of self.lower in
-    let b = c.args.call.buffer in
-    let parcel = c.args.payload.now.parcel in
-    let e = lock_meant g.F.Locked.meant c.args.call.edit parcel in
-    let slept = self.slept.buffers in
-    let own = S.own self.lower in
-    let under = S.under_way self.lower in
-    let acts = met.own_cpu self.lower m c.requires.fits.0 in
-    let before : Before rules (S.opening m) = record {
-      c = cpu;
-      b = b;
-      e = e;
-      past = S.seen m;
-      own = own;
-      under = under;
-      slept = slept;
-      starts = met.opens m cpu acts;
-      moves_legal = met.moves_legal m cpu acts;
-      stands = (met.stands self.lower m c.requires.fits.0).stands;
-      lists = (met.stands self.lower m c.requires.fits.0).lists;
-      fits = c.requires.fits.1;
-      deferred = c.requires.fits.2;
-      caller = c.requires.call.runs;
-      may = c.requires.call.may;
-    } in
-    subst (λ t. t.0 < THREADS) (sym (c.caller-t.ensures parcel)) (caller_small rules (S.opening m) before)
+    subst (λ t. t.0 < THREADS) (sym (c.caller-t.ensures c.args.payload.now.parcel)) (caller_small (before g (goal.at.complete-requires g c).Start))
+
+-- the poll beneath, seen here
+
+module _ (g : Over) (c : After-poll g) where
+  open g.S.ThreadLayer use {ActsFor, opening, own, seen, under_way}
+  open g.F.Locked use {rules}
+
+  abbrev was : Before rules (opening c.args.m.now)
+  was = before g (goal.at.poll-requires-clause-call g c.before).Start
+
+  -- what it gave, as it is told
+  abbrev told : Outcome (QOut g.row.F-Brought.Denot) → Outcome (QOut g.row.F-Out.Denot)
+  told o = outcome_told (lock_told g.F.Locked.told) o c.poll.new.payload.parcel
+
+  abbrev gave : Left (Sleeping (QOut g.row.F-Out.Denot)) (Outcome (QOut g.row.F-Out.Denot))
+  gave = record { own = own c.poll.new.self; answer = option_map told c.poll.result }
+
+  acts : ActsFor c.args.m.now was.c
+  acts = g.met.S.ThreadLayer.own_cpu c.args.self.now.lower c.args.m.now c.requires.fits.0
+
+  -- the log is lawful still
+  lawful : IsLawful (QueueAllowed (beneath rules (opening c.args.m.now))) (seen c.poll.new.m)
+  lawful = rw c.poll.ensures.framed.stays.opening at (g.met.S.ThreadLayer.lawful c.poll.new.m was.c
+      (c.poll.ensures.framed.stays.acts was.c acts))
+
+  -- the call that is under way beneath is under way here
+  call_here : option_map (renamed_sched edit_in) (under_way c.poll.new.self) ≡ (if is_some gave.answer then None else Some (call.OnBuffer was.b was.e))
+  call_here = under_is told (under_way c.poll.new.self) c.poll.result was.b was.e c.poll.ensures.call
+
+  -- what is deferred agrees with it
+  deferred : DeferredFits (option_map (renamed_sched edit_in) (under_way c.poll.new.self)) gave.own.deferred gave.own.threads.hand
+  deferred = subst (λ u. DeferredFits u gave.own.deferred gave.own.threads.hand) (sym call_here) (deferred_after was (awake g c.before) c.poll.ensures.seen)
+
+  -- what other CPUs note of sleepers agrees still
+  others : (d : CpuId) → d ≢ was.c → ActsFor c.args.m.now d → (slept : List (Option BufId))
+      → SleptFits rules (viewed nested_lock_of (opening c.args.m.now)) d (renamed_events edit_in was.past) slept
+      → SleptFits rules (viewed nested_lock_of (opening c.poll.new.m)) d (renamed_events edit_in (seen c.poll.new.m)) slept
+  others d apart acts slept fits =
+      transport (λ i. SleptFits rules (viewed nested_lock_of (sym c.poll.ensures.framed.stays.opening i)) d (renamed_events edit_in (seen c.poll.new.m)) slept)
+      (others_after rules (opening c.args.m.now) d was.c apart (ActsFor c.args.m.now) acts was.b was.e was.past (seen c.poll.new.m) was.own gave
+      c.poll.ensures.seen lawful slept fits)
 
 -- the call goes on
+
+went_on : (g : Over) (c : goal.In-None g) → (let p = (goal.at.returns-in-None-clause-seen g c).After-poll in let gave = gave g p in let was = was g p in
+    locking gave.own was.slept None ≡ left_after (lock_caller g.F.Locked.rules was.e) was.b was.slept gave.own gave.answer)
+went_on g c =
+    let p = (goal.at.returns-in-None-clause-seen g c).After-poll in
+    λ i. left_after (lock_caller g.F.Locked.rules (was g p).e) (was g p).b (was g p).slept (gave g p).own (option_map (told g p) (sym c.in-None.is i))
 
 pub returns-in-None-clause-framed : goal.returns-in-None-clause-framed
 returns-in-None-clause-framed g c =
     let S = g.S.ThreadLayer in
-    let met = g.met.S.ThreadLayer in
-    let rules = g.F.Locked.rules in
-    let self = c.args.self.now in
-    let m = c.args.m.now in
-    let cpu = S.cpu_of self.lower in
-    let b = c.args.call.buffer in
-    let parcel = c.args.payload.now.parcel in
-    let e = lock_meant g.F.Locked.meant c.args.call.edit parcel in
-    let slept = self.slept.buffers in
-    let own = S.own self.lower in
-    let under = S.under_way self.lower in
-    let acts = met.own_cpu self.lower m c.requires.fits.0 in
-    let before : Before rules (S.opening m) = record {
-      c = cpu;
-      b = b;
-      e = e;
-      past = S.seen m;
-      own = own;
-      under = under;
-      slept = slept;
-      starts = met.opens m cpu acts;
-      moves_legal = met.moves_legal m cpu acts;
-      stands = (met.stands self.lower m c.requires.fits.0).stands;
-      lists = (met.stands self.lower m c.requires.fits.0).lists;
-      fits = c.requires.fits.1;
-      deferred = c.requires.fits.2;
-      caller = c.requires.call.runs;
-      may = c.requires.call.may;
-    } in
-    let awake : is_some (slept_for slept (lock_caller rules e)) ≡ false
-    = slept_asks rules (S.opening m) before g.F.Locked.meant parcel c.args.call.edit refl ∙ (sym c.asks_again.ensures ∙ c.if-asks_again.false) in
+    let p = (goal.at.returns-in-None-clause-framed g c).After-poll in
     let said = c.poll.ensures in
-    let n = c.poll.new.m in
-    let part = c.poll.new.self in
-    let after = c.poll.new.payload.parcel in
-    let told = λ (o : Outcome (QOut g.row.F-Brought.Denot)). outcome_told (lock_told g.F.Locked.told) o after in
-    let got : Left (Sleeping (QOut g.row.F-Out.Denot)) (Outcome (QOut g.row.F-Out.Denot)) = record { own = S.own part; answer = option_map told c.poll.result } in
-    let lawful : IsLawful (QueueAllowed (beneath rules (S.opening m))) (S.seen n)
-    = subst (λ (o : LockId → Option (QueueBlock (SleepState (QBlock g.row.F-Block.Denot)))). IsLawful (QueueAllowed (beneath rules o)) (S.seen n)) said.framed.stays.opening
-    (met.lawful n cpu (said.framed.stays.acts cpu acts)) in
     record {
       fits = (
         said.framed.fits,
-        transport (λ i. SleptFits rules (viewed nested_lock_of (sym said.framed.stays.opening i)) (sym said.framed.cpu i) (renamed_events edit_in (S.seen n)) slept)
-            (slept_after rules (S.opening m) before awake (λ d. S.ActsFor m d) (S.seen n) got said.seen acts lawful),
-        subst (λ u. DeferredFits u (S.own part).deferred (S.own part).threads.hand) (sym (under_is told (S.under_way part) c.poll.result b e said.call))
-            (deferred_after rules (S.opening m) before awake (λ d. S.ActsFor m d) (S.seen n) got said.seen),
+        transport (λ i. SleptFits g.F.Locked.rules (viewed nested_lock_of (sym said.framed.stays.opening i)) (sym said.framed.cpu i)
+            (renamed_events edit_in (S.seen c.poll.new.m)) (was g p).slept)
+            (slept_after (was g p) (awake g p.before) said.seen (acts g p) (lawful g p)),
+        deferred g p,
       );
       cpu = said.framed.cpu;
       stays = viewed_stays (viewed nested_lock_of) said.framed.stays;
-      others = λ p apart fits. (
-        said.framed.others p.lower apart fits.0,
-        transport (λ i. SleptFits rules (viewed nested_lock_of (sym said.framed.stays.opening i)) (S.cpu_of p.lower) (renamed_events edit_in (S.seen n)) p.slept.buffers)
-            (others_after rules (S.opening m) (S.cpu_of p.lower) cpu apart (λ d. S.ActsFor m d) (met.own_cpu p.lower m fits.0) b e (S.seen m) (S.seen n)
-            (S.own self.lower) got said.seen lawful
-            p.slept.buffers fits.1),
+      others = λ q apart fits. (
+        said.framed.others q.lower apart fits.0,
+        others g p (S.cpu_of q.lower) apart (g.met.S.ThreadLayer.own_cpu q.lower c.args.m.now fits.0) q.slept.buffers fits.1,
         fits.2,
       );
       holders = said.framed.holders;
@@ -234,171 +187,56 @@ returns-in-None-clause-framed g c =
 
 pub returns-in-None-clause-seen : goal.returns-in-None-clause-seen
 returns-in-None-clause-seen g c =
-    let S = g.S.ThreadLayer in
-    let met = g.met.S.ThreadLayer in
-    let rules = g.F.Locked.rules in
-    let self = c.args.self.now in
-    let m = c.args.m.now in
-    let cpu = S.cpu_of self.lower in
-    let b = c.args.call.buffer in
-    let parcel = c.args.payload.now.parcel in
-    let e = lock_meant g.F.Locked.meant c.args.call.edit parcel in
-    let slept = self.slept.buffers in
-    let own = S.own self.lower in
-    let under = S.under_way self.lower in
-    let acts = met.own_cpu self.lower m c.requires.fits.0 in
-    let before : Before rules (S.opening m) = record {
-      c = cpu;
-      b = b;
-      e = e;
-      past = S.seen m;
-      own = own;
-      under = under;
-      slept = slept;
-      starts = met.opens m cpu acts;
-      moves_legal = met.moves_legal m cpu acts;
-      stands = (met.stands self.lower m c.requires.fits.0).stands;
-      lists = (met.stands self.lower m c.requires.fits.0).lists;
-      fits = c.requires.fits.1;
-      deferred = c.requires.fits.2;
-      caller = c.requires.call.runs;
-      may = c.requires.call.may;
-    } in
-    let awake : is_some (slept_for slept (lock_caller rules e)) ≡ false
-    = slept_asks rules (S.opening m) before g.F.Locked.meant parcel c.args.call.edit refl ∙ (sym c.asks_again.ensures ∙ c.if-asks_again.false) in
-    let said = c.poll.ensures in
-    let n = c.poll.new.m in
-    let part = c.poll.new.self in
-    let after = c.poll.new.payload.parcel in
-    let told = λ (o : Outcome (QOut g.row.F-Brought.Denot)). outcome_told (lock_told g.F.Locked.told) o after in
-    let got : Left (Sleeping (QOut g.row.F-Out.Denot)) (Outcome (QOut g.row.F-Out.Denot)) = record { own = S.own part; answer = option_map told c.poll.result } in
-    let lawful : IsLawful (QueueAllowed (beneath rules (S.opening m))) (S.seen n)
-    = subst (λ (o : LockId → Option (QueueBlock (SleepState (QBlock g.row.F-Block.Denot)))). IsLawful (QueueAllowed (beneath rules o)) (S.seen n)) said.framed.stays.opening
-    (met.lawful n cpu (said.framed.stays.acts cpu acts)) in
-    let leaves : locking (S.own part) slept None ≡ left_after (lock_caller rules e) b slept (S.own part) got.answer
-    = λ i. left_after (lock_caller rules e) b slept (S.own part) (option_map told (sym c.in-None.is i)) in
-    locks rules (S.opening m) before awake (λ d. S.ActsFor m d) (S.seen n) got said.seen
-    (option_map (renamed_sched edit_in) (S.under_way part))
-    (locking (S.own part) slept None) (under_is told (S.under_way part) c.poll.result b e said.call) leaves
+    let p = (goal.at.returns-in-None-clause-seen g c).After-poll in
+    locks (was g p) (awake g p.before) c.poll.ensures.seen _ _ (call_here g p) (went_on g c)
 
 pub returns-in-None-clause-follows : goal.returns-in-None-clause-follows
 returns-in-None-clause-follows g c = λ step.
     let S = g.S.ThreadLayer in
-    let met = g.met.S.ThreadLayer in
-    let rules = g.F.Locked.rules in
-    let self = c.args.self.now in
     let m = c.args.m.now in
-    let cpu = S.cpu_of self.lower in
-    let b = c.args.call.buffer in
-    let parcel = c.args.payload.now.parcel in
-    let e = lock_meant g.F.Locked.meant c.args.call.edit parcel in
-    let slept = self.slept.buffers in
-    let own = S.own self.lower in
-    let under = S.under_way self.lower in
-    let acts = met.own_cpu self.lower m c.requires.fits.0 in
-    let before : Before rules (S.opening m) = record {
-      c = cpu;
-      b = b;
-      e = e;
-      past = S.seen m;
-      own = own;
-      under = under;
-      slept = slept;
-      starts = met.opens m cpu acts;
-      moves_legal = met.moves_legal m cpu acts;
-      stands = (met.stands self.lower m c.requires.fits.0).stands;
-      lists = (met.stands self.lower m c.requires.fits.0).lists;
-      fits = c.requires.fits.1;
-      deferred = c.requires.fits.2;
-      caller = c.requires.call.runs;
-      may = c.requires.call.may;
-    } in
-    let awake : is_some (slept_for slept (lock_caller rules e)) ≡ false
-    = slept_asks rules (S.opening m) before g.F.Locked.meant parcel c.args.call.edit refl ∙ (sym c.asks_again.ensures ∙ c.if-asks_again.false) in
-    let said = c.poll.ensures in
-    let n = c.poll.new.m in
-    let part = c.poll.new.self in
-    let after = c.poll.new.payload.parcel in
-    let told = λ (o : Outcome (QOut g.row.F-Brought.Denot)). outcome_told (lock_told g.F.Locked.told) o after in
-    let got : Left (Sleeping (QOut g.row.F-Out.Denot)) (Outcome (QOut g.row.F-Out.Denot)) = record { own = S.own part; answer = option_map told c.poll.result } in
-    let lawful : IsLawful (QueueAllowed (beneath rules (S.opening m))) (S.seen n)
-    = subst (λ (o : LockId → Option (QueueBlock (SleepState (QBlock g.row.F-Block.Denot)))). IsLawful (QueueAllowed (beneath rules o)) (S.seen n)) said.framed.stays.opening
-    (met.lawful n cpu (said.framed.stays.acts cpu acts)) in
-    let leaves : locking (S.own part) slept None ≡ left_after (lock_caller rules e) b slept (S.own part) got.answer
-    = λ i. left_after (lock_caller rules e) b slept (S.own part) (option_map told (sym c.in-None.is i)) in
-    subst (λ l. Follows (λ d. S.ActsFor m d) (table_of (queue_rules (lock_rules rules) (lock_moves rules))) (viewed nested_lock_of (S.opening m)) cpu
-    (lock_plan (lock_moves rules) (homes_in (viewed nested_lock_of (S.opening m))) cpu b e (record { sleep = own; slept = slept }))
-    (map (renamed (renamed_edit edit_in)) (S.acts m)) (map (renamed (renamed_edit edit_in)) (S.acts n)) l) (sym leaves)
-    (locks_follow rules (S.opening m) (λ d. S.ActsFor m d) cpu (S.acts m) (S.acts n) b e own slept got
-    (none rules (S.opening m) before awake) (said.follows step))
+    let p = (goal.at.returns-in-None-clause-follows g c).After-poll in
+    let was = was g p in
+    locks_follow g.F.Locked.rules (S.opening m) (λ d. S.ActsFor m d) was.c (S.acts m) (S.acts c.poll.new.m) was.b was.e was.own was.slept (gave g p)
+    (none was (awake g p.before)) _ (went_on g c) (c.poll.ensures.follows step)
 
 -- the section answers
+
+module _ (g : Over) (c : After-complete g) where
+  open g.F.Locked use {rules}
+
+  abbrev p : After-poll g
+  p = (goal.at.returns-in-Some-clause-framed g c).After-poll
+
+  keeps : c.complete.new.self.buffers ≡ slept_left_by (lock_caller rules (was g p).e) (was g p).b (was g p).slept (told g p c.in-Some.outcome)
+  keeps = c.complete.ensures.slept ∙ (ap (λ t. slept_left_by t (was g p).b (was g p).slept c.in-Some.outcome) (c.caller-t.ensures c.args.payload.now.parcel)
+      ∙ slept_told g.F.Locked.told c.poll.new.payload.parcel (lock_caller rules (was g p).e) (was g p).b (was g p).slept c.in-Some.outcome.out)
+
+  answers : locking (gave g p).own c.complete.new.self.buffers (option_map (told g p) c.complete.result)
+      ≡ left_after (lock_caller rules (was g p).e) (was g p).b (was g p).slept (gave g p).own (gave g p).answer
+  answers = (λ i. locking (gave g p).own (keeps i)
+      ((ap (option_map (told g p)) c.complete.ensures.complete ∙ reported_told g.F.Locked.told c.poll.new.payload.parcel c.in-Some.outcome.out c.in-Some.outcome) i))
+      ∙ (sym (reported_is (lock_caller rules (was g p).e) (was g p).b (was g p).slept (gave g p).own (told g p c.in-Some.outcome).out (told g p c.in-Some.outcome))
+      ∙ λ i. left_after (lock_caller rules (was g p).e) (was g p).b (was g p).slept (gave g p).own (option_map (told g p) (sym c.in-Some.is i)))
 
 pub returns-in-Some-clause-framed : goal.returns-in-Some-clause-framed
 returns-in-Some-clause-framed g c =
     let S = g.S.ThreadLayer in
-    let met = g.met.S.ThreadLayer in
-    let rules = g.F.Locked.rules in
-    let self = c.args.self.now in
-    let m = c.args.m.now in
-    let cpu = S.cpu_of self.lower in
-    let b = c.args.call.buffer in
-    let parcel = c.args.payload.now.parcel in
-    let e = lock_meant g.F.Locked.meant c.args.call.edit parcel in
-    let slept = self.slept.buffers in
-    let own = S.own self.lower in
-    let under = S.under_way self.lower in
-    let acts = met.own_cpu self.lower m c.requires.fits.0 in
-    let before : Before rules (S.opening m) = record {
-      c = cpu;
-      b = b;
-      e = e;
-      past = S.seen m;
-      own = own;
-      under = under;
-      slept = slept;
-      starts = met.opens m cpu acts;
-      moves_legal = met.moves_legal m cpu acts;
-      stands = (met.stands self.lower m c.requires.fits.0).stands;
-      lists = (met.stands self.lower m c.requires.fits.0).lists;
-      fits = c.requires.fits.1;
-      deferred = c.requires.fits.2;
-      caller = c.requires.call.runs;
-      may = c.requires.call.may;
-    } in
-    let awake : is_some (slept_for slept (lock_caller rules e)) ≡ false
-    = slept_asks rules (S.opening m) before g.F.Locked.meant parcel c.args.call.edit refl ∙ (sym c.asks_again.ensures ∙ c.if-asks_again.false) in
+    let p = p g c in
+    let was = was g p in
     let said = c.poll.ensures in
-    let n = c.poll.new.m in
-    let part = c.poll.new.self in
-    let after = c.poll.new.payload.parcel in
-    let told = λ (o : Outcome (QOut g.row.F-Brought.Denot)). outcome_told (lock_told g.F.Locked.told) o after in
-    let got : Left (Sleeping (QOut g.row.F-Out.Denot)) (Outcome (QOut g.row.F-Out.Denot)) = record { own = S.own part; answer = option_map told c.poll.result } in
-    let lawful : IsLawful (QueueAllowed (beneath rules (S.opening m))) (S.seen n)
-    = subst (λ (o : LockId → Option (QueueBlock (SleepState (QBlock g.row.F-Block.Denot)))). IsLawful (QueueAllowed (beneath rules o)) (S.seen n)) said.framed.stays.opening
-    (met.lawful n cpu (said.framed.stays.acts cpu acts)) in
-    let outcome = c.in-Some.outcome in
-    let keeps : c.complete.new.self.buffers ≡ slept_left_by (lock_caller rules e) b slept (told outcome)
-    = c.complete.ensures.slept ∙ (ap (λ t. slept_left_by t b slept outcome) (c.caller-t.ensures parcel)
-    ∙ slept_told g.F.Locked.told after (lock_caller rules e) b slept outcome.out) in
     record {
       fits = (
         said.framed.fits,
-        transport (λ i. SleptFits rules (viewed nested_lock_of (sym said.framed.stays.opening i)) (sym said.framed.cpu i) (renamed_events edit_in (S.seen n)) c.complete.new.self.buffers)
-            (subst (λ l. SleptFits rules (viewed nested_lock_of (S.opening m)) cpu (renamed_events edit_in (S.seen n)) l) (sym keeps)
-            (slept_reported rules (S.opening m) before awake (λ d. S.ActsFor m d)
-            (S.seen n) got said.seen acts lawful (told outcome) (ap (option_map told) c.in-Some.is))),
-        subst (λ u. DeferredFits u (S.own part).deferred (S.own part).threads.hand) (sym (under_is told (S.under_way part) c.poll.result b e said.call))
-            (deferred_after rules (S.opening m) before awake (λ d. S.ActsFor m d) (S.seen n) got said.seen),
+        transport (λ i. SleptFits g.F.Locked.rules (viewed nested_lock_of (sym said.framed.stays.opening i)) (sym said.framed.cpu i)
+            (renamed_events edit_in (S.seen c.poll.new.m)) (sym (keeps g c) i))
+            (slept_reported was (awake g p.before) said.seen (acts g p) (lawful g p) (told g p c.in-Some.outcome) (ap (option_map (told g p)) c.in-Some.is)),
+        deferred g p,
       );
       cpu = said.framed.cpu;
       stays = viewed_stays (viewed nested_lock_of) said.framed.stays;
-      others = λ p apart fits. (
-        said.framed.others p.lower apart fits.0,
-        transport (λ i. SleptFits rules (viewed nested_lock_of (sym said.framed.stays.opening i)) (S.cpu_of p.lower) (renamed_events edit_in (S.seen n)) p.slept.buffers)
-            (others_after rules (S.opening m) (S.cpu_of p.lower) cpu apart (λ d. S.ActsFor m d) (met.own_cpu p.lower m fits.0) b e (S.seen m) (S.seen n)
-            (S.own self.lower) got said.seen lawful
-            p.slept.buffers fits.1),
+      others = λ q apart fits. (
+        said.framed.others q.lower apart fits.0,
+        others g p (S.cpu_of q.lower) apart (g.met.S.ThreadLayer.own_cpu q.lower c.args.m.now fits.0) q.slept.buffers fits.1,
         fits.2,
       );
       holders = said.framed.holders;
@@ -406,116 +244,14 @@ returns-in-Some-clause-framed g c =
 
 pub returns-in-Some-clause-seen : goal.returns-in-Some-clause-seen
 returns-in-Some-clause-seen g c =
-    let S = g.S.ThreadLayer in
-    let met = g.met.S.ThreadLayer in
-    let rules = g.F.Locked.rules in
-    let self = c.args.self.now in
-    let m = c.args.m.now in
-    let cpu = S.cpu_of self.lower in
-    let b = c.args.call.buffer in
-    let parcel = c.args.payload.now.parcel in
-    let e = lock_meant g.F.Locked.meant c.args.call.edit parcel in
-    let slept = self.slept.buffers in
-    let own = S.own self.lower in
-    let under = S.under_way self.lower in
-    let acts = met.own_cpu self.lower m c.requires.fits.0 in
-    let before : Before rules (S.opening m) = record {
-      c = cpu;
-      b = b;
-      e = e;
-      past = S.seen m;
-      own = own;
-      under = under;
-      slept = slept;
-      starts = met.opens m cpu acts;
-      moves_legal = met.moves_legal m cpu acts;
-      stands = (met.stands self.lower m c.requires.fits.0).stands;
-      lists = (met.stands self.lower m c.requires.fits.0).lists;
-      fits = c.requires.fits.1;
-      deferred = c.requires.fits.2;
-      caller = c.requires.call.runs;
-      may = c.requires.call.may;
-    } in
-    let awake : is_some (slept_for slept (lock_caller rules e)) ≡ false
-    = slept_asks rules (S.opening m) before g.F.Locked.meant parcel c.args.call.edit refl ∙ (sym c.asks_again.ensures ∙ c.if-asks_again.false) in
-    let said = c.poll.ensures in
-    let n = c.poll.new.m in
-    let part = c.poll.new.self in
-    let after = c.poll.new.payload.parcel in
-    let told = λ (o : Outcome (QOut g.row.F-Brought.Denot)). outcome_told (lock_told g.F.Locked.told) o after in
-    let got : Left (Sleeping (QOut g.row.F-Out.Denot)) (Outcome (QOut g.row.F-Out.Denot)) = record { own = S.own part; answer = option_map told c.poll.result } in
-    let lawful : IsLawful (QueueAllowed (beneath rules (S.opening m))) (S.seen n)
-    = subst (λ (o : LockId → Option (QueueBlock (SleepState (QBlock g.row.F-Block.Denot)))). IsLawful (QueueAllowed (beneath rules o)) (S.seen n)) said.framed.stays.opening
-    (met.lawful n cpu (said.framed.stays.acts cpu acts)) in
-    let outcome = c.in-Some.outcome in
-    let keeps : c.complete.new.self.buffers ≡ slept_left_by (lock_caller rules e) b slept (told outcome)
-    = c.complete.ensures.slept ∙ (ap (λ t. slept_left_by t b slept outcome) (c.caller-t.ensures parcel)
-    ∙ slept_told g.F.Locked.told after (lock_caller rules e) b slept outcome.out) in
-    let gives : option_map told c.complete.result ≡ reported_by (told outcome)
-    = ap (option_map told) c.complete.ensures.complete ∙ reported_told g.F.Locked.told after outcome.out outcome in
-    let leaves : locking (S.own part) c.complete.new.self.buffers (option_map told c.complete.result) ≡ left_after (lock_caller rules e) b slept (S.own part) got.answer
-    = (λ i. locking (S.own part) (keeps i) (gives i))
-    ∙ (sym (reported_is (lock_caller rules e) b slept (S.own part) (told outcome).out (told outcome))
-    ∙ λ i. left_after (lock_caller rules e) b slept (S.own part) (option_map told (sym c.in-Some.is i))) in
-    locks rules (S.opening m) before awake (λ d. S.ActsFor m d) (S.seen n) got said.seen
-    (option_map (renamed_sched edit_in) (S.under_way part))
-    (locking (S.own part) c.complete.new.self.buffers (option_map told c.complete.result)) (under_is told (S.under_way part) c.poll.result b e said.call) leaves
+    let p = p g c in
+    locks (was g p) (awake g p.before) c.poll.ensures.seen _ _ (call_here g p) (answers g c)
 
 pub returns-in-Some-clause-follows : goal.returns-in-Some-clause-follows
 returns-in-Some-clause-follows g c = λ step.
     let S = g.S.ThreadLayer in
-    let met = g.met.S.ThreadLayer in
-    let rules = g.F.Locked.rules in
-    let self = c.args.self.now in
     let m = c.args.m.now in
-    let cpu = S.cpu_of self.lower in
-    let b = c.args.call.buffer in
-    let parcel = c.args.payload.now.parcel in
-    let e = lock_meant g.F.Locked.meant c.args.call.edit parcel in
-    let slept = self.slept.buffers in
-    let own = S.own self.lower in
-    let under = S.under_way self.lower in
-    let acts = met.own_cpu self.lower m c.requires.fits.0 in
-    let before : Before rules (S.opening m) = record {
-      c = cpu;
-      b = b;
-      e = e;
-      past = S.seen m;
-      own = own;
-      under = under;
-      slept = slept;
-      starts = met.opens m cpu acts;
-      moves_legal = met.moves_legal m cpu acts;
-      stands = (met.stands self.lower m c.requires.fits.0).stands;
-      lists = (met.stands self.lower m c.requires.fits.0).lists;
-      fits = c.requires.fits.1;
-      deferred = c.requires.fits.2;
-      caller = c.requires.call.runs;
-      may = c.requires.call.may;
-    } in
-    let awake : is_some (slept_for slept (lock_caller rules e)) ≡ false
-    = slept_asks rules (S.opening m) before g.F.Locked.meant parcel c.args.call.edit refl ∙ (sym c.asks_again.ensures ∙ c.if-asks_again.false) in
-    let said = c.poll.ensures in
-    let n = c.poll.new.m in
-    let part = c.poll.new.self in
-    let after = c.poll.new.payload.parcel in
-    let told = λ (o : Outcome (QOut g.row.F-Brought.Denot)). outcome_told (lock_told g.F.Locked.told) o after in
-    let got : Left (Sleeping (QOut g.row.F-Out.Denot)) (Outcome (QOut g.row.F-Out.Denot)) = record { own = S.own part; answer = option_map told c.poll.result } in
-    let lawful : IsLawful (QueueAllowed (beneath rules (S.opening m))) (S.seen n)
-    = subst (λ (o : LockId → Option (QueueBlock (SleepState (QBlock g.row.F-Block.Denot)))). IsLawful (QueueAllowed (beneath rules o)) (S.seen n)) said.framed.stays.opening
-    (met.lawful n cpu (said.framed.stays.acts cpu acts)) in
-    let outcome = c.in-Some.outcome in
-    let keeps : c.complete.new.self.buffers ≡ slept_left_by (lock_caller rules e) b slept (told outcome)
-    = c.complete.ensures.slept ∙ (ap (λ t. slept_left_by t b slept outcome) (c.caller-t.ensures parcel)
-    ∙ slept_told g.F.Locked.told after (lock_caller rules e) b slept outcome.out) in
-    let gives : option_map told c.complete.result ≡ reported_by (told outcome)
-    = ap (option_map told) c.complete.ensures.complete ∙ reported_told g.F.Locked.told after outcome.out outcome in
-    let leaves : locking (S.own part) c.complete.new.self.buffers (option_map told c.complete.result) ≡ left_after (lock_caller rules e) b slept (S.own part) got.answer
-    = (λ i. locking (S.own part) (keeps i) (gives i))
-    ∙ (sym (reported_is (lock_caller rules e) b slept (S.own part) (told outcome).out (told outcome))
-    ∙ λ i. left_after (lock_caller rules e) b slept (S.own part) (option_map told (sym c.in-Some.is i))) in
-    subst (λ l. Follows (λ d. S.ActsFor m d) (table_of (queue_rules (lock_rules rules) (lock_moves rules))) (viewed nested_lock_of (S.opening m)) cpu
-    (lock_plan (lock_moves rules) (homes_in (viewed nested_lock_of (S.opening m))) cpu b e (record { sleep = own; slept = slept }))
-    (map (renamed (renamed_edit edit_in)) (S.acts m)) (map (renamed (renamed_edit edit_in)) (S.acts n)) l) (sym leaves)
-    (locks_follow rules (S.opening m) (λ d. S.ActsFor m d) cpu (S.acts m) (S.acts n) b e own slept got
-    (none rules (S.opening m) before awake) (said.follows step))
+    let p = p g c in
+    let was = was g p in
+    locks_follow g.F.Locked.rules (S.opening m) (λ d. S.ActsFor m d) was.c (S.acts m) (S.acts c.poll.new.m) was.b was.e was.own was.slept (gave g p)
+    (none was (awake g p.before)) _ (answers g c) (c.poll.ensures.follows step)

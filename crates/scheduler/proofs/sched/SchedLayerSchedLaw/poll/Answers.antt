@@ -1,104 +1,125 @@
-use Rattle.std.proofs.Common.{◌≡◌, false, Some, None, refl, ap, sym, ◌∙◌, subst, subst₂}
+use Rattle.std.proofs.Common.{◌≡◌, ◌≢◌, List, Option, false, Some, None, refl, ap, sym, ◌∙◌, subst, subst₂}
 use Rattle.std.proofs.lemmas.Bool.{ne_eqb}
 use Rattle.event_log.specs.History.{IsLawful, same_cpu}
 use Rattle.event_log.proofs.Same.{cpu_numbered}
 use Rattle.layer_traits.specs.declared.scheds.SchedAnswer.TheVariants.{Done}
-use Rattle.layer_traits.specs.Payloads.{call_meant, queue_told, sched_meant}
-use Rattle.layer_traits.specs.QueueBlocks.{homes_in}
+use Rattle.layer_traits.specs.declared.queues.QueueAnswer.{QueueAnswer}
+use Rattle.layer_traits.specs.declared.queues.QueueCall.{QueueCall}
+use Rattle.layer_traits.specs.declared.scheds.SchedCall.{SchedCall}
+use Rattle.event_log.specs.declared.ids.CpuId.{CpuId}
+use Rattle.layer_traits.specs.Payloads.{call_meant, queue_told, sched_meant, told_by}
+use Rattle.layer_traits.specs.Places.{Threads}
+use Rattle.layer_traits.specs.QueueBlocks.{StartsWell, homes_in}
 use Rattle.layer_traits.specs.Queues.{QueueAllowed, kernel}
 use Rattle.layer_traits.specs.Scheds.{SchedPolled, own_by, queue_call}
 use Rattle.scheduler.specs.Owns.{local_after}
 use Rattle.scheduler.specs.Parts.{PartFits}
 use Rattle.layer_traits.proofs.FrameLemmas.{untouched}
 use Rattle.scheduler.proofs.StepLemmas.{call_may, done_fits, finish_ok, local_fits, local_polled, may_take, other_fits, waiting_fits}
+use Rattle.scheduler.proofs.sched.SchedLayerSchedLaw.poll.Given.{Over}
 use Rattle.scheduler.proofs.sched.SchedLayerSchedLaw.poll.Goals as goal
+use Rattle.scheduler.proofs.sched.SchedLayerSchedLaw.poll.Goals.{Start, In-Err, In-Ok, After-pass_locally, After-poll}
+
+-- what the part knows of the machine when the poll begins
+module _ (g : Over) (c : Start g) where
+  open g.Q.Layer use {ActsFor, opening, seen}
+
+  acts : ActsFor c.args.m.now c.args.self.now.cpu
+  acts = subst (ActsFor c.args.m.now) c.requires.fits.1.cpu (g.met.Q.Layer.own_cpu c.args.self.now.lower c.args.m.now c.requires.fits.0)
+
+  opens : StartsWell (opening c.args.m.now)
+  opens = g.met.Q.Layer.opens c.args.m.now c.args.self.now.cpu acts
+
+  lawful : IsLawful (QueueAllowed (kernel g.E.SplitEdit.rules g.E.Moves.moves (opening c.args.m.now))) (seen c.args.m.now)
+  lawful = g.met.Q.Layer.lawful c.args.m.now c.args.self.now.cpu acts
+
+-- the call, and the one at the shared queues that it is
+abbrev call_of : (g : Over) (c : Start g) → SchedCall g.row.E.Denot
+call_of g c = sched_meant g.E.SplitEdit.meant c.args.call c.args.payload.now
+
+abbrev step_of : (g : Over) (c : In-Ok g) → QueueCall g.row.E.Denot
+step_of g c = call_meant g.E.SplitEdit.meant c.in-Ok.step c.args.payload.now
+
+is_shared : (g : Over) (c : In-Ok g) → queue_call (homes_in (g.Q.Layer.opening c.args.m.now)) c.args.self.now.cpu
+    (sched_meant g.E.SplitEdit.meant c.args.call c.args.payload.now) ≡ Some (step_of g c)
+is_shared g c = ap (λ h. queue_call h c.args.self.now.cpu (sched_meant g.E.SplitEdit.meant c.args.call c.args.payload.now))
+    (c.requires.fits.1.homes ∙ sym c.as_slice-homes.ensures.value) ∙ c.in-Ok.ensures.shared c.args.payload.now
 
 pub pass_locally-requires : goal.pass_locally-requires
 pass_locally-requires g c =
-    let Q = g.Q.Layer in
-    let rules = g.E.SplitEdit.rules in
-    let mv = g.E.Moves.moves in
-    let wakes = g.met.E.Moves.wakes_sleepers in
+    let at = goal.at.pass_locally-requires g c in
     let self = c.args.self.now in
     let m = c.args.m.now in
-    let fits = c.requires.fits in
-    let acts = subst (λ d. Q.ActsFor m d) fits.1.cpu (g.met.Q.Layer.own_cpu self.lower m fits.0) in
-    let opens = g.met.Q.Layer.opens m self.cpu acts in
-    let lawful = g.met.Q.Layer.lawful m self.cpu acts in
-    finish_ok rules mv (Q.opening m) wakes opens self.cpu (Q.seen m) self.own lawful fits.1.stands
+    finish_ok g.E.SplitEdit.rules g.E.Moves.moves (g.Q.Layer.opening m) g.met.E.Moves.wakes_sleepers (opens g at.Start) self.cpu (g.Q.Layer.seen m) self.own
+    (lawful g at.Start) c.requires.fits.1.stands
 
 pub poll-requires-clause-call : goal.poll-requires-clause-call
 poll-requires-clause-call g c =
-    let Q = g.Q.Layer in
-    let rules = g.E.SplitEdit.rules in
-    let mv = g.E.Moves.moves in
-    let wakes = g.met.E.Moves.wakes_sleepers in
-    let self = c.args.self.now in
-    let m = c.args.m.now in
-    let payload = c.args.payload.now in
-    let call = sched_meant g.E.SplitEdit.meant c.args.call payload in
-    let step = call_meant g.E.SplitEdit.meant c.in-Ok.step payload in
-    let fits = c.requires.fits in
-    let acts = subst (λ d. Q.ActsFor m d) fits.1.cpu (g.met.Q.Layer.own_cpu self.lower m fits.0) in
-    let opens = g.met.Q.Layer.opens m self.cpu acts in
-    let lawful = g.met.Q.Layer.lawful m self.cpu acts in
-    let is : queue_call (homes_in (Q.opening m)) self.cpu call ≡ Some step
-    = ap (λ h. queue_call h self.cpu call) (fits.1.homes ∙ sym c.as_slice-homes.ensures.value) ∙ c.in-Ok.ensures.shared payload in
-    call_may rules mv (Q.opening m) wakes opens self.cpu (Q.cpu_of self.lower) self.homes.items (Q.under_way self.lower) (Q.seen m) self.own lawful fits.1
-    call c.requires.call step is
+    let at = goal.at.poll-requires-clause-call g c in
+    call_may _ _ _ g.met.E.Moves.wakes_sleepers (opens g at.Start) (lawful g at.Start) c.requires.fits.1 (call_of g at.Start) c.requires.call (step_of g at.In-Ok)
+    (is_shared g at.In-Ok)
+
+-- the poll beneath
+module _ (g : Over) (c : After-poll g) where
+  open g.Q.Layer use {ActsFor, Fits, cpu_of, opening, seen, under_way}
+
+  abbrev answer : Option (QueueAnswer g.row.E-Out.Denot)
+  answer = told_by (queue_told g.E.SplitEdit.told) c.poll.result c.poll.new.payload
+
+  -- its log is lawful for whoever acts
+  legal : (cpu : CpuId) → ActsFor c.args.m.now cpu
+      → IsLawful (QueueAllowed (kernel g.E.SplitEdit.rules g.E.Moves.moves (opening c.args.m.now))) (seen c.poll.new.m)
+  legal cpu acts = rw c.poll.ensures.framed.stays.opening at (g.met.Q.Layer.lawful c.poll.new.m cpu (c.poll.ensures.framed.stays.acts cpu acts))
+
+  -- the parts of other CPUs agree still
+  others : (lower : g.row.Q.Denot) (cpu : CpuId) (homes : List CpuId) (own : Threads) → cpu ≢ c.args.self.now.cpu → Fits lower c.args.m.now
+      → PartFits g.E.SplitEdit.rules g.E.Moves.moves (opening c.args.m.now) cpu (cpu_of lower) homes (under_way lower) (seen c.args.m.now) own
+      → Fits lower c.poll.new.m
+      × PartFits g.E.SplitEdit.rules g.E.Moves.moves (opening c.poll.new.m) cpu (cpu_of lower) homes (under_way lower) (seen c.poll.new.m) own
+  others lower cpu homes own other fits part =
+      let at = goal.at.poll-requires-clause-call g c.before in
+      let self = c.args.self.now in
+      let said = c.poll.ensures in
+      let acts = subst (ActsFor c.args.m.now) part.cpu (g.met.Q.Layer.own_cpu lower c.args.m.now fits) in
+      let apart : same_cpu (cpu_of self.lower) cpu ≡ false = ap (λ d. same_cpu d cpu) c.requires.fits.1.cpu
+      ∙ ne_eqb self.cpu.0 cpu.0 (λ e. other (sym (ap cpu_numbered e))) in (
+        said.framed.others lower (λ e. other (sym part.cpu ∙ (e ∙ c.requires.fits.1.cpu))) fits,
+        subst (λ o. PartFits g.E.SplitEdit.rules g.E.Moves.moves o cpu (cpu_of lower) homes (under_way lower) (seen c.poll.new.m) own)
+            (sym said.framed.stays.opening)
+            (other_fits _ _ _ g.met.E.Moves.wakes_sleepers (opens g at.Start) (ActsFor c.args.m.now) (cpu_of self.lower) cpu _ _ _ (step_of g at.In-Ok) answer
+            _ _ own acts apart said.seen (legal cpu acts) part),
+      )
 
 pub take_answer-requires : goal.take_answer-requires
 take_answer-requires g c =
-    let Q = g.Q.Layer in
-    let rules = g.E.SplitEdit.rules in
-    let mv = g.E.Moves.moves in
-    let wakes = g.met.E.Moves.wakes_sleepers in
-    let self = c.args.self.now in
-    let m = c.args.m.now in
-    let payload = c.args.payload.now in
-    let call = sched_meant g.E.SplitEdit.meant c.args.call payload in
-    let step = call_meant g.E.SplitEdit.meant c.in-Ok.step payload in
-    let answer = queue_told g.E.SplitEdit.told c.in-Some.answer c.poll.new.payload in
-    let fits = c.requires.fits in
-    let acts = subst (λ d. Q.ActsFor m d) fits.1.cpu (g.met.Q.Layer.own_cpu self.lower m fits.0) in
-    let opens = g.met.Q.Layer.opens m self.cpu acts in
-    let lawful = g.met.Q.Layer.lawful m self.cpu acts in
-    let is : queue_call (homes_in (Q.opening m)) self.cpu call ≡ Some step
-    = ap (λ h. queue_call h self.cpu call) (fits.1.homes ∙ sym c.as_slice-homes.ensures.value) ∙ c.in-Ok.ensures.shared payload in
-    let n = c.poll.new.m in
-    let said = c.in-Some.ensures in
-    let legal = subst (λ o. IsLawful (QueueAllowed (kernel rules mv o)) (Q.seen n)) said.framed.stays.opening
-    (g.met.Q.Layer.lawful n self.cpu (said.framed.stays.acts self.cpu acts)) in
-    may_take rules mv (Q.opening m) wakes opens self.cpu (Q.cpu_of self.lower) self.homes.items (Q.under_way self.lower) (Q.seen m) self.own lawful fits.1
-    call c.requires.call step is (λ d. Q.ActsFor m d) acts (Q.seen n) answer said.seen legal
+    let at = goal.at.take_answer-requires g c in
+    may_take _ _ _ g.met.E.Moves.wakes_sleepers (opens g at.Start) (lawful g at.Start) c.requires.fits.1 (call_of g at.Start) c.requires.call (step_of g at.In-Ok)
+    (is_shared g at.In-Ok) (acts g at.Start) c.in-Some.ensures.seen (legal g at.After-poll c.args.self.now.cpu (acts g at.Start))
 
 -- a call that touches nothing shared
 
+is_local : (g : Over) (c : In-Err g) → queue_call (homes_in (g.Q.Layer.opening c.args.m.now)) c.args.self.now.cpu
+    (sched_meant g.E.SplitEdit.meant c.args.call c.args.payload.now) ≡ None
+is_local g c = ap (λ h. queue_call h c.args.self.now.cpu (sched_meant g.E.SplitEdit.meant c.args.call c.args.payload.now))
+    (c.requires.fits.1.homes ∙ sym c.as_slice-homes.ensures.value) ∙ (c.in-Err.ensures.local c.args.payload.now).1
+
+passed : (g : Over) (c : After-pass_locally g) → c.pass_locally.new.own
+    ≡ local_after (sched_meant g.E.SplitEdit.meant c.args.call c.args.payload.now) c.args.self.now.own
+passed g c = c.pass_locally.ensures ∙ ap (λ s. local_after s c.args.self.now.own) (sym (c.in-Err.ensures.local c.args.payload.now).0)
+
 pub returns-in-Err-clause-framed : goal.returns-in-Err-clause-framed
 returns-in-Err-clause-framed g c =
+    let at = goal.at.returns-in-Err-clause-framed g c in
     let Q = g.Q.Layer in
-    let rules = g.E.SplitEdit.rules in
-    let mv = g.E.Moves.moves in
-    let wakes = g.met.E.Moves.wakes_sleepers in
     let self = c.args.self.now in
     let m = c.args.m.now in
-    let payload = c.args.payload.now in
-    let call = sched_meant g.E.SplitEdit.meant c.args.call payload in
-    let fits = c.requires.fits in
-    let acts = subst (λ d. Q.ActsFor m d) fits.1.cpu (g.met.Q.Layer.own_cpu self.lower m fits.0) in
-    let opens = g.met.Q.Layer.opens m self.cpu acts in
-    let lawful = g.met.Q.Layer.lawful m self.cpu acts in
-    let is : queue_call (homes_in (Q.opening m)) self.cpu call ≡ None
-    = ap (λ h. queue_call h self.cpu call) (fits.1.homes ∙ sym c.as_slice-homes.ensures.value) ∙ (c.in-Err.ensures.local payload).1 in
-    let after : c.pass_locally.new.own ≡ local_after call self.own = c.pass_locally.ensures ∙ ap (λ s. local_after s self.own) (sym (c.in-Err.ensures.local payload).0) in
     record {
       fits = (
-        fits.0,
-        subst (λ o. PartFits rules mv (Q.opening m) self.cpu (Q.cpu_of self.lower) self.homes.items (Q.under_way self.lower) (Q.seen m) o)
-            (sym after)
-            (local_fits rules mv (Q.opening m) wakes opens self.cpu (Q.cpu_of self.lower) self.homes.items (Q.under_way self.lower) (Q.seen m) self.own lawful
-            fits.1
-            call c.requires.call is),
+        c.requires.fits.0,
+        subst (λ o. PartFits g.E.SplitEdit.rules g.E.Moves.moves (Q.opening m) self.cpu (Q.cpu_of self.lower) self.homes.items (Q.under_way self.lower) (Q.seen m) o)
+            (sym (passed g at.After-pass_locally))
+            (local_fits _ _ _ g.met.E.Moves.wakes_sleepers (opens g at.Start) (lawful g at.Start) c.requires.fits.1 (call_of g at.Start) c.requires.call
+            (is_local g at.In-Err)),
       );
       cpu = refl;
       stays = untouched Q.opening Q.site Q.room Q.ActsFor c.args.m.now;
@@ -108,121 +129,65 @@ returns-in-Err-clause-framed g c =
 
 pub returns-in-Err-clause-seen : goal.returns-in-Err-clause-seen
 returns-in-Err-clause-seen g c =
+    let at = goal.at.returns-in-Err-clause-seen g c in
     let Q = g.Q.Layer in
-    let rules = g.E.SplitEdit.rules in
-    let mv = g.E.Moves.moves in
-    let wakes = g.met.E.Moves.wakes_sleepers in
     let self = c.args.self.now in
     let m = c.args.m.now in
-    let payload = c.args.payload.now in
-    let call = sched_meant g.E.SplitEdit.meant c.args.call payload in
-    let fits = c.requires.fits in
-    let acts = subst (λ d. Q.ActsFor m d) fits.1.cpu (g.met.Q.Layer.own_cpu self.lower m fits.0) in
-    let opens = g.met.Q.Layer.opens m self.cpu acts in
-    let lawful = g.met.Q.Layer.lawful m self.cpu acts in
-    let is : queue_call (homes_in (Q.opening m)) self.cpu call ≡ None
-    = ap (λ h. queue_call h self.cpu call) (fits.1.homes ∙ sym c.as_slice-homes.ensures.value) ∙ (c.in-Err.ensures.local payload).1 in
-    let after : c.pass_locally.new.own ≡ local_after call self.own = c.pass_locally.ensures ∙ ap (λ s. local_after s self.own) (sym (c.in-Err.ensures.local payload).0) in
-    subst (λ o. SchedPolled (kernel rules mv (Q.opening m)) (λ d. Q.ActsFor m d) self.cpu call (Some Done) (Q.seen m) (Q.seen m) self.own o)
-    (sym after)
-    (local_polled rules mv (Q.opening m) wakes opens self.cpu (Q.cpu_of self.lower) self.homes.items (Q.under_way self.lower) (Q.seen m) self.own lawful fits.1
-    call c.requires.call is (λ d. Q.ActsFor m d))
+    subst (λ o. SchedPolled (kernel g.E.SplitEdit.rules g.E.Moves.moves (Q.opening m)) (Q.ActsFor m) self.cpu (call_of g at.Start) (Some Done) (Q.seen m) (Q.seen m)
+    self.own o) (sym (passed g at.After-pass_locally))
+    (local_polled _ _ _ g.met.E.Moves.wakes_sleepers (opens g at.Start) (lawful g at.Start) c.requires.fits.1 (call_of g at.Start) c.requires.call
+    (is_local g at.In-Err) (Q.ActsFor m))
 
 -- a poll that waits
 
 pub returns-in-None-clause-framed : goal.returns-in-None-clause-framed
 returns-in-None-clause-framed g c =
+    let at = goal.at.returns-in-None-clause-framed g c in
     let Q = g.Q.Layer in
-    let rules = g.E.SplitEdit.rules in
-    let mv = g.E.Moves.moves in
-    let wakes = g.met.E.Moves.wakes_sleepers in
     let self = c.args.self.now in
-    let m = c.args.m.now in
-    let payload = c.args.payload.now in
-    let call = sched_meant g.E.SplitEdit.meant c.args.call payload in
-    let step = call_meant g.E.SplitEdit.meant c.in-Ok.step payload in
-    let fits = c.requires.fits in
-    let acts = subst (λ d. Q.ActsFor m d) fits.1.cpu (g.met.Q.Layer.own_cpu self.lower m fits.0) in
-    let opens = g.met.Q.Layer.opens m self.cpu acts in
-    let lawful = g.met.Q.Layer.lawful m self.cpu acts in
+    let part = c.poll.new.self in
     let n = c.poll.new.m in
     let said = c.in-None.ensures in
     record {
-      fits = (let is : queue_call (homes_in (Q.opening m)) self.cpu call ≡ Some step
-          = ap (λ h. queue_call h self.cpu call) (fits.1.homes ∙ sym c.as_slice-homes.ensures.value) ∙ c.in-Ok.ensures.shared payload in
-          let legal = subst (λ o. IsLawful (QueueAllowed (kernel rules mv o)) (Q.seen n)) said.framed.stays.opening
-          (g.met.Q.Layer.lawful n self.cpu (said.framed.stays.acts self.cpu acts)) in (
-            said.framed.fits,
-            subst (λ o. PartFits rules mv o self.cpu (Q.cpu_of c.poll.new.self) self.homes.items (Q.under_way c.poll.new.self) (Q.seen n) self.own)
-                (sym said.framed.stays.opening)
-                (waiting_fits rules mv (Q.opening m) wakes opens self.cpu (Q.cpu_of self.lower) self.homes.items (Q.under_way self.lower) (Q.seen m) self.own lawful
-                fits.1
-                call c.requires.call step is (λ d. Q.ActsFor m d) acts (Q.seen n) said.seen legal
-                (Q.cpu_of c.poll.new.self) (Q.under_way c.poll.new.self) said.framed.cpu said.call),
-          ));
+      fits = (
+        said.framed.fits,
+        subst (λ o. PartFits g.E.SplitEdit.rules g.E.Moves.moves o self.cpu (Q.cpu_of part) self.homes.items (Q.under_way part) (Q.seen n) self.own)
+            (sym said.framed.stays.opening)
+            (waiting_fits _ _ _ g.met.E.Moves.wakes_sleepers (opens g at.Start) (lawful g at.Start) c.requires.fits.1 (call_of g at.Start) c.requires.call
+            (step_of g at.In-Ok) (is_shared g at.In-Ok) _ (acts g at.Start) (Q.seen n) said.seen (legal g at.After-poll self.cpu (acts g at.Start)) (Q.cpu_of part)
+            (Q.under_way part) said.framed.cpu said.call),
+      );
       cpu = refl;
       stays = said.framed.stays;
-      others = λ p other theirs.
-          let their = subst (λ d. Q.ActsFor m d) theirs.1.cpu (g.met.Q.Layer.own_cpu p.lower m theirs.0) in
-          let legal = subst (λ o. IsLawful (QueueAllowed (kernel rules mv o)) (Q.seen n)) said.framed.stays.opening (g.met.Q.Layer.lawful n p.cpu (said.framed.stays.acts p.cpu their)) in
-          let apart : same_cpu (Q.cpu_of self.lower) p.cpu ≡ false = ap (λ d. same_cpu d p.cpu) fits.1.cpu
-          ∙ ne_eqb self.cpu.0 p.cpu.0 (λ e. other (sym (ap cpu_numbered e))) in (
-            said.framed.others p.lower (λ e. other (sym theirs.1.cpu ∙ (e ∙ fits.1.cpu))) theirs.0,
-            subst (λ o. PartFits rules mv o p.cpu (Q.cpu_of p.lower) p.homes.items (Q.under_way p.lower) (Q.seen n) p.own) (sym said.framed.stays.opening)
-                (other_fits rules mv (Q.opening m) wakes opens (λ d. Q.ActsFor m d) (Q.cpu_of self.lower) p.cpu (Q.cpu_of p.lower) p.homes.items (Q.under_way p.lower)
-                step None
-                (Q.seen m) (Q.seen n) p.own their apart said.seen legal theirs.1),
-          );
-      holders = λ d other acts held. said.framed.holders d (λ e. other (e ∙ fits.1.cpu)) acts held;
+      others = λ p other theirs. others g at.After-poll p.lower p.cpu p.homes.items p.own other theirs.0 theirs.1;
+      holders = λ d other acts held. said.framed.holders d (λ e. other (e ∙ c.requires.fits.1.cpu)) acts held;
     }
 
 -- a poll that answers
 
 pub returns-in-Some-clause-framed : goal.returns-in-Some-clause-framed
 returns-in-Some-clause-framed g c =
+    let at = goal.at.returns-in-Some-clause-framed g c in
     let Q = g.Q.Layer in
-    let rules = g.E.SplitEdit.rules in
-    let mv = g.E.Moves.moves in
-    let wakes = g.met.E.Moves.wakes_sleepers in
     let self = c.args.self.now in
-    let m = c.args.m.now in
-    let payload = c.args.payload.now in
-    let call = sched_meant g.E.SplitEdit.meant c.args.call payload in
-    let step = call_meant g.E.SplitEdit.meant c.in-Ok.step payload in
-    let answer = queue_told g.E.SplitEdit.told c.in-Some.answer c.poll.new.payload in
-    let fits = c.requires.fits in
-    let acts = subst (λ d. Q.ActsFor m d) fits.1.cpu (g.met.Q.Layer.own_cpu self.lower m fits.0) in
-    let opens = g.met.Q.Layer.opens m self.cpu acts in
-    let lawful = g.met.Q.Layer.lawful m self.cpu acts in
+    let part = c.poll.new.self in
     let n = c.poll.new.m in
     let said = c.in-Some.ensures in
+    let answer = queue_told g.E.SplitEdit.told c.in-Some.answer c.poll.new.payload in
+    let own : c.take_answer.new.own ≡ own_by g.E.Moves.moves (homes_in (Q.opening c.args.m.now)) self.cpu answer self.own
+    = c.take_answer.ensures.own ∙ ap (λ h. own_by g.E.Moves.moves h self.cpu answer self.own)
+    (sym (c.requires.fits.1.homes ∙ sym c.as_slice-homes.ensures.value)) in
     record {
-      fits = (let is : queue_call (homes_in (Q.opening m)) self.cpu call ≡ Some step
-          = ap (λ h. queue_call h self.cpu call) (fits.1.homes ∙ sym c.as_slice-homes.ensures.value) ∙ c.in-Ok.ensures.shared payload in
-          let legal = subst (λ o. IsLawful (QueueAllowed (kernel rules mv o)) (Q.seen n)) said.framed.stays.opening
-          (g.met.Q.Layer.lawful n self.cpu (said.framed.stays.acts self.cpu acts)) in
-          let own : c.take_answer.new.own ≡ own_by mv (homes_in (Q.opening m)) self.cpu answer self.own
-          = c.take_answer.ensures.own ∙ ap (λ h. own_by mv h self.cpu answer self.own) (sym (fits.1.homes ∙ sym c.as_slice-homes.ensures.value)) in (
-            said.framed.fits,
-            subst₂ (λ o x. PartFits rules mv o self.cpu (Q.cpu_of c.poll.new.self) self.homes.items (Q.under_way c.poll.new.self) (Q.seen n) x)
-                (sym said.framed.stays.opening) (sym own)
-                (done_fits rules mv (Q.opening m) wakes opens self.cpu (Q.cpu_of self.lower) self.homes.items (Q.under_way self.lower) (Q.seen m) self.own lawful
-                fits.1
-                call c.requires.call step is (λ d. Q.ActsFor m d) acts (Q.seen n) answer said.seen legal
-                (Q.cpu_of c.poll.new.self) (Q.under_way c.poll.new.self) said.framed.cpu said.call),
-          ));
+      fits = (
+        said.framed.fits,
+        subst₂ (λ o x. PartFits g.E.SplitEdit.rules g.E.Moves.moves o self.cpu (Q.cpu_of part) self.homes.items (Q.under_way part) (Q.seen n) x)
+            (sym said.framed.stays.opening) (sym own)
+            (done_fits _ _ _ g.met.E.Moves.wakes_sleepers (opens g at.Start) (lawful g at.Start) c.requires.fits.1 (call_of g at.Start) c.requires.call
+            (step_of g at.In-Ok) (is_shared g at.In-Ok) (acts g at.Start) said.seen (legal g at.After-poll self.cpu (acts g at.Start)) (Q.cpu_of part)
+            (Q.under_way part) said.framed.cpu said.call),
+      );
       cpu = refl;
       stays = said.framed.stays;
-      others = λ p other theirs.
-          let their = subst (λ d. Q.ActsFor m d) theirs.1.cpu (g.met.Q.Layer.own_cpu p.lower m theirs.0) in
-          let legal = subst (λ o. IsLawful (QueueAllowed (kernel rules mv o)) (Q.seen n)) said.framed.stays.opening (g.met.Q.Layer.lawful n p.cpu (said.framed.stays.acts p.cpu their)) in
-          let apart : same_cpu (Q.cpu_of self.lower) p.cpu ≡ false = ap (λ d. same_cpu d p.cpu) fits.1.cpu
-          ∙ ne_eqb self.cpu.0 p.cpu.0 (λ e. other (sym (ap cpu_numbered e))) in (
-            said.framed.others p.lower (λ e. other (sym theirs.1.cpu ∙ (e ∙ fits.1.cpu))) theirs.0,
-            subst (λ o. PartFits rules mv o p.cpu (Q.cpu_of p.lower) p.homes.items (Q.under_way p.lower) (Q.seen n) p.own) (sym said.framed.stays.opening)
-                (other_fits rules mv (Q.opening m) wakes opens (λ d. Q.ActsFor m d) (Q.cpu_of self.lower) p.cpu (Q.cpu_of p.lower) p.homes.items (Q.under_way p.lower)
-                step (Some answer)
-                (Q.seen m) (Q.seen n) p.own their apart said.seen legal theirs.1),
-          );
-      holders = λ d other acts held. said.framed.holders d (λ e. other (e ∙ fits.1.cpu)) acts held;
+      others = λ p other theirs. others g at.After-poll p.lower p.cpu p.homes.items p.own other theirs.0 theirs.1;
+      holders = λ d other acts held. said.framed.holders d (λ e. other (e ∙ c.requires.fits.1.cpu)) acts held;
     }

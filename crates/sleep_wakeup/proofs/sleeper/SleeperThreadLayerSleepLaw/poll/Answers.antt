@@ -1,326 +1,214 @@
-use Rattle.std.proofs.Common.{◌≡◌, Option, Some, None, map, option_map, ap, subst, sym, ◌∙◌}
+use Rattle.std.proofs.Common.{◌≡◌, Option, Some, None, refl, map, option_map, ap, subst, sym, ◌∙◌}
 use Rattle.std.proofs.Math.Path.{transport}
+use Rattle.event_log.specs.declared.ids.BufId.{BufId}
 use Rattle.event_log.specs.declared.ids.Tid.{Tid}
 use Rattle.event_log.specs.Actions.{renamed}
+use Rattle.layer_traits.specs.declared.payloads.Payload.{Payload}
+use Rattle.layer_traits.specs.declared.scheds.SchedAnswer.{SchedAnswer}
+use Rattle.layer_traits.specs.declared.scheds.SchedCall.{SchedCall}
+use Rattle.layer_traits.specs.declared.sleeps.Outcome.{Outcome}
 use Rattle.layer_traits.specs.Payloads.{sched_meant, sched_told, told_by}
 use Rattle.layer_traits.specs.Places.{Threads}
-use Rattle.layer_traits.specs.Plans.{Follows, table_of}
+use Rattle.layer_traits.specs.Plans.{Follows, Left, table_of}
 use Rattle.layer_traits.specs.QueueBlocks.{homes_in}
 use Rattle.layer_traits.specs.QueueRules.{queue_rules}
 use Rattle.layer_traits.specs.Renaming.{renamed_edit, renamed_events, viewed}
 use Rattle.layer_traits.specs.Scheds.{MaySched, SchedPolled, sched_plan, left as sched_left}
-use Rattle.layer_traits.specs.SleepLaw.{MaySleep, SleepPolled, due, sleep_plan}
+use Rattle.layer_traits.specs.SleepLaw.{MaySleep, SleepPolled, Sleeping, due, left_reported, sleep_plan}
 use Rattle.layer_traits.specs.Sleeping.{sleep_moves, sleep_rules}
 use Rattle.layer_traits.proofs.SleepLemmas.{HandDefers}
+use Rattle.sleep_wakeup.specs.declared.deferred.DeferredOutcome.{DeferredOutcome}
+use Rattle.sleep_wakeup.specs.declared.edits.SleepEdit.{SleepEdit}
 use Rattle.sleep_wakeup.specs.Laws.NestedLaws.{beneath, here}
 use Rattle.sleep_wakeup.specs.Nested.{edit_in, nested_meant, nested_moves, nested_rules, nested_told, state_of}
-use Rattle.sleep_wakeup.specs.Parts.{DeferredFits, as_edit, deferred_told, outcome_in, own_of}
+use Rattle.sleep_wakeup.specs.Parts.{Deferred, DeferredFits, as_edit, deferred_told, outcome_in, own_of}
 use Rattle.sleep_wakeup.proofs.PollLemmas.{hand_defers, nested_may, nested_sleep_follows, nested_sleeps, reported_is}
+use Rattle.sleep_wakeup.proofs.sleeper.SleeperThreadLayerSleepLaw.poll.Given.{Over}
 use Rattle.sleep_wakeup.proofs.sleeper.SleeperThreadLayerSleepLaw.poll.Goals as goal
+use Rattle.sleep_wakeup.proofs.sleeper.SleeperThreadLayerSleepLaw.poll.Goals.{Start, In-None, In-Some, After-poll, After-complete, After-complete-in-Some-poll-2}
 
 -- the thread in the hand of these threads
 abbrev in_hand : Threads → Option Tid
 in_hand own = own.hand
 
+-- what the part owes and what its poll is, by the thread that stands in the hand
+module _ (g : Over) (c : Start g) (hand : Option Tid) (is : hand ≡ (g.S.Layer.own c.args.self.now.lower).hand) where
+  open g.S.Layer use {ActsFor, cpu_of, opening, own, seen, under_way}
+  open g.E.Sleeps use {rules}
+
+  abbrev lower : g.row.S.Denot
+  lower = c.args.self.now.lower
+
+  abbrev m : g.row.S-Machine.Denot
+  m = c.args.m.now
+
+  abbrev buffer : BufId
+  buffer = c.args.call.buffer
+
+  abbrev edit : g.row.E.Denot
+  edit = g.E.Sleeps.meant c.args.call.edit c.args.payload.now.parcel
+
+  abbrev deferred : Option (Deferred g.row.E.Denot g.row.E-Out.Denot)
+  deferred = option_map (deferred_told g.E.Sleeps.told) c.args.self.now.deferred
+
+  fits : DeferredFits deferred (under_way lower) hand
+  fits = subst (λ h. DeferredFits deferred (under_way lower) h) (sym is) c.requires.fits.2
+
+  -- the call that is due may be polled
+  may : MaySched (beneath rules (opening m)) (cpu_of lower) (seen m) (own lower) (under_way lower) (due hand buffer (as_edit edit))
+  may =
+      let met = g.met.S.Layer in
+      let acts = met.own_cpu lower m c.requires.fits.0 in
+      nested_may rules (opening m) (cpu_of lower) (seen m) (own lower) buffer edit (met.opens m (cpu_of lower) acts) (met.lawful m (cpu_of lower) acts)
+      c.requires.fits.1 (met.stands lower m c.requires.fits.0) deferred (under_way lower) hand is fits c.requires.call
+
+  module _ (after : g.row.S.Denot) (result : Option (SchedAnswer (Outcome g.row.E-Brought.Denot))) (payload : Payload) where
+    abbrev answer : Option (SchedAnswer (Outcome g.row.E-Out.Denot))
+    answer = told_by (sched_told (nested_told g.E.Sleeps.told)) result payload
+
+    -- what is left where the scheduler goes on
+    waits : result ≡ None → left_reported (outcome_in deferred) (own after) answer ≡ left_reported (outcome_in deferred) (own after) None
+    waits is = ap (λ r. left_reported (outcome_in deferred) (own after) (told_by (sched_told (nested_told g.E.Sleeps.told)) r payload)) is
+
+    -- its poll is a poll of the section
+    module _ {call : SchedCall (SleepEdit g.row.E.Denot)} {left : Left (Sleeping g.row.E-Out.Denot) (Outcome g.row.E-Out.Denot)} (n : g.row.S-Machine.Denot)
+        (calls : call ≡ due hand buffer (as_edit edit)) (leaves : left_reported (outcome_in deferred) (own after) answer ≡ left) where
+      sleeps : SchedPolled (beneath rules (opening m)) (ActsFor m) (cpu_of lower) call answer (seen m) (seen n) (own lower) (own after)
+          → SleepPolled (here rules (opening m)) (ActsFor m) (cpu_of lower) buffer edit (renamed_events edit_in (seen m)) (renamed_events edit_in (seen n))
+          (own_of deferred (own lower)) left
+      sleeps polled = subst (λ l. SleepPolled (here rules (opening m)) (ActsFor m) (cpu_of lower) buffer edit (renamed_events edit_in (seen m))
+          (renamed_events edit_in (seen n)) (own_of deferred (own lower)) l) leaves
+          (nested_sleeps rules (opening m) (ActsFor m) (cpu_of lower) buffer edit answer (seen m) (seen n) (own lower) (own after) deferred hand is
+          (hand_defers deferred (under_way lower) hand buffer edit
+          (MaySleep (here rules (opening m)) (cpu_of lower) (renamed_events edit_in (seen m)) (own lower) buffer edit) fits c.requires.call (λ may. is ∙ may.hand))
+          (subst (λ s. SchedPolled (beneath rules (opening m)) (ActsFor m) (cpu_of lower) s answer (seen m) (seen n) (own lower) (own after)) calls polled))
+
+      follows : Follows (ActsFor m) (table_of (queue_rules (nested_rules rules) (nested_moves rules))) (opening m) (cpu_of lower)
+          (sched_plan (nested_moves rules) (homes_in (opening m)) (cpu_of lower) call (own lower)) (g.S.Layer.acts m) (g.S.Layer.acts n) (sched_left (own after) answer)
+          → Follows (ActsFor m) (table_of (queue_rules (sleep_rules rules) (sleep_moves rules))) (viewed state_of (opening m)) (cpu_of lower)
+          (sleep_plan (sleep_moves rules) (homes_in (viewed state_of (opening m))) (cpu_of lower) buffer edit (own_of deferred (own lower)))
+          (map (renamed (renamed_edit edit_in)) (g.S.Layer.acts m)) (map (renamed (renamed_edit edit_in)) (g.S.Layer.acts n)) left
+      follows followed = subst (λ l. Follows (ActsFor m) (table_of (queue_rules (sleep_rules rules) (sleep_moves rules))) (viewed state_of (opening m))
+          (cpu_of lower) (sleep_plan (sleep_moves rules) (homes_in (viewed state_of (opening m))) (cpu_of lower) buffer edit (own_of deferred (own lower)))
+          (map (renamed (renamed_edit edit_in)) (g.S.Layer.acts m)) (map (renamed (renamed_edit edit_in)) (g.S.Layer.acts n)) l) leaves
+          (nested_sleep_follows rules (opening m) (ActsFor m) (cpu_of lower) buffer edit (g.S.Layer.acts m) (g.S.Layer.acts n) deferred (own lower) (own after) hand
+          answer is (subst (λ s. Follows (ActsFor m) (table_of (queue_rules (nested_rules rules) (nested_moves rules))) (opening m) (cpu_of lower)
+          (sched_plan (nested_moves rules) (homes_in (opening m)) (cpu_of lower) s (own lower)) (g.S.Layer.acts m) (g.S.Layer.acts n) (sched_left (own after) answer))
+          calls followed))
+
 -- nobody stands in the hand: the section is polled
+
+none : (g : Over) (c : In-None g) → None ≡ (g.S.Layer.own c.args.self.now.lower).hand
+none g c = sym c.in-None.is ∙ (c.hand.ensures ∙ ap in_hand c.own_here.ensures)
+
 pub poll-requires-clause-call : goal.poll-requires-clause-call
 poll-requires-clause-call g c =
-    let rules = g.E.Sleeps.rules in
     let S = g.S.Layer in
-    let self = c.args.self.now in
-    let deferred = option_map (deferred_told g.E.Sleeps.told) self.deferred in
+    let at = goal.at.poll-requires-clause-call g c in
     let m = c.args.m.now in
-    let cpu = S.cpu_of self.lower in
-    let threads = S.own self.lower in
-    let hand = None in
-    let is : hand ≡ threads.hand = sym c.in-None.is ∙ (c.hand.ensures ∙ ap in_hand c.own_here.ensures) in
-    let buffer = c.args.call.buffer in
-    let meant = nested_meant g.E.Sleeps.meant in
-    let told = nested_told g.E.Sleeps.told in
-    let payload = c.args.payload.now in
-    let edit = g.E.Sleeps.meant c.args.call.edit payload.parcel in
-    let fits : DeferredFits deferred (S.under_way self.lower) hand = subst (λ h. DeferredFits deferred (S.under_way self.lower) h)
-    (sym is) c.requires.fits.2 in
-    let met = g.met.S.Layer in
-    let acts = met.own_cpu self.lower m c.requires.fits.0 in
-    subst (λ s. MaySched (beneath rules (S.opening m)) cpu (S.seen m) threads (S.under_way self.lower) (sched_meant meant s payload)) (sym c.section.ensures)
-    (nested_may rules (S.opening m) cpu (S.seen m) threads buffer edit (met.opens m cpu acts) (met.lawful m cpu acts) c.requires.fits.1
-    (met.stands self.lower m c.requires.fits.0)
-    deferred (S.under_way self.lower) hand is fits c.requires.call)
+    let lower = c.args.self.now.lower in
+    subst (λ s. MaySched (beneath g.E.Sleeps.rules (S.opening m)) (S.cpu_of lower) (S.seen m) (S.own lower) (S.under_way lower)
+    (sched_meant (nested_meant g.E.Sleeps.meant) s c.args.payload.now)) (sym c.section.ensures) (may g at.Start None (none g at.In-None))
+
+-- the section as the scheduler reads it
+due_of : (g : Over) (c : After-poll g) → sched_meant (nested_meant g.E.Sleeps.meant) c.section.result c.args.payload.now
+    ≡ due None c.args.call.buffer (as_edit (g.E.Sleeps.meant c.args.call.edit c.args.payload.now.parcel))
+due_of g c = ap (λ s. sched_meant (nested_meant g.E.Sleeps.meant) s c.args.payload.now) c.section.ensures
 
 pub returns-in-None-poll-clause-seen : goal.returns-in-None-poll-clause-seen
 returns-in-None-poll-clause-seen g c =
-    let rules = g.E.Sleeps.rules in
-    let S = g.S.Layer in
-    let self = c.args.self.now in
-    let deferred = option_map (deferred_told g.E.Sleeps.told) self.deferred in
-    let m = c.args.m.now in
-    let cpu = S.cpu_of self.lower in
-    let threads = S.own self.lower in
-    let hand = None in
-    let is : hand ≡ threads.hand = sym c.in-None.is ∙ (c.hand.ensures ∙ ap in_hand c.own_here.ensures) in
-    let buffer = c.args.call.buffer in
-    let meant = nested_meant g.E.Sleeps.meant in
-    let told = nested_told g.E.Sleeps.told in
-    let payload = c.args.payload.now in
-    let edit = g.E.Sleeps.meant c.args.call.edit payload.parcel in
-    let fits : DeferredFits deferred (S.under_way self.lower) hand = subst (λ h. DeferredFits deferred (S.under_way self.lower) h)
-    (sym is) c.requires.fits.2 in
-    let keeps : HandDefers hand (outcome_in deferred)
-    = hand_defers deferred (S.under_way self.lower) hand buffer edit
-    (MaySleep (here rules (S.opening m)) cpu (renamed_events edit_in (S.seen m)) threads buffer edit) fits c.requires.call
-    (λ may. is ∙ may.hand) in
-    let n = c.poll.new.m in
-    let after = S.own c.poll.new.self in
-    let polled : SchedPolled (beneath rules (S.opening m)) (λ d. S.ActsFor m d) cpu (due hand buffer (as_edit edit)) None (S.seen m) (S.seen n) threads after
-    = transport (λ i. SchedPolled (beneath rules (S.opening m)) (λ d. S.ActsFor m d) cpu (sched_meant meant (c.section.ensures i) payload) (told_by (sched_told told) (c.in-None-poll.is i) c.poll.new.payload) (S.seen m)
-    (S.seen n) threads after) c.poll.ensures.seen in
-    nested_sleeps rules (S.opening m) (λ d. S.ActsFor m d) cpu buffer edit None (S.seen m) (S.seen n) threads after deferred hand is keeps polled
+    let at = goal.at.returns-in-None-poll-clause-seen g c in
+    let none = none g at.In-None in
+    sleeps g at.Start None none c.poll.new.self c.poll.result c.poll.new.payload c.poll.new.m (due_of g at.After-poll)
+    (waits g at.Start None none c.poll.new.self c.poll.result c.poll.new.payload c.in-None-poll.is) c.poll.ensures.seen
 
 pub returns-in-None-poll-clause-follows : goal.returns-in-None-poll-clause-follows
 returns-in-None-poll-clause-follows g c = λ step.
-    let rules = g.E.Sleeps.rules in
-    let S = g.S.Layer in
-    let self = c.args.self.now in
-    let deferred = option_map (deferred_told g.E.Sleeps.told) self.deferred in
-    let m = c.args.m.now in
-    let cpu = S.cpu_of self.lower in
-    let threads = S.own self.lower in
-    let hand = None in
-    let is : hand ≡ threads.hand = sym c.in-None.is ∙ (c.hand.ensures ∙ ap in_hand c.own_here.ensures) in
-    let buffer = c.args.call.buffer in
-    let meant = nested_meant g.E.Sleeps.meant in
-    let told = nested_told g.E.Sleeps.told in
-    let payload = c.args.payload.now in
-    let edit = g.E.Sleeps.meant c.args.call.edit payload.parcel in
-    let n = c.poll.new.m in
-    let after = S.own c.poll.new.self in
-    let followed : Follows (λ d. S.ActsFor m d) (table_of (queue_rules (nested_rules rules) (nested_moves rules))) (S.opening m) cpu
-    (sched_plan (nested_moves rules) (homes_in (S.opening m)) cpu (due hand buffer (as_edit edit)) threads) (S.acts m) (S.acts n) (sched_left after None)
-    = transport (λ i. Follows (λ d. S.ActsFor m d) (table_of (queue_rules (nested_rules rules) (nested_moves rules))) (S.opening m) cpu
-    (sched_plan (nested_moves rules) (homes_in (S.opening m)) cpu (sched_meant meant (c.section.ensures i) payload) threads) (S.acts m) (S.acts n) (sched_left after (told_by (sched_told told) (c.in-None-poll.is i) c.poll.new.payload)))
-    (c.poll.ensures.follows step) in
-    nested_sleep_follows rules (S.opening m) (λ d. S.ActsFor m d) cpu buffer edit (S.acts m)
-    (S.acts n) deferred threads after hand None is followed
+    let at = goal.at.returns-in-None-poll-clause-follows g c in
+    let none = none g at.In-None in
+    follows g at.Start None none c.poll.new.self c.poll.result c.poll.new.payload c.poll.new.m (due_of g at.After-poll)
+    (waits g at.Start None none c.poll.new.self c.poll.result c.poll.new.payload c.in-None-poll.is) (c.poll.ensures.follows step)
+
+module _ (g : Over) where
+  abbrev left_at : (deferred : Option (DeferredOutcome g.row.E.Denot g.row.E-Brought.Denot)) (after : g.row.S.Denot)
+      (result : Option (SchedAnswer (Outcome g.row.E-Brought.Denot))) (payload : Payload) → Left (Sleeping g.row.E-Out.Denot) (Outcome g.row.E-Out.Denot)
+  left_at deferred after result payload = left_reported (outcome_in (option_map (deferred_told g.E.Sleeps.told) deferred)) (g.S.Layer.own after)
+      (told_by (sched_told (nested_told g.E.Sleeps.told)) result payload)
+
+  abbrev kept_at : (deferred : Option (DeferredOutcome g.row.E.Denot g.row.E-Brought.Denot)) (after : g.row.S.Denot)
+      (result : Option (Outcome g.row.E-Brought.Denot)) (payload : Payload) → Left (Sleeping g.row.E-Out.Denot) (Outcome g.row.E-Out.Denot)
+  kept_at deferred after result payload = record {
+    own = own_of (option_map (deferred_told g.E.Sleeps.told) deferred) (g.S.Layer.own after);
+    answer = told_by (nested_told g.E.Sleeps.told) result payload;
+  }
+
+  -- what is left where it answers
+  answers : (c : After-complete g) → left_at c.args.self.now.deferred c.poll.new.self c.poll.result c.poll.new.payload
+      ≡ kept_at c.complete.new.deferred c.poll.new.self c.complete.result c.complete.new.payload
+  answers c = ap (λ r. left_at c.args.self.now.deferred c.poll.new.self r c.poll.new.payload) c.in-Some-poll.is
+      ∙ reported_is g.E.Sleeps.told c.args.self.now.deferred (g.S.Layer.own c.poll.new.self) c.args.call.buffer c.kept_edit-kept.result c.in-Some-poll.answer
+      c.poll.new.payload c.complete.new.payload c.hand-hand.result c.complete.new.deferred c.complete.result
+      (c.hand-hand.ensures ∙ ap in_hand c.own_here-in-Some-poll.ensures) c.complete.ensures.deferred c.complete.ensures.answer c.complete.ensures.parcel
+
+  answers_home : (c : After-complete-in-Some-poll-2 g) → (let poll = c.poll-in-Some in let done = c.complete-in-Some-poll-2 in
+      left_at c.args.self.now.deferred poll.new.self poll.result poll.new.payload ≡ kept_at done.new.deferred poll.new.self done.result done.new.payload)
+  answers_home c =
+      let poll = c.poll-in-Some in
+      let done = c.complete-in-Some-poll-2 in
+      let hand = c.hand-hand-in-Some-poll-2 in
+      ap (λ r. left_at c.args.self.now.deferred poll.new.self r poll.new.payload) c.in-Some-poll-2.is
+      ∙ reported_is g.E.Sleeps.told c.args.self.now.deferred (g.S.Layer.own poll.new.self) c.args.call.buffer c.kept_edit-kept-in-Some.result
+      c.in-Some-poll-2.answer poll.new.payload done.new.payload hand.result done.new.deferred done.result
+      (hand.ensures ∙ ap in_hand c.own_here-in-Some-poll-2.ensures) done.ensures.deferred done.ensures.answer done.ensures.parcel
 
 pub returns-in-None-clause-seen : goal.returns-in-None-clause-seen
 returns-in-None-clause-seen g c =
-    let rules = g.E.Sleeps.rules in
-    let S = g.S.Layer in
-    let self = c.args.self.now in
-    let deferred = option_map (deferred_told g.E.Sleeps.told) self.deferred in
-    let m = c.args.m.now in
-    let cpu = S.cpu_of self.lower in
-    let threads = S.own self.lower in
-    let hand = None in
-    let is : hand ≡ threads.hand = sym c.in-None.is ∙ (c.hand.ensures ∙ ap in_hand c.own_here.ensures) in
-    let buffer = c.args.call.buffer in
-    let meant = nested_meant g.E.Sleeps.meant in
-    let told = nested_told g.E.Sleeps.told in
-    let payload = c.args.payload.now in
-    let edit = g.E.Sleeps.meant c.args.call.edit payload.parcel in
-    let fits : DeferredFits deferred (S.under_way self.lower) hand = subst (λ h. DeferredFits deferred (S.under_way self.lower) h)
-    (sym is) c.requires.fits.2 in
-    let keeps : HandDefers hand (outcome_in deferred)
-    = hand_defers deferred (S.under_way self.lower) hand buffer edit
-    (MaySleep (here rules (S.opening m)) cpu (renamed_events edit_in (S.seen m)) threads buffer edit) fits c.requires.call
-    (λ may. is ∙ may.hand) in
-    let n = c.poll.new.m in
-    let after = S.own c.poll.new.self in
-    let polled : SchedPolled (beneath rules (S.opening m)) (λ d. S.ActsFor m d) cpu (due hand buffer (as_edit edit)) (Some (sched_told told c.in-Some-poll.answer c.poll.new.payload)) (S.seen m)
-    (S.seen n) threads after
-    = transport (λ i. SchedPolled (beneath rules (S.opening m)) (λ d. S.ActsFor m d) cpu (sched_meant meant (c.section.ensures i) payload) (told_by (sched_told told) (c.in-Some-poll.is i) c.poll.new.payload) (S.seen m)
-    (S.seen n) threads after) c.poll.ensures.seen in
-    let left = reported_is g.E.Sleeps.told self.deferred after buffer c.kept_edit-kept.result c.in-Some-poll.answer c.poll.new.payload c.complete.new.payload
-    c.hand-hand.result c.complete.new.deferred c.complete.result (c.hand-hand.ensures ∙ ap in_hand c.own_here-in-Some-poll.ensures) c.complete.ensures.deferred c.complete.ensures.answer
-    c.complete.ensures.parcel in
-    subst (λ l. SleepPolled (here rules (S.opening m)) (λ d. S.ActsFor m d) cpu buffer edit (renamed_events edit_in (S.seen m))
-    (renamed_events edit_in (S.seen n)) (own_of deferred threads) l) left
-    (nested_sleeps rules (S.opening m) (λ d. S.ActsFor m d) cpu buffer edit (Some (sched_told told c.in-Some-poll.answer c.poll.new.payload)) (S.seen m)
-    (S.seen n) threads after deferred hand is keeps polled)
+    let at = goal.at.returns-in-None-clause-seen g c in
+    sleeps g at.Start None (none g at.In-None) c.poll.new.self c.poll.result c.poll.new.payload c.poll.new.m (due_of g at.After-poll) (answers g c)
+    c.poll.ensures.seen
 
 pub returns-in-None-clause-follows : goal.returns-in-None-clause-follows
 returns-in-None-clause-follows g c = λ step.
-    let rules = g.E.Sleeps.rules in
-    let S = g.S.Layer in
-    let self = c.args.self.now in
-    let deferred = option_map (deferred_told g.E.Sleeps.told) self.deferred in
-    let m = c.args.m.now in
-    let cpu = S.cpu_of self.lower in
-    let threads = S.own self.lower in
-    let hand = None in
-    let is : hand ≡ threads.hand = sym c.in-None.is ∙ (c.hand.ensures ∙ ap in_hand c.own_here.ensures) in
-    let buffer = c.args.call.buffer in
-    let meant = nested_meant g.E.Sleeps.meant in
-    let told = nested_told g.E.Sleeps.told in
-    let payload = c.args.payload.now in
-    let edit = g.E.Sleeps.meant c.args.call.edit payload.parcel in
-    let n = c.poll.new.m in
-    let after = S.own c.poll.new.self in
-    let followed : Follows (λ d. S.ActsFor m d) (table_of (queue_rules (nested_rules rules) (nested_moves rules))) (S.opening m) cpu
-    (sched_plan (nested_moves rules) (homes_in (S.opening m)) cpu (due hand buffer (as_edit edit)) threads) (S.acts m) (S.acts n)
-    (sched_left after (Some (sched_told told c.in-Some-poll.answer c.poll.new.payload)))
-    = transport (λ i. Follows (λ d. S.ActsFor m d) (table_of (queue_rules (nested_rules rules) (nested_moves rules))) (S.opening m) cpu
-    (sched_plan (nested_moves rules) (homes_in (S.opening m)) cpu (sched_meant meant (c.section.ensures i) payload) threads) (S.acts m) (S.acts n) (sched_left after (told_by (sched_told told) (c.in-Some-poll.is i) c.poll.new.payload)))
-    (c.poll.ensures.follows step) in
-    let left = reported_is g.E.Sleeps.told self.deferred after buffer c.kept_edit-kept.result c.in-Some-poll.answer c.poll.new.payload c.complete.new.payload
-    c.hand-hand.result c.complete.new.deferred c.complete.result (c.hand-hand.ensures ∙ ap in_hand c.own_here-in-Some-poll.ensures) c.complete.ensures.deferred c.complete.ensures.answer
-    c.complete.ensures.parcel in
-    subst (λ l. Follows (λ d. S.ActsFor m d) (table_of (queue_rules (sleep_rules rules) (sleep_moves rules))) (viewed state_of (S.opening m)) cpu
-    (sleep_plan (sleep_moves rules) (homes_in (viewed state_of (S.opening m))) cpu buffer edit (own_of deferred threads))
-    (map (renamed (renamed_edit edit_in)) (S.acts m)) (map (renamed (renamed_edit edit_in)) (S.acts n)) l) left
-    (nested_sleep_follows rules (S.opening m) (λ d. S.ActsFor m d) cpu buffer edit (S.acts m) (S.acts n) deferred threads after hand
-    (Some (sched_told told c.in-Some-poll.answer c.poll.new.payload)) is followed)
+    let at = goal.at.returns-in-None-clause-follows g c in
+    follows g at.Start None (none g at.In-None) c.poll.new.self c.poll.result c.poll.new.payload c.poll.new.m (due_of g at.After-poll) (answers g c)
+    (c.poll.ensures.follows step)
 
 -- the thread in the hand is sent home first
+
+some : (g : Over) (c : In-Some g) → Some c.in-Some.t ≡ (g.S.Layer.own c.args.self.now.lower).hand
+some g c = sym c.in-Some.is ∙ (c.hand.ensures ∙ ap in_hand c.own_here.ensures)
+
 pub poll-requires-in-Some-clause-call : goal.poll-requires-in-Some-clause-call
 poll-requires-in-Some-clause-call g c =
-    let rules = g.E.Sleeps.rules in
-    let S = g.S.Layer in
-    let self = c.args.self.now in
-    let deferred = option_map (deferred_told g.E.Sleeps.told) self.deferred in
-    let m = c.args.m.now in
-    let cpu = S.cpu_of self.lower in
-    let threads = S.own self.lower in
-    let hand = (Some c.in-Some.t) in
-    let is : hand ≡ threads.hand = sym c.in-Some.is ∙ (c.hand.ensures ∙ ap in_hand c.own_here.ensures) in
-    let buffer = c.args.call.buffer in
-    let meant = nested_meant g.E.Sleeps.meant in
-    let told = nested_told g.E.Sleeps.told in
-    let payload = c.args.payload.now in
-    let edit = g.E.Sleeps.meant c.args.call.edit payload.parcel in
-    let fits : DeferredFits deferred (S.under_way self.lower) hand = subst (λ h. DeferredFits deferred (S.under_way self.lower) h)
-    (sym is) c.requires.fits.2 in
-    let met = g.met.S.Layer in
-    let acts = met.own_cpu self.lower m c.requires.fits.0 in
-    nested_may rules (S.opening m) cpu (S.seen m) threads buffer edit (met.opens m cpu acts) (met.lawful m cpu acts) c.requires.fits.1
-    (met.stands self.lower m c.requires.fits.0)
-    deferred (S.under_way self.lower) hand is fits c.requires.call
+    let at = goal.at.poll-requires-in-Some-clause-call g c in
+    may g at.Start (Some c.in-Some.t) (some g at.In-Some)
 
 pub returns-in-None-poll-2-clause-seen : goal.returns-in-None-poll-2-clause-seen
 returns-in-None-poll-2-clause-seen g c =
-    let rules = g.E.Sleeps.rules in
-    let S = g.S.Layer in
-    let self = c.args.self.now in
-    let deferred = option_map (deferred_told g.E.Sleeps.told) self.deferred in
-    let m = c.args.m.now in
-    let cpu = S.cpu_of self.lower in
-    let threads = S.own self.lower in
-    let hand = (Some c.in-Some.t) in
-    let is : hand ≡ threads.hand = sym c.in-Some.is ∙ (c.hand.ensures ∙ ap in_hand c.own_here.ensures) in
-    let buffer = c.args.call.buffer in
-    let meant = nested_meant g.E.Sleeps.meant in
-    let told = nested_told g.E.Sleeps.told in
-    let payload = c.args.payload.now in
-    let edit = g.E.Sleeps.meant c.args.call.edit payload.parcel in
-    let fits : DeferredFits deferred (S.under_way self.lower) hand = subst (λ h. DeferredFits deferred (S.under_way self.lower) h)
-    (sym is) c.requires.fits.2 in
-    let keeps : HandDefers hand (outcome_in deferred)
-    = hand_defers deferred (S.under_way self.lower) hand buffer edit
-    (MaySleep (here rules (S.opening m)) cpu (renamed_events edit_in (S.seen m)) threads buffer edit) fits c.requires.call
-    (λ may. is ∙ may.hand) in
-    let n = c.poll-in-Some.new.m in
-    let after = S.own c.poll-in-Some.new.self in
-    let polled : SchedPolled (beneath rules (S.opening m)) (λ d. S.ActsFor m d) cpu (due hand buffer (as_edit edit)) None (S.seen m) (S.seen n) threads after
-    = transport (λ i. SchedPolled (beneath rules (S.opening m)) (λ d. S.ActsFor m d) cpu (due hand buffer (as_edit edit)) (told_by (sched_told told) (c.in-None-poll-2.is i) c.poll-in-Some.new.payload) (S.seen m)
-    (S.seen n) threads after) c.poll-in-Some.ensures.seen in
-    nested_sleeps rules (S.opening m) (λ d. S.ActsFor m d) cpu buffer edit None (S.seen m) (S.seen n) threads after deferred hand is keeps polled
+    let at = goal.at.returns-in-None-poll-2-clause-seen g c in
+    let poll = c.poll-in-Some in
+    let some = some g at.In-Some in
+    sleeps g at.Start (Some c.in-Some.t) some poll.new.self poll.result poll.new.payload poll.new.m refl
+    (waits g at.Start (Some c.in-Some.t) some poll.new.self poll.result poll.new.payload c.in-None-poll-2.is) poll.ensures.seen
 
 pub returns-in-None-poll-2-clause-follows : goal.returns-in-None-poll-2-clause-follows
 returns-in-None-poll-2-clause-follows g c = λ step.
-    let rules = g.E.Sleeps.rules in
-    let S = g.S.Layer in
-    let self = c.args.self.now in
-    let deferred = option_map (deferred_told g.E.Sleeps.told) self.deferred in
-    let m = c.args.m.now in
-    let cpu = S.cpu_of self.lower in
-    let threads = S.own self.lower in
-    let hand = (Some c.in-Some.t) in
-    let is : hand ≡ threads.hand = sym c.in-Some.is ∙ (c.hand.ensures ∙ ap in_hand c.own_here.ensures) in
-    let buffer = c.args.call.buffer in
-    let meant = nested_meant g.E.Sleeps.meant in
-    let told = nested_told g.E.Sleeps.told in
-    let payload = c.args.payload.now in
-    let edit = g.E.Sleeps.meant c.args.call.edit payload.parcel in
-    let n = c.poll-in-Some.new.m in
-    let after = S.own c.poll-in-Some.new.self in
-    let followed : Follows (λ d. S.ActsFor m d) (table_of (queue_rules (nested_rules rules) (nested_moves rules))) (S.opening m) cpu
-    (sched_plan (nested_moves rules) (homes_in (S.opening m)) cpu (due hand buffer (as_edit edit)) threads) (S.acts m) (S.acts n) (sched_left after None)
-    = transport (λ i. Follows (λ d. S.ActsFor m d) (table_of (queue_rules (nested_rules rules) (nested_moves rules))) (S.opening m) cpu
-    (sched_plan (nested_moves rules) (homes_in (S.opening m)) cpu (due hand buffer (as_edit edit)) threads) (S.acts m) (S.acts n)
-    (sched_left after (told_by (sched_told told) (c.in-None-poll-2.is i) c.poll-in-Some.new.payload)))
-    (c.poll-in-Some.ensures.follows step) in
-    nested_sleep_follows rules (S.opening m) (λ d. S.ActsFor m d) cpu buffer edit (S.acts m)
-    (S.acts n) deferred threads after hand None is followed
+    let at = goal.at.returns-in-None-poll-2-clause-follows g c in
+    let poll = c.poll-in-Some in
+    let some = some g at.In-Some in
+    follows g at.Start (Some c.in-Some.t) some poll.new.self poll.result poll.new.payload poll.new.m refl
+    (waits g at.Start (Some c.in-Some.t) some poll.new.self poll.result poll.new.payload c.in-None-poll-2.is) (poll.ensures.follows step)
 
 pub returns-clause-seen : goal.returns-clause-seen
 returns-clause-seen g c =
-    let rules = g.E.Sleeps.rules in
-    let S = g.S.Layer in
-    let self = c.args.self.now in
-    let deferred = option_map (deferred_told g.E.Sleeps.told) self.deferred in
-    let m = c.args.m.now in
-    let cpu = S.cpu_of self.lower in
-    let threads = S.own self.lower in
-    let hand = (Some c.in-Some.t) in
-    let is : hand ≡ threads.hand = sym c.in-Some.is ∙ (c.hand.ensures ∙ ap in_hand c.own_here.ensures) in
-    let buffer = c.args.call.buffer in
-    let meant = nested_meant g.E.Sleeps.meant in
-    let told = nested_told g.E.Sleeps.told in
-    let payload = c.args.payload.now in
-    let edit = g.E.Sleeps.meant c.args.call.edit payload.parcel in
-    let fits : DeferredFits deferred (S.under_way self.lower) hand = subst (λ h. DeferredFits deferred (S.under_way self.lower) h)
-    (sym is) c.requires.fits.2 in
-    let keeps : HandDefers hand (outcome_in deferred)
-    = hand_defers deferred (S.under_way self.lower) hand buffer edit
-    (MaySleep (here rules (S.opening m)) cpu (renamed_events edit_in (S.seen m)) threads buffer edit) fits c.requires.call
-    (λ may. is ∙ may.hand) in
-    let n = c.poll-in-Some.new.m in
-    let after = S.own c.poll-in-Some.new.self in
-    let polled : SchedPolled (beneath rules (S.opening m)) (λ d. S.ActsFor m d) cpu (due hand buffer (as_edit edit)) (Some (sched_told told c.in-Some-poll-2.answer c.poll-in-Some.new.payload)) (S.seen m)
-    (S.seen n) threads after
-    = transport (λ i. SchedPolled (beneath rules (S.opening m)) (λ d. S.ActsFor m d) cpu (due hand buffer (as_edit edit)) (told_by (sched_told told) (c.in-Some-poll-2.is i) c.poll-in-Some.new.payload) (S.seen m)
-    (S.seen n) threads after) c.poll-in-Some.ensures.seen in
-    let left = reported_is g.E.Sleeps.told self.deferred after buffer c.kept_edit-kept-in-Some.result c.in-Some-poll-2.answer c.poll-in-Some.new.payload
-    c.complete-in-Some-poll-2.new.payload c.hand-hand-in-Some-poll-2.result c.complete-in-Some-poll-2.new.deferred c.complete-in-Some-poll-2.result
-    (c.hand-hand-in-Some-poll-2.ensures ∙ ap in_hand c.own_here-in-Some-poll-2.ensures) c.complete-in-Some-poll-2.ensures.deferred c.complete-in-Some-poll-2.ensures.answer
-    c.complete-in-Some-poll-2.ensures.parcel in
-    subst (λ l. SleepPolled (here rules (S.opening m)) (λ d. S.ActsFor m d) cpu buffer edit (renamed_events edit_in (S.seen m))
-    (renamed_events edit_in (S.seen n)) (own_of deferred threads) l) left
-    (nested_sleeps rules (S.opening m) (λ d. S.ActsFor m d) cpu buffer edit (Some (sched_told told c.in-Some-poll-2.answer c.poll-in-Some.new.payload)) (S.seen m)
-    (S.seen n) threads after deferred hand is keeps polled)
+    let at = goal.at.returns-clause-seen g c in
+    let poll = c.poll-in-Some in
+    sleeps g at.Start (Some c.in-Some.t) (some g at.In-Some) poll.new.self poll.result poll.new.payload poll.new.m refl
+    (answers_home g at.After-complete-in-Some-poll-2) poll.ensures.seen
 
 pub returns-clause-follows : goal.returns-clause-follows
 returns-clause-follows g c = λ step.
-    let rules = g.E.Sleeps.rules in
-    let S = g.S.Layer in
-    let self = c.args.self.now in
-    let deferred = option_map (deferred_told g.E.Sleeps.told) self.deferred in
-    let m = c.args.m.now in
-    let cpu = S.cpu_of self.lower in
-    let threads = S.own self.lower in
-    let hand = (Some c.in-Some.t) in
-    let is : hand ≡ threads.hand = sym c.in-Some.is ∙ (c.hand.ensures ∙ ap in_hand c.own_here.ensures) in
-    let buffer = c.args.call.buffer in
-    let meant = nested_meant g.E.Sleeps.meant in
-    let told = nested_told g.E.Sleeps.told in
-    let payload = c.args.payload.now in
-    let edit = g.E.Sleeps.meant c.args.call.edit payload.parcel in
-    let n = c.poll-in-Some.new.m in
-    let after = S.own c.poll-in-Some.new.self in
-    let followed : Follows (λ d. S.ActsFor m d) (table_of (queue_rules (nested_rules rules) (nested_moves rules))) (S.opening m) cpu
-    (sched_plan (nested_moves rules) (homes_in (S.opening m)) cpu (due hand buffer (as_edit edit)) threads) (S.acts m) (S.acts n)
-    (sched_left after (Some (sched_told told c.in-Some-poll-2.answer c.poll-in-Some.new.payload)))
-    = transport (λ i. Follows (λ d. S.ActsFor m d) (table_of (queue_rules (nested_rules rules) (nested_moves rules))) (S.opening m) cpu
-    (sched_plan (nested_moves rules) (homes_in (S.opening m)) cpu (due hand buffer (as_edit edit)) threads) (S.acts m) (S.acts n)
-    (sched_left after (told_by (sched_told told) (c.in-Some-poll-2.is i) c.poll-in-Some.new.payload)))
-    (c.poll-in-Some.ensures.follows step) in
-    let left = reported_is g.E.Sleeps.told self.deferred after buffer c.kept_edit-kept-in-Some.result c.in-Some-poll-2.answer c.poll-in-Some.new.payload
-    c.complete-in-Some-poll-2.new.payload c.hand-hand-in-Some-poll-2.result c.complete-in-Some-poll-2.new.deferred c.complete-in-Some-poll-2.result
-    (c.hand-hand-in-Some-poll-2.ensures ∙ ap in_hand c.own_here-in-Some-poll-2.ensures) c.complete-in-Some-poll-2.ensures.deferred c.complete-in-Some-poll-2.ensures.answer
-    c.complete-in-Some-poll-2.ensures.parcel in
-    subst (λ l. Follows (λ d. S.ActsFor m d) (table_of (queue_rules (sleep_rules rules) (sleep_moves rules))) (viewed state_of (S.opening m)) cpu
-    (sleep_plan (sleep_moves rules) (homes_in (viewed state_of (S.opening m))) cpu buffer edit (own_of deferred threads))
-    (map (renamed (renamed_edit edit_in)) (S.acts m)) (map (renamed (renamed_edit edit_in)) (S.acts n)) l) left
-    (nested_sleep_follows rules (S.opening m) (λ d. S.ActsFor m d) cpu buffer edit (S.acts m) (S.acts n) deferred threads after hand
-    (Some (sched_told told c.in-Some-poll-2.answer c.poll-in-Some.new.payload)) is followed)
+    let at = goal.at.returns-clause-follows g c in
+    let poll = c.poll-in-Some in
+    follows g at.Start (Some c.in-Some.t) (some g at.In-Some) poll.new.self poll.result poll.new.payload poll.new.m refl
+    (answers_home g at.After-complete-in-Some-poll-2) (poll.ensures.follows step)
