@@ -36,7 +36,7 @@ same_side Senders Senders = true
 -- a call enters a line: a close does not
 abbrev pub IsLined : Call → Type 0
 IsLined (Close b) = ⊥
-IsLined line = Unit {0}
+IsLined call = Unit {0}
 
 -- a thread owns a lock, and does not sleep for it
 abbrev pub Holds : Tid → Option BufferLock → Type 0
