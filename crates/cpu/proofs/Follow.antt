@@ -30,14 +30,7 @@ use Rattle.cpu.specs.Guests.{HasComeIn, IsSettled, after_answer, after_effect, a
 going_effect : (stage : Stage) (call_state : CallState) (c : Call) → (going_at stage call_state c).call ≡ Some c
     → (going_at stage call_state c).effect ≡ had (begun_at stage call_state.call) call_state.effect
 going_effect at.Idle call_state c may = refl
-going_effect at.Acquires call_state c may = sym (ap (λ x. had x call_state.effect) may)
-going_effect at.Enters call_state c may = sym (ap (λ x. had x call_state.effect) may)
-going_effect at.Tries call_state c may = sym (ap (λ x. had x call_state.effect) may)
-going_effect at.Waits call_state c may = sym (ap (λ x. had x call_state.effect) may)
-going_effect at.AcquiresAgain call_state c may = sym (ap (λ x. had x call_state.effect) may)
-going_effect at.Signals call_state c may = sym (ap (λ x. had x call_state.effect) may)
-going_effect at.SignalsOwn call_state c may = sym (ap (λ x. had x call_state.effect) may)
-going_effect at.Releases call_state c may = sym (ap (λ x. had x call_state.effect) may)
+going_effect stage call_state c may = sym (ap (λ x. had x call_state.effect) may)
 
 -- what a call that may be polled has had
 pub had_going : (call_state : CallState) (c : Call) → MayPollCall call_state c → (going call_state c).effect ≡ had (begun_of call_state) call_state.effect
@@ -45,14 +38,7 @@ had_going call_state c may = going_effect call_state.stage call_state c may
 
 going_begun : (stage : Stage) (call_state : CallState) (c : Call) → begun_at stage call_state.call ≡ Some c → (going_at stage call_state c).call ≡ Some c
 going_begun at.Idle call_state c is = refl
-going_begun at.Acquires call_state c is = is
-going_begun at.Enters call_state c is = is
-going_begun at.Tries call_state c is = is
-going_begun at.Waits call_state c is = is
-going_begun at.AcquiresAgain call_state c is = is
-going_begun at.Signals call_state c is = is
-going_begun at.SignalsOwn call_state c is = is
-going_begun at.Releases call_state c is = is
+going_begun stage call_state c is = is
 
 -- a call state may go on with the call that it has begun, and where it has begun none with any
 pub may_poll_call : (call_state : CallState) (c : Call) → IsSettled call_state → (begun_of call_state ≡ None) ⊎ (begun_of call_state ≡ Some c)
@@ -117,25 +103,18 @@ module _ (program : List Instruction) (es : List Entry) (s : State) (b : BufId) 
       → e.kind ≡ of → group_of of ≡ Sends → IsProgramsCalls program (e ∷ es) (after_sent of k s)
   sent_more from k at value kind.Send is group = sends b from k e calls at is buffer value
   sent_more from k at value kind.SendClosed is group = offers b from k e calls at is buffer value
-  sent_more from k at value kind.Recv is group = absurd (cc group)
-  sent_more from k at value kind.RecvClosed is group = absurd (cc group)
-  sent_more from k at value kind.Close is group = absurd (cc group)
+  sent_more from k at value line is group = absurd (cc group)
 
   -- and so with receives, and with closes
   received_more : (into : Into) (k : Option ℕ) → next_of program s ≡ ins.Recv b into k → (of : Kind) → e.kind ≡ of → group_of of ≡ Receives
       → IsProgramsCalls program (e ∷ es) (after_received of into k e.value s)
   received_more into k at kind.Recv is group = receives b into k e calls at is buffer
   received_more into k at kind.RecvClosed is group = asks b into k e calls at is buffer
-  received_more into k at kind.Send is group = absurd (cc group)
-  received_more into k at kind.SendClosed is group = absurd (cc group)
-  received_more into k at kind.Close is group = absurd (cc group)
+  received_more into k at line is group = absurd (cc group)
 
   closed_more : next_of program s ≡ ins.Close b → (of : Kind) → e.kind ≡ of → group_of of ≡ Closes → IsProgramsCalls program (e ∷ es) (moved_on s)
   closed_more at kind.Close is group = closes b e calls at is buffer
-  closed_more at kind.Send is group = absurd (cc group)
-  closed_more at kind.SendClosed is group = absurd (cc group)
-  closed_more at kind.Recv is group = absurd (cc group)
-  closed_more at kind.RecvClosed is group = absurd (cc group)
+  closed_more at line is group = absurd (cc group)
 
 -- an effect of a call is one more of the program's calls
 calls_more : (program : List Instruction) (es : List Entry) (s : State) (i : Instruction) (c : Call) (f : Effect) (cpu : CpuId) (t : Tid)

@@ -72,10 +72,8 @@ passed_grows homes ActsFor c call (Some a) old new own own' polled =
   where
     by_pass : (p : Pass) → AllByRecursion (λ s. s.cpu ≡ c) (pass_steps homes c p)
     by_pass Switch = tt
-    by_pass YieldNow = (refl, tt)
-    by_pass Drain = (refl, tt)
-    by_pass (MakeReady t) = (refl, tt)
     by_pass End = tt
+    by_pass other = (refl, tt)
 
 -- effects of others alone
 pub others_grow : (ActsFor : CpuId → Type 0) (cpu : CpuId) (old new : List Entry) → OthersSeen ActsFor old new → SeenGrows ActsFor cpu old new

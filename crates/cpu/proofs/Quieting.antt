@@ -1,6 +1,5 @@
 -- When nobody is pending: by the places of the threads, and by the pending queues.
-use Rattle.std.proofs.Common.{◌≡◌, ◌≢◌, ◌⊎◌, inl, inr, ℕ, ◌+◌, ◌<◌, Bool, true, false, ◌||◌, List, [], ◌∷◌, length, refl, ap, sym}
-use Rattle.std.proofs.Common.{◌∙◌, subst, arith}
+use Rattle.std.proofs.Common.{◌≡◌, ◌≢◌, ◌⊎◌, inl, inr, ℕ, ◌+◌, ◌<◌, Bool, true, false, ◌||◌, List, [], ◌∷◌, length, refl, ap, sym, ◌∙◌, subst, arith}
 use Rattle.std.proofs.lemmas.Bool.{and_right, cases_eq}
 use Rattle.std.proofs.lemmas.Option.{slice_get_within, same_Some}
 use Rattle.event_log.specs.declared.ids.CpuId.{CpuId}
@@ -37,21 +36,13 @@ module _ (homes : List CpuId) (c : CpuId) (moves : List Step) (own : Threads) (l
       let there = hand_at homes c moves own legal stands t at.1 in
       let differs : is_hand c (Pend d) ≡ true = ap (is_hand c) (sym pends ∙ there) ∙ same_cpu_self c in
       clash (is_hand c (Pend d)) differs refl
-  no_own_place (place.LockSleeper b) at = at
-  no_own_place (place.WaitRecv b) at = at
-  no_own_place (place.WaitSend b) at = at
   no_own_place place.Ended at = let some = in_counted t own.ended at in omega (arith, none, some)
+  no_own_place other at = at
 
 -- whether a place is a pending queue
 abbrev pub is_pending : Place → Bool
-is_pending (place.Running c) = false
-is_pending (place.Ready c) = false
 is_pending (place.Pending c) = true
-is_pending (place.Hand c) = false
-is_pending (place.LockSleeper b) = false
-is_pending (place.WaitRecv b) = false
-is_pending (place.WaitSend b) = false
-is_pending place.Ended = false
+is_pending other = false
 
 -- a thread's place is a pending queue exactly where its moves left it in one
 pub place_pends : (s : Shown) (t : Tid) (p : Place) → MovesAgree s → IsPlaceOf s t p → (d : CpuId) → where_is s.homes s.moves t ≡ Pend d → is_pending p ≡ true
@@ -79,14 +70,8 @@ nobody_of s agree empty t d pends =
     absurd (omega (arith, counted, here, gone))
 
 pub pending_is : (p : Place) → is_pending p ≡ true → (c : CpuId) × (p ≡ place.Pending c)
-pending_is (place.Running c) is = absurd (cc is)
-pending_is (place.Ready c) is = absurd (cc is)
 pending_is (place.Pending c) is = (c, refl)
-pending_is (place.Hand c) is = absurd (cc is)
-pending_is (place.LockSleeper b) is = absurd (cc is)
-pending_is (place.WaitRecv b) is = absurd (cc is)
-pending_is (place.WaitSend b) is = absurd (cc is)
-pending_is place.Ended is = absurd (cc is)
+pending_is other is = absurd (cc is)
 
 -- what holds of each number below n, and of n
 pub up_more : (P : ℕ → Type 0) (n : ℕ) → ((k : ℕ) → k < n → P k) → P n → (k : ℕ) → k < n + 1 → P k

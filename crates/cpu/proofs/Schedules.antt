@@ -38,10 +38,9 @@ pub in_no_call : (g : Guest) (es : List Entry) (begun : Option Call) (effect : O
 in_no_call g es begun effect todo follows asks none = go g.stage follows
   where
     go : (stage : GuestStage) → HasComeIn stage g.program g.thread es begun effect → (is_calling stage ≡ false) × (is_begun stage ≡ false)
-    go Idle f = (refl, refl)
     go Begun f = absurd (none f.0 (sym asks ∙ f.1))
     go Done f = absurd (none f.0 (sym asks ∙ f.2))
-    go Ended f = (refl, refl)
+    go stage f = (refl, refl)
 
 -- and it is between instructions unless it is to end
 idle_at : (g : Guest) (es : List Entry) (begun : Option Call) (effect : Option Effect) (todo : Todo)
@@ -57,14 +56,7 @@ idle_at g es begun effect todo follows asks none some = go g.stage follows
 
 pub finish_exit : (s : State) (i : Instruction) → todo_at s i ≡ Finish → i ≡ ins.Exit
 finish_exit s ins.Exit is = refl
-finish_exit s ins.Yield is = absurd cc
-finish_exit s (ins.Send b r k) is = absurd cc
-finish_exit s (ins.Recv b r k) is = absurd cc
-finish_exit s (ins.Close b) is = absurd cc
-finish_exit s (ins.Set r n) is = absurd cc
-finish_exit s (ins.Add r q) is = absurd cc
-finish_exit s (ins.Sub r q) is = absurd cc
-finish_exit s (ins.Jnz r k) is = absurd cc
+finish_exit s other is = absurd cc
 
 -- a guest that ends follows its entries
 follow_end : (g : Guest) (es : List Entry) (begun : Option Call) (effect : Option Effect) → HasComeIn g.stage g.program g.thread es begun effect
@@ -172,10 +164,8 @@ module _ (cpu : ValidCpu) where
   computes_at t chose = go own.current refl chose
     where
       by_todo : (u : Tid) (todo : Todo) → chosen_todo u todo ≡ Computes t → (u ≡ t) × (todo ≡ Compute)
-      by_todo u (Calls d) at = absurd (cc at)
-      by_todo u Finish at = absurd (cc at)
-      by_todo u PassOn at = absurd (cc at)
       by_todo u Compute at = (cc at, refl)
+      by_todo u other at = absurd (cc at)
 
       by_hand : (u : Tid) (calling : Bool) (hand : Option Tid) (todo : Todo) → chosen_by u calling hand todo ≡ Computes t → (u ≡ t) × (todo ≡ Compute)
       by_hand u true hand todo at = by_todo u todo at

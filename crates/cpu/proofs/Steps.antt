@@ -26,7 +26,7 @@ use Rattle.cpu.specs.declared.guests.Guest.{Guest}
 use Rattle.cpu.specs.declared.guests.GuestStage.{GuestStage}
 use Rattle.cpu.specs.declared.guests.GuestStage.TheVariants.{Idle, Begun, Done, Ended}
 use Rattle.cpu.specs.declared.guests.Todo.{Todo}
-use Rattle.cpu.specs.declared.guests.Todo.TheVariants.{Finish, PassOn, Compute, Calls}
+use Rattle.cpu.specs.declared.guests.Todo.TheVariants.{Finish, Calls}
 use Rattle.cpu.specs.Guests.{HasCome, HasComeIn, entries_of, fresh_effect, had, is_begun, is_calling, is_ended, polled, stage_after, todo_at, todo_of}
 use Rattle.cpu.specs.Cpus.{AllFollow, AreOver, IsCpu, IsOfHome, NamesBelow, begins_at, begun_count, is_begun_guest, chosen, chosen_at}
 use Rattle.cpu.specs.Cpus.{chosen_by, chosen_for, chosen_idle, chosen_todo, under_way_of, fresh_at, guest_at, of_cpu, of_thread, with_guest}
@@ -47,9 +47,7 @@ record TodoIs (u t : Tid) (todo : Todo) (c : Call) : Type 0 where
 
 todo_polls : (u t : Tid) (todo : Todo) (c : Call) → chosen_todo u todo ≡ Polls t c → TodoIs u t todo c
 todo_polls u t (Calls d) c is = record { same = cc is; asks = cc is }
-todo_polls u t Finish c is = absurd (cc is)
-todo_polls u t PassOn c is = absurd (cc is)
-todo_polls u t Compute c is = absurd (cc is)
+todo_polls u t other c is = absurd (cc is)
 
 by_polls : (u t : Tid) (calling : Bool) (hand : Option Tid) (todo : Todo) (c : Call) → chosen_by u calling hand todo ≡ Polls t c → TodoIs u t todo c
 by_polls u t true hand todo c is = todo_polls u t todo c is
@@ -98,10 +96,9 @@ begun_for g es call_state c follows asks = go g.stage follows.1
   where
     go : (stage : GuestStage) → HasComeIn stage g.program g.thread es (begun_of call_state) call_state.effect
         → (begun_of call_state ≡ None) ⊎ (begun_of call_state ≡ Some c)
-    go Idle f = inl f.0
     go Begun f = let same : f.0 ≡ c = cc (f.1, asks) in inr (f.2 ∙ ap (λ (x : Call). Some x) same)
     go Done f = let same : f.0 ≡ c = cc (f.2, asks) in inr (f.3 ∙ ap (λ (x : Call). Some x) same)
-    go Ended f = inl f.0
+    go stage f = inl f.0
 
 -- the buffer of a call that an instruction asks for
 named_buffer : (i : Instruction) (s : State) (c : Call) (buffers : ℕ) → todo_at s i ≡ Calls c → names_below buffers i ≡ true

@@ -18,7 +18,7 @@ use Rattle.layer_traits.specs.declared.call_states.CallState.{CallState}
 use Rattle.layer_traits.specs.Along.{IsStep}
 use Rattle.layer_traits.specs.Looks.{Tries}
 use Rattle.layer_traits.specs.Passes.{PassPolled, pass_after}
-use Rattle.layer_traits.specs.Places.{AreMoves, Hand, Home, Asleep, Pend, Stands, Step, Threads, Where}
+use Rattle.layer_traits.specs.Places.{AreMoves, Hand, Stands, Step, Threads, Where}
 use Rattle.layer_traits.specs.Places.{home_of, is_hand, is_home, is_thread, pending_by, where_is}
 use Rattle.layer_traits.specs.Plans.{Follows, Now, is_in_section}
 use Rattle.layer_traits.specs.BufferLaw.{Buffering, UnderWay, buffer_of, buffering_at_start}
@@ -50,10 +50,8 @@ use Rattle.cpu.proofs.Tower.Passed.{boots_part}
 use Rattle.cpu.proofs.Tower.Polls.{look_is_step}
 
 hand_away : (c : CpuId) (w : Where) → is_hand c w ≡ true → is_home w ≡ false
-hand_away c Home is = absurd (cc is)
 hand_away c (Hand d) is = refl
-hand_away c (Pend d) is = absurd (cc is)
-hand_away c (Asleep at) is = absurd (cc is)
+hand_away c x is = absurd (cc is)
 
 -- a thread in the hand has a home
 pub hand_known : (homes : List CpuId) (c : CpuId) (moves : List Step) (own : Threads) → Stands homes c moves own → AreMoves homes moves

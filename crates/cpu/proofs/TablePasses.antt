@@ -54,14 +54,7 @@ use Rattle.cpu.proofs.Tower.Polls.{alone_is_step, choice_current, choice_hand, c
 
 yield_line_is : (s : State) (i : Instruction) → todo_at s i ≡ PassOn → i ≡ ins.Yield
 yield_line_is s ins.Yield is = refl
-yield_line_is s ins.Exit is = absurd (cc is)
-yield_line_is s (ins.Send b r k) is = absurd (cc is)
-yield_line_is s (ins.Recv b r k) is = absurd (cc is)
-yield_line_is s (ins.Close b) is = absurd (cc is)
-yield_line_is s (ins.Set r n) is = absurd (cc is)
-yield_line_is s (ins.Add r q) is = absurd (cc is)
-yield_line_is s (ins.Sub r q) is = absurd (cc is)
-yield_line_is s (ins.Jnz r k) is = absurd (cc is)
+yield_line_is s line is = absurd (cc is)
 
 local_at : (setup : Setup) (c : CpuId) (p : Private) (t : Tid) (s : State) (i : Instruction) → todo_at s i ≡ Compute
     → at_instruction setup c p t i ≡ Alone (with_state p t (after_local i (thread_at p t).guest))
@@ -69,11 +62,7 @@ local_at setup c p t s (ins.Set r n) is = refl
 local_at setup c p t s (ins.Add r q) is = refl
 local_at setup c p t s (ins.Sub r q) is = refl
 local_at setup c p t s (ins.Jnz r k) is = refl
-local_at setup c p t s ins.Exit is = absurd (cc is)
-local_at setup c p t s ins.Yield is = absurd (cc is)
-local_at setup c p t s (ins.Send b r k) is = absurd (cc is)
-local_at setup c p t s (ins.Recv b r k) is = absurd (cc is)
-local_at setup c p t s (ins.Close b) is = absurd (cc is)
+local_at setup c p t s line is = absurd (cc is)
 
 never_sends : (t s : Tid) (todo : Todo) → chosen_todo t todo ≡ Passes (MakeReady s) → ⊥
 never_sends t s (Calls c) is = absurd (cc is)

@@ -74,35 +74,16 @@ asks_for : (i : Instruction) (s : State) (c : Call) → todo_at s i ≡ Calls c 
 asks_for (ins.Send b r k) s c is = sym (cc is)
 asks_for (ins.Recv b r k) s c is = sym (cc is)
 asks_for (ins.Close b) s c is = sym (cc is)
-asks_for ins.Exit s c is = absurd (cc is)
-asks_for ins.Yield s c is = absurd (cc is)
-asks_for (ins.Set r n) s c is = absurd (cc is)
-asks_for (ins.Add r q) s c is = absurd (cc is)
-asks_for (ins.Sub r q) s c is = absurd (cc is)
-asks_for (ins.Jnz r k) s c is = absurd (cc is)
+asks_for line s c is = absurd (cc is)
 
 is_at_idle : (s : Stage) → (s ≡ at_stage.Idle) ⊎ (s ≡ at_stage.Idle → ⊥)
 is_at_idle at_stage.Idle = inl refl
-is_at_idle at_stage.Acquires = inr (λ e. absurd (cc e))
-is_at_idle at_stage.Enters = inr (λ e. absurd (cc e))
-is_at_idle at_stage.Tries = inr (λ e. absurd (cc e))
-is_at_idle at_stage.Waits = inr (λ e. absurd (cc e))
-is_at_idle at_stage.AcquiresAgain = inr (λ e. absurd (cc e))
-is_at_idle at_stage.Signals = inr (λ e. absurd (cc e))
-is_at_idle at_stage.SignalsOwn = inr (λ e. absurd (cc e))
-is_at_idle at_stage.Releases = inr (λ e. absurd (cc e))
+is_at_idle stage = inr (λ e. absurd (cc e))
 
 -- a call state inside a call goes on as it is
 goes_same : (s : Stage) (call_state : CallState) (c : Call) → (s ≡ at_stage.Idle → ⊥) → going_at s call_state c ≡ call_state
 goes_same at_stage.Idle call_state c calls = absurd (calls refl)
-goes_same at_stage.Acquires call_state c calls = refl
-goes_same at_stage.Enters call_state c calls = refl
-goes_same at_stage.Tries call_state c calls = refl
-goes_same at_stage.Waits call_state c calls = refl
-goes_same at_stage.AcquiresAgain call_state c calls = refl
-goes_same at_stage.Signals call_state c calls = refl
-goes_same at_stage.SignalsOwn call_state c calls = refl
-goes_same at_stage.Releases call_state c calls = refl
+goes_same stage call_state c calls = refl
 
 -- the trace after a poll
 first_trace : (c : CpuId) (t : Tid) (b : BufId) (before after : Option Effect) (trace : List Entry) → before ≡ None

@@ -92,12 +92,7 @@ never_all setup c p (Some t) is = by_call (thread_at p t).call is
     by_line (ins.Send b r k) now = by_room _ _ now
     by_line (ins.Recv b r k) now = by_room _ _ now
     by_line (ins.Close b) now = by_room _ _ now
-    by_line ins.Yield now = cc now
-    by_line ins.Exit now = cc now
-    by_line (ins.Set r n) now = cc now
-    by_line (ins.Add r q) now = cc now
-    by_line (ins.Sub r q) now = cc now
-    by_line (ins.Jnz r k) now = cc now
+    by_line other now = cc now
 
     by_call : (call : Option Call) → halted_by (at_call setup c p t call) ≡ Some AllEnded → ⊥
     by_call None now = by_line (stands_at setup p t) now

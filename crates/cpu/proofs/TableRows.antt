@@ -23,7 +23,7 @@ use Rattle.cpu.specs.declared.guests.Guest.{Guest}
 use Rattle.cpu.specs.declared.guests.GuestStage.{GuestStage}
 use Rattle.cpu.specs.declared.guests.GuestStage.TheVariants.{Idle, Begun, Done, Ended}
 use Rattle.cpu.specs.declared.guests.Todo.{Todo}
-use Rattle.cpu.specs.declared.guests.Todo.TheVariants.{Finish, PassOn, Compute, Calls}
+use Rattle.cpu.specs.declared.guests.Todo.TheVariants.{Calls}
 use Rattle.cpu.specs.Guests.{HasComeIn, is_begun, is_calling, is_ended, todo_at, todo_of}
 use Rattle.cpu.specs.Cpus.{begins, begins_at, begun_count, chosen_at, chosen_by, chosen_for}
 use Rattle.cpu.specs.Cpus.{chosen_todo, guest_at, halted_at as cpu_halted, is_begun_guest, is_over, of_cpu, of_thread}
@@ -134,10 +134,9 @@ open_is Ended program s es begun effect f had follows = ap (λ o. is_open_call (
 -- whether there is a call at all
 pub call_is : (stage : GuestStage) (program : List Instruction) (s : State) (es : List Entry) (begun : Option Call) (effect : Option Effect)
     → HasComeIn stage program s es begun effect → is_some begun ≡ is_calling stage
-call_is Idle program s es begun effect follows = ap is_some follows.0
 call_is Begun program s es begun effect follows = ap is_some follows.2
 call_is Done program s es begun effect follows = ap is_some follows.3
-call_is Ended program s es begun effect follows = ap is_some follows.0
+call_is stage program s es begun effect follows = ap is_some follows.0
 
 halts_if : (b : Bool) (x : Choice) (y : Option Reason) → halted_by x ≡ y → halted_by (if b then Halts AllEnded else x) ≡ (if b then Some AllEnded else y)
 halts_if true x y same = refl
@@ -221,9 +220,7 @@ module _ (cpu : TabledCpu) where
 
     no_begin : (t : Tid) (g : Guest) → guest_at guests t.0 ≡ Some g → is_calling g.stage ≡ true → (todo : Todo) → begins (chosen_todo t todo) guests ≡ false
     no_begin t g at calling (Calls c) = ap begins_at at ∙ ap not calling
-    no_begin t g at calling Finish = refl
-    no_begin t g at calling PassOn = refl
-    no_begin t g at calling Compute = refl
+    no_begin t g at calling other = refl
 
     calling_rest : (t : Tid) (g : Guest) (hand : Option Tid) → guest_at guests t.0 ≡ Some g → is_calling g.stage ≡ true
         → rest_by (Some t) hand (threads_in own).ready ≡ None

@@ -67,14 +67,7 @@ goes_or_ends call_state call Releases out is done =
 
 begun_there : (stage : Stage) (o : Option Call) → called_at stage ≡ true → begun_at stage o ≡ o
 begun_there Idle o is = absurd cc
-begun_there Acquires o is = refl
-begun_there Enters o is = refl
-begun_there Tries o is = refl
-begun_there Waits o is = refl
-begun_there AcquiresAgain o is = refl
-begun_there Signals o is = refl
-begun_there SignalsOwn o is = refl
-begun_there Releases o is = refl
+begun_there stage o is = refl
 
 module _ (poll_section : SectionPollTaken) (home : home_of poll_section.homes poll_section.t ≡ Some poll_section.c)
     (called : poll_section.call_state.call ≡ Some poll_section.call)

@@ -11,7 +11,7 @@ use Rattle.layer_traits.specs.declared.locked.Side.TheVariants.{Senders}
 use Rattle.layer_traits.specs.declared.scheds.SchedCall.{SchedCall}
 use Rattle.layer_traits.specs.declared.scheds.SchedCall.TheVariants as sched
 use Rattle.layer_traits.specs.declared.call_states.Stage.{Stage}
-use Rattle.layer_traits.specs.declared.call_states.Stage.TheVariants.{Idle, Acquires, Enters, Tries, Waits, AcquiresAgain, Signals, SignalsOwn, Releases}
+use Rattle.layer_traits.specs.declared.call_states.Stage.TheVariants.{Idle, Acquires}
 use Rattle.layer_traits.specs.declared.call_states.CallState.{CallState}
 use Rattle.layer_traits.specs.BufferLaw.{Calling, MayGoOn, MayPollCall, Passing, begun, going, going_at, call_state_of}
 use Rattle.layer_traits.specs.BufferProtocol.{BufferLock, BufferSection}
@@ -26,14 +26,7 @@ use Rattle.fifo_buffer.specs.SectionPolls.{BufferOutcome, CallsFit, FitsAt, Goes
 -- within a call the call state goes on as it is
 pub going_same : (stage : Stage) (call_state : CallState) (call : Call) → called_at stage ≡ true → going_at stage call_state call ≡ call_state
 going_same Idle call_state call is = absurd cc
-going_same Acquires call_state call is = refl
-going_same Enters call_state call is = refl
-going_same Tries call_state call is = refl
-going_same Waits call_state call is = refl
-going_same AcquiresAgain call_state call is = refl
-going_same Signals call_state call is = refl
-going_same SignalsOwn call_state call is = refl
-going_same Releases call_state call is = refl
+going_same stage call_state call is = refl
 
 module _ (O : LockId → Option BufferLock) (past : List BufferSection) (t : Tid) (call : Call) where
   begun_fits : (slept waits : Option BufId) → Stance O past t (record { 0 = 0 }) Senders false false false 0 → slept ≡ None → waits ≡ None

@@ -20,7 +20,7 @@ use Rattle.layer_traits.specs.declared.calls.Effect.{Effect}
 use Rattle.layer_traits.specs.declared.conditions.CvLeave.TheVariants.{Wait}
 use Rattle.layer_traits.specs.declared.conditions.CvOut.{CvOut}
 use Rattle.layer_traits.specs.declared.conditions.CvOut.TheVariants as answer
-use Rattle.layer_traits.specs.declared.locked.QEdit.TheVariants.{Acquire, Inside, Release}
+use Rattle.layer_traits.specs.declared.locked.QEdit.TheVariants.{Acquire, Release}
 use Rattle.layer_traits.specs.declared.locked.QOut.{QOut}
 use Rattle.layer_traits.specs.declared.locked.QOut.TheVariants.{Acquired, Queued, Did, Released}
 use Rattle.layer_traits.specs.declared.locked.Side.TheVariants.{Receivers, Senders}
@@ -56,26 +56,13 @@ use Rattle.fifo_buffer.proofs.Events.{caller_is, due_now, keeps_fits, owner_due}
 use Rattle.fifo_buffer.proofs.OwnSteps.{Stepped, own_step}
 
 pub waits_section : (t : Tid) (call : Call) (stage : Stage) → waits_at stage ≡ true → section_at t call stage ≡ Release (Wait t (side_of call))
-waits_section t call Idle is = absurd cc
-waits_section t call Acquires is = absurd cc
-waits_section t call Enters is = absurd cc
-waits_section t call Tries is = absurd cc
 waits_section t call Waits is = refl
-waits_section t call AcquiresAgain is = absurd cc
-waits_section t call Signals is = absurd cc
-waits_section t call SignalsOwn is = absurd cc
-waits_section t call Releases is = absurd cc
+waits_section t call stage is = absurd cc
 
 pub asks_section : (t : Tid) (call : Call) (stage : Stage) → asks_at stage ≡ true → section_at t call stage ≡ Acquire t
-asks_section t call Idle is = absurd cc
 asks_section t call Acquires is = refl
-asks_section t call Enters is = absurd cc
-asks_section t call Tries is = absurd cc
-asks_section t call Waits is = absurd cc
 asks_section t call AcquiresAgain is = refl
-asks_section t call Signals is = absurd cc
-asks_section t call SignalsOwn is = absurd cc
-asks_section t call Releases is = absurd cc
+asks_section t call stage is = absurd cc
 
 module _ (opening : LockId → Option (QueueBlock BufferLock)) (c : CpuId) (t : Tid) (home : home_of (homes_in opening) t ≡ Some c) (call : Call)
     (call_state : CallState)
@@ -130,22 +117,16 @@ module _ (opening : LockId → Option (QueueBlock BufferLock)) (c : CpuId) (t : 
 
 -- the marks after an answer
 abbrev slept_list : Tid → BufId → List (Option BufId) → QOut (CvOut BufferOut) → List (Option BufId)
-slept_list t b slept Acquired = slept
 slept_list t b slept Queued = slice_set slept t.0 (Some b)
-slept_list t b slept (Did o) = slept
-slept_list t b slept (Released o) = slept
+slept_list t b slept other = slept
 
 abbrev waits_list_in : Tid → BufId → List (Option BufId) → CvOut BufferOut → List (Option BufId)
-waits_list_in t b waits (answer.Did o) = waits
-waits_list_in t b waits (answer.Signalled side front) = waits
-waits_list_in t b waits answer.Left = waits
 waits_list_in t b waits (answer.Waited side) = slice_set waits t.0 (Some b)
+waits_list_in t b waits other = waits
 
 abbrev waits_list : Tid → BufId → List (Option BufId) → QOut (CvOut BufferOut) → List (Option BufId)
-waits_list t b waits Acquired = waits
-waits_list t b waits Queued = waits
-waits_list t b waits (Did o) = waits
 waits_list t b waits (Released o) = waits_list_in t b waits o
+waits_list t b waits other = waits
 
 -- what the layers between make of an answer: it is handed on at once, or its caller has a mark now
 abbrev both : Tid → BufId → List (Option BufId) → List (Option BufId) → Left (Sleeping (QOut (CvOut BufferOut))) BufferOutcome
@@ -199,8 +180,7 @@ sleeps_as : (e : CvCall BufferEdit) (lock : BufferLock)
     → (lock_answer (cv_rules buffer_monitor_rules) e lock).slept ≡ is_some (wait_list_slept (cv_rules buffer_monitor_rules) (lock_answer
     (cv_rules buffer_monitor_rules) e lock).out)
 sleeps_as (Acquire t) lock = asked_sleeps lock.owner
-sleeps_as (Inside f) lock = refl
-sleeps_as (Release r) lock = refl
+sleeps_as other lock = refl
 
 plain_stays : (out : QOut (CvOut BufferOut)) → is_plain out ≡ true → wait_list_slept (cv_rules buffer_monitor_rules) out ≡ None
 plain_stays Acquired plain = refl
@@ -214,15 +194,8 @@ plain_stays (Released (answer.Waited side)) plain = absurd cc
 -- a wait's answer is not handed on at once
 no_wait_plain : (t : Tid) (call : Call) (stage : Stage) (lock : BufferLock) → is_plain (lock_out buffer_rules (section_at t call stage) lock) ≡ true
     → waits_at stage ≡ false
-no_wait_plain t call Idle lock plain = refl
-no_wait_plain t call Acquires lock plain = refl
-no_wait_plain t call Enters lock plain = refl
-no_wait_plain t call Tries lock plain = refl
 no_wait_plain t call Waits lock plain = absurd cc
-no_wait_plain t call AcquiresAgain lock plain = refl
-no_wait_plain t call Signals lock plain = refl
-no_wait_plain t call SignalsOwn lock plain = refl
-no_wait_plain t call Releases lock plain = refl
+no_wait_plain t call stage lock plain = refl
 
 -- a section that wakes somebody has no effect
 same_effect_or_none : (t : Tid) (call : Call) (stage : Stage) (call_state : CallState) (lock : BufferLock)
@@ -270,10 +243,8 @@ plain_lists t b slept waits (Released (answer.Waited side)) plain = absurd cc
 slept_mark : (t : Tid) (b : BufId) (slept : List (Option BufId)) (out : QOut (CvOut BufferOut)) → length slept ≡ THREADS → t.0 < THREADS
     → slept_for slept t ≡ None
     → slept_for (slept_list t b slept out) t ≡ slept_by b out
-slept_mark t b slept Acquired size small none = none
 slept_mark t b slept Queued size small none = own_mark slept t (Some b) size small
-slept_mark t b slept (Did o) size small none = none
-slept_mark t b slept (Released o) size small none = none
+slept_mark t b slept other size small none = none
 
 waits_mark : (t : Tid) (b : BufId) (waits : List (Option BufId)) (out : QOut (CvOut BufferOut)) → length waits ≡ THREADS → t.0 < THREADS
     → slept_for waits t ≡ None

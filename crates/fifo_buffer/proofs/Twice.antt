@@ -29,28 +29,18 @@ use Rattle.fifo_buffer.proofs.SectionPollTaken.{SectionPollTaken}
 use Rattle.fifo_buffer.proofs.First.{goes_called, going_same}
 
 pub at_once_why : (stage : Stage) (handed : Bool) → is_at_once stage handed ≡ true → (waits_at stage ≡ true) ⊎ (handed ≡ true)
-at_once_why Idle handed is = absurd cc
 at_once_why Acquires handed is = inr is
-at_once_why Enters handed is = absurd cc
-at_once_why Tries handed is = absurd cc
 at_once_why Waits handed is = inl refl
 at_once_why AcquiresAgain handed is = inr is
-at_once_why Signals handed is = absurd cc
-at_once_why SignalsOwn handed is = absurd cc
-at_once_why Releases handed is = absurd cc
+at_once_why stage handed is = absurd cc
 
 -- the section before another one in the same poll changes neither the call nor its effect
 same_call : (call_state : CallState) (stage : Stage) (handed : Bool) (out : QOut (CvOut BufferOut)) → is_at_once stage handed ≡ true
     → ((recorded call_state stage out).call ≡ call_state.call) × ((recorded call_state stage out).effect ≡ call_state.effect)
-same_call call_state Idle handed out is = absurd cc
 same_call call_state Acquires handed out is = (refl, refl)
-same_call call_state Enters handed out is = absurd cc
-same_call call_state Tries handed out is = absurd cc
 same_call call_state Waits handed out is = (refl, refl)
 same_call call_state AcquiresAgain handed out is = (refl, refl)
-same_call call_state Signals handed out is = absurd cc
-same_call call_state SignalsOwn handed out is = absurd cc
-same_call call_state Releases handed out is = absurd cc
+same_call call_state stage handed out is = absurd cc
 
 -- the last section keeps the effect, of which the reply tells
 reply_kept : (stage : Stage) (call : Call) (call_state : CallState) (out : QOut (CvOut BufferOut))
@@ -206,26 +196,14 @@ marks_of O past t call call_state own (Some s) goes =
     none may x is some = let out : is_some x ≡ false = ap is_some is in absurd (cc (out, some))
 
 asks_once : (stage : Stage) (handed : Bool) → asks_at stage ≡ true → handed ≡ true → is_at_once stage handed ≡ true
-asks_once Idle handed asks is = absurd cc
 asks_once Acquires handed asks is = is
-asks_once Enters handed asks is = absurd cc
-asks_once Tries handed asks is = absurd cc
 asks_once Waits handed asks is = refl
 asks_once AcquiresAgain handed asks is = is
-asks_once Signals handed asks is = absurd cc
-asks_once SignalsOwn handed asks is = absurd cc
-asks_once Releases handed asks is = absurd cc
+asks_once stage handed asks is = absurd cc
 
 waits_once : (stage : Stage) (handed : Bool) → waits_at stage ≡ true → is_at_once stage handed ≡ true
-waits_once Idle handed waits = absurd cc
-waits_once Acquires handed waits = absurd cc
-waits_once Enters handed waits = absurd cc
-waits_once Tries handed waits = absurd cc
 waits_once Waits handed waits = refl
-waits_once AcquiresAgain handed waits = absurd cc
-waits_once Signals handed waits = absurd cc
-waits_once SignalsOwn handed waits = absurd cc
-waits_once Releases handed waits = absurd cc
+waits_once stage handed waits = absurd cc
 
 -- where one section poll was all, the thread neither slept for the lock nor waited
 pub exit_free : (poll_section : SectionPollTaken) (handed : Bool) → MarksOf poll_section.t poll_section.call_state.stage poll_section.own

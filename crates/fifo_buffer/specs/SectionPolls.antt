@@ -15,7 +15,7 @@ use Rattle.layer_traits.specs.declared.calls.Effect.{Effect}
 use Rattle.layer_traits.specs.declared.conditions.CvOut.{CvOut}
 use Rattle.layer_traits.specs.declared.conditions.CvOut.TheVariants as answer
 use Rattle.layer_traits.specs.declared.locked.QOut.{QOut}
-use Rattle.layer_traits.specs.declared.locked.QOut.TheVariants.{Acquired, Queued, Did, Released}
+use Rattle.layer_traits.specs.declared.locked.QOut.TheVariants.{Queued, Released}
 use Rattle.layer_traits.specs.declared.payloads.Parcel.{Parcel}
 use Rattle.layer_traits.specs.declared.queues.QueueEvent.{QueueEvent}
 use Rattle.layer_traits.specs.declared.scheds.SchedCall.{SchedCall}
@@ -23,7 +23,7 @@ use Rattle.layer_traits.specs.declared.scheds.SchedCall.TheVariants.{Pass, OnBuf
 use Rattle.layer_traits.specs.declared.sleeps.Outcome.{Outcome}
 use Rattle.layer_traits.specs.declared.call_states.Stage.{Stage}
 use Rattle.layer_traits.specs.declared.calls.Reply.{Reply}
-use Rattle.layer_traits.specs.declared.call_states.Stage.TheVariants.{Idle, Acquires, Enters, Tries, Waits, AcquiresAgain, Signals, SignalsOwn, Releases}
+use Rattle.layer_traits.specs.declared.call_states.Stage.TheVariants.{Acquires, Waits, AcquiresAgain}
 use Rattle.layer_traits.specs.declared.call_states.CallState.{CallState}
 use Rattle.layer_traits.specs.BufferEffects.{effects_in}
 use Rattle.layer_traits.specs.BufferLaw.{Calling, UnderWay, IsEffectOf, Passing, buffer_of, entry_of, recorded, replied, section_at, call_state_of}
@@ -50,16 +50,13 @@ outcome_of outcome parcel = outcome_told (lock_told (cv_told buffer_told)) outco
 
 -- an answer that is handed on at once: its caller neither sleeps for the lock nor waits
 abbrev pub is_plain_in : CvOut BufferOut → Bool
-is_plain_in (answer.Did out) = true
-is_plain_in (answer.Signalled side front) = true
-is_plain_in answer.Left = true
 is_plain_in (answer.Waited side) = false
+is_plain_in other = true
 
 abbrev pub is_plain : QOut (CvOut BufferOut) → Bool
-is_plain Acquired = true
 is_plain Queued = false
-is_plain (Did out) = true
 is_plain (Released out) = is_plain_in out
+is_plain other = true
 
 -- the call state after an answer, if there is one
 abbrev pub recorded_if : CallState → Stage → Option BufferOutcome → CallState
@@ -220,15 +217,10 @@ pub record SectionPolled (homes : List CpuId) (ActsFor : CpuId → Type 0) (O : 
 
 -- whether the next section follows in the same poll, where this stage's ends without an action
 abbrev pub is_at_once : Stage → Bool → Bool
-is_at_once Idle handed = false
 is_at_once Acquires handed = handed
-is_at_once Enters handed = false
-is_at_once Tries handed = false
 is_at_once Waits handed = true
 is_at_once AcquiresAgain handed = handed
-is_at_once Signals handed = false
-is_at_once SignalsOwn handed = false
-is_at_once Releases handed = false
+is_at_once stage handed = false
 
 -- whose call is under way after a poll
 abbrev pub calling_after : Tid → Option Tid → Option Reply → Option Tid

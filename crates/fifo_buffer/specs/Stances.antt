@@ -7,7 +7,7 @@ use Rattle.event_log.specs.declared.ids.LockId.TheVariants.{Buffer}
 use Rattle.event_log.specs.declared.ids.Tid.{Tid}
 use Rattle.event_log.specs.History.{same_lock}
 use Rattle.layer_traits.specs.declared.calls.Call.{Call}
-use Rattle.layer_traits.specs.declared.calls.Call.TheVariants.{Send, Recv, Close}
+use Rattle.layer_traits.specs.declared.calls.Call.TheVariants.{Close}
 use Rattle.layer_traits.specs.declared.calls.Effect.{Effect}
 use Rattle.layer_traits.specs.declared.buffer_edits.BufferOut.{BufferOut}
 use Rattle.layer_traits.specs.declared.conditions.CvOut.{CvOut}
@@ -17,7 +17,7 @@ use Rattle.layer_traits.specs.declared.locked.QOut.TheVariants.{Acquired, Queued
 use Rattle.layer_traits.specs.declared.locked.Side.{Side}
 use Rattle.layer_traits.specs.declared.locked.Side.TheVariants.{Receivers, Senders}
 use Rattle.layer_traits.specs.declared.call_states.Stage.{Stage}
-use Rattle.layer_traits.specs.declared.call_states.Stage.TheVariants.{Idle, Acquires, Enters, Tries, Waits, AcquiresAgain, Signals, SignalsOwn, Releases}
+use Rattle.layer_traits.specs.declared.call_states.Stage.TheVariants.{Idle, Acquires, Tries, Waits, AcquiresAgain, Signals, SignalsOwn, Releases}
 use Rattle.layer_traits.specs.declared.call_states.CallState.{CallState}
 use Rattle.layer_traits.specs.BufferBlocks.{line_of}
 use Rattle.layer_traits.specs.BufferEffects.{drawn}
@@ -35,9 +35,8 @@ same_side Senders Senders = true
 
 -- a call enters a line: a close does not
 abbrev pub IsLined : Call → Type 0
-IsLined (Send b m) = Unit {0}
-IsLined (Recv b) = Unit {0}
 IsLined (Close b) = ⊥
+IsLined call = Unit {0}
 
 -- a thread owns a lock, and does not sleep for it
 abbrev pub Holds : Tid → Option BufferLock → Type 0
@@ -59,70 +58,37 @@ Grip t false false lock = IsFreeOf t lock
 abbrev pub holds_at : Stage → Bool → Bool
 holds_at Idle waits = false
 holds_at Acquires waits = false
-holds_at Enters waits = true
-holds_at Tries waits = true
 holds_at Waits waits = not waits
 holds_at AcquiresAgain waits = false
-holds_at Signals waits = true
-holds_at SignalsOwn waits = true
-holds_at Releases waits = true
+holds_at stage waits = true
 
 abbrev pub lined_at : Stage → Bool
-lined_at Idle = false
-lined_at Acquires = false
-lined_at Enters = false
 lined_at Tries = true
 lined_at Waits = true
 lined_at AcquiresAgain = true
-lined_at Signals = false
-lined_at SignalsOwn = false
-lined_at Releases = false
+lined_at stage = false
 
 -- whether a thread may sleep for its lock there, whether it may wait, and whether its effect is done
 abbrev pub asks_at : Stage → Bool
-asks_at Idle = false
 asks_at Acquires = true
-asks_at Enters = false
-asks_at Tries = false
-asks_at Waits = false
 asks_at AcquiresAgain = true
-asks_at Signals = false
-asks_at SignalsOwn = false
-asks_at Releases = false
+asks_at stage = false
 
 abbrev pub waits_at : Stage → Bool
-waits_at Idle = false
-waits_at Acquires = false
-waits_at Enters = false
-waits_at Tries = false
 waits_at Waits = true
-waits_at AcquiresAgain = false
-waits_at Signals = false
-waits_at SignalsOwn = false
-waits_at Releases = false
+waits_at stage = false
 
 abbrev pub done_at : Stage → Bool
 done_at Idle = true
-done_at Acquires = false
-done_at Enters = false
-done_at Tries = false
-done_at Waits = false
-done_at AcquiresAgain = false
 done_at Signals = true
 done_at SignalsOwn = true
 done_at Releases = true
+done_at stage = false
 
 -- whether a stage is one of a call
 abbrev pub called_at : Stage → Bool
 called_at Idle = false
-called_at Acquires = true
-called_at Enters = true
-called_at Tries = true
-called_at Waits = true
-called_at AcquiresAgain = true
-called_at Signals = true
-called_at SignalsOwn = true
-called_at Releases = true
+called_at stage = true
 
 -- the line of a side at a lock
 abbrev pub line_at : Side → Option BufferLock → List Tid
@@ -173,22 +139,16 @@ call_state_in stage call position effect = record { stage = stage; call = Some c
 
 -- what a section's answer leaves of the marks of its caller: whether it sleeps for the lock, and whether it waits
 abbrev pub slept_by : BufId → QOut (CvOut BufferOut) → Option BufId
-slept_by b Acquired = None
 slept_by b Queued = Some b
-slept_by b (Did out) = None
-slept_by b (Released out) = None
+slept_by b other = None
 
 abbrev pub waits_reported : BufId → CvOut BufferOut → Option BufId
-waits_reported b (answer.Did out) = None
-waits_reported b (answer.Signalled side front) = None
-waits_reported b answer.Left = None
 waits_reported b (answer.Waited side) = Some b
+waits_reported b other = None
 
 abbrev pub waits_by : BufId → QOut (CvOut BufferOut) → Option BufId
-waits_by b Acquired = None
-waits_by b Queued = None
-waits_by b (Did out) = None
 waits_by b (Released out) = waits_reported b out
+waits_by b other = None
 
 -- and of its call state: whoever sleeps or waits has not heard yet
 abbrev pub recorded_in : CallState → Stage → CvOut BufferOut → CallState

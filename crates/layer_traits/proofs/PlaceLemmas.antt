@@ -22,10 +22,8 @@ use Rattle.layer_traits.proofs.CountLemmas.{is_thread_self, count_append, count_
 -- What a move may do to a place.
 
 asleep_at : (w : Where) → is_asleep w ≡ true → (p : WaitChannel) × (w ≡ Asleep p)
-asleep_at Home asleep = absurd cc
-asleep_at (Hand c) asleep = absurd cc
-asleep_at (Pend c) asleep = absurd cc
 asleep_at (Asleep p) asleep = (p, refl)
+asleep_at w asleep = absurd cc
 
 -- after all of a queue was taken nobody stands there
 taken_all : (d e : CpuId) (w : Where) → same_cpu e d ≡ true → is_pend d (where_taken e w) ≡ false
@@ -50,22 +48,16 @@ taken_elsewhere d e (Pend q) at = go (same_cpu e q) refl
 taken_elsewhere d e (Asleep p) at = refl
 
 is_pend_true : (d : CpuId) (w : Where) → is_pend d w ≡ true → w ≡ Pend d
-is_pend_true d Home is = absurd cc
-is_pend_true d (Hand c) is = absurd cc
 is_pend_true d (Pend q) is = ap Pend (same_cpu_true q d is)
-is_pend_true d (Asleep p) is = absurd cc
+is_pend_true d w is = absurd cc
 
 pub is_hand_true : (d : CpuId) (w : Where) → is_hand d w ≡ true → w ≡ Hand d
-is_hand_true d Home is = absurd cc
 is_hand_true d (Hand c) is = ap Hand (same_cpu_true c d is)
-is_hand_true d (Pend q) is = absurd cc
-is_hand_true d (Asleep p) is = absurd cc
+is_hand_true d w is = absurd cc
 
 pub is_home_true : (w : Where) → is_home w ≡ true → w ≡ Home
 is_home_true Home is = refl
-is_home_true (Hand c) is = absurd cc
-is_home_true (Pend q) is = absurd cc
-is_home_true (Asleep p) is = absurd cc
+is_home_true w is = absurd cc
 
 module _ (homes : List CpuId) where
   -- an edit leaves a thread where it is, wakes it or puts its caller to sleep

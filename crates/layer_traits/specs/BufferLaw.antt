@@ -84,18 +84,12 @@ IsEffectOf (Close b) f = group_of f.kind ≡ Closes
 
 -- the reply of a send, and of a receive of this message, after an effect of this kind
 abbrev pub reply_to_send : Kind → Reply
-reply_to_send kind.Send = reply.Sent
-reply_to_send kind.Recv = reply.Sent
-reply_to_send kind.Close = reply.Sent
 reply_to_send kind.SendClosed = reply.Closed
-reply_to_send kind.RecvClosed = reply.Sent
+reply_to_send other = reply.Sent
 
 abbrev pub reply_to_recv : Kind → Message → Reply
-reply_to_recv kind.Send value = reply.Got value
-reply_to_recv kind.Recv value = reply.Got value
-reply_to_recv kind.Close value = reply.Got value
-reply_to_recv kind.SendClosed value = reply.Got value
 reply_to_recv kind.RecvClosed value = reply.Closed
+reply_to_recv other value = reply.Got value
 
 -- the reply of a call after an effect of this kind with this message
 abbrev pub reply_by : Call → Kind → Message → Reply
@@ -138,14 +132,7 @@ begun call = record { stage = Acquires; call = Some call; position = 0; effect =
 -- what its thread's call state is to a poll of a call: between calls a new one begins
 abbrev pub going_at : Stage → CallState → Call → CallState
 going_at Idle call_state call = begun call
-going_at Acquires call_state call = call_state
-going_at Enters call_state call = call_state
-going_at Tries call_state call = call_state
-going_at Waits call_state call = call_state
-going_at AcquiresAgain call_state call = call_state
-going_at Signals call_state call = call_state
-going_at SignalsOwn call_state call = call_state
-going_at Releases call_state call = call_state
+going_at stage call_state call = call_state
 
 abbrev pub going : CallState → Call → CallState
 going call_state call = going_at call_state.stage call_state call
@@ -157,14 +144,7 @@ MayPollCall call_state call = (going call_state call).call ≡ Some call
 -- the call that a thread has begun, if it is in one
 abbrev pub begun_at : Stage → Option Call → Option Call
 begun_at Idle call = None
-begun_at Acquires call = call
-begun_at Enters call = call
-begun_at Tries call = call
-begun_at Waits call = call
-begun_at AcquiresAgain call = call
-begun_at Signals call = call
-begun_at SignalsOwn call = call
-begun_at Releases call = call
+begun_at stage call = call
 
 abbrev pub begun_of : CallState → Option Call
 begun_of call_state = begun_at call_state.stage call_state.call
@@ -279,15 +259,11 @@ section_at t call Releases = Release (Leave t)
 -- what an edit of the buffer answered, in a lock's answer
 abbrev pub report_in : CvOut BufferOut → BufferOut
 report_in (answer.Did out) = out
-report_in (answer.Signalled side front) = NotYet
-report_in answer.Left = NotYet
-report_in (answer.Waited side) = NotYet
+report_in other = NotYet
 
 abbrev pub reported_by : QOut (CvOut BufferOut) → BufferOut
-reported_by out.Acquired = NotYet
-reported_by out.Queued = NotYet
 reported_by (out.Did cv) = report_in cv
-reported_by (out.Released cv) = NotYet
+reported_by other = NotYet
 
 -- the thread has entered its line: it keeps its position, and tries next; or it has closed the buffer, and signals
 abbrev pub enlisted : CallState → BufferOut → CallState
@@ -331,15 +307,8 @@ recorded call_state Releases out = record { stage = Idle; call = None; position 
 
 -- the reply of a call at a stage: the last section's answer is the effect's
 abbrev pub replied : Call → CallState → Stage → Option Reply
-replied call call_state Idle = None
-replied call call_state Acquires = None
-replied call call_state Enters = None
-replied call call_state Tries = None
-replied call call_state Waits = None
-replied call call_state AcquiresAgain = None
-replied call call_state Signals = None
-replied call call_state SignalsOwn = None
 replied call call_state Releases = option_map (reply_of call) call_state.effect
+replied call call_state stage = None
 
 -- what a poll leaves, from what the poll of its section left
 abbrev pub left_recorded_with : Tid → Call → CallState → List CallState → Stage → Waiting BufferOut → Option (Outcome (QOut (CvOut BufferOut)))

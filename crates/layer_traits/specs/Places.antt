@@ -86,10 +86,8 @@ where_is homes (s ∷ past) t = where_after homes s.cpu s.move t (where_is homes
 
 -- the line in which a thread sleeps, if it does
 abbrev pub wait_channel_of : Where → Option WaitChannel
-wait_channel_of Home = None
-wait_channel_of (Hand c) = None
-wait_channel_of (Pend c) = None
 wait_channel_of (Asleep p) = Some p
+wait_channel_of w = None
 
 -- whether there is a wait channel
 abbrev pub is_wait_channel : Option WaitChannel → Bool
@@ -103,23 +101,17 @@ is_asleep w = is_wait_channel (wait_channel_of w)
 -- whether it is at home
 abbrev pub is_home : Where → Bool
 is_home Home = true
-is_home (Hand c) = false
-is_home (Pend c) = false
-is_home (Asleep p) = false
+is_home w = false
 
 -- whether it is in the hand of this CPU
 abbrev pub is_hand : CpuId → Where → Bool
-is_hand c Home = false
 is_hand c (Hand d) = same_cpu d c
-is_hand c (Pend d) = false
-is_hand c (Asleep p) = false
+is_hand c w = false
 
 -- whether it is in the pending queue of this CPU
 abbrev pub is_pend : CpuId → Where → Bool
-is_pend c Home = false
-is_pend c (Hand d) = false
 is_pend c (Pend d) = same_cpu d c
-is_pend c (Asleep p) = false
+is_pend c w = false
 
 -- the pending queue of a CPU after a move
 abbrev pub pending_after : Move → CpuId → List Tid → List Tid

@@ -35,8 +35,7 @@ use Rattle.layer_traits.specs.declared.call_states.CallState.{CallState}
 use Rattle.layer_traits.specs.BufferBlocks.{BufferState, buffer_answer, thread_of_edit, is_next}
 use Rattle.layer_traits.specs.BufferProtocol.{buffer_rules}
 use Rattle.layer_traits.specs.BufferLaw.{BufferPlan, Buffering, buffer_of, entry_of, first_of, going, left_recorded, other_side, no_call, reply_by, reply_of}
-use Rattle.layer_traits.specs.BufferLaw.{side_of as tower_side}
-use Rattle.layer_traits.specs.BufferLaw.{call_state_of, try_of}
+use Rattle.layer_traits.specs.BufferLaw.{side_of as tower_side, call_state_of, try_of}
 use Rattle.layer_traits.specs.Conditions.{CvCall}
 use Rattle.layer_traits.specs.CvLaw.{Waiting, cv_plan, cv_plan_for, left_waiting}
 use Rattle.layer_traits.specs.LockLaw.{Locking, left_after, plan_for, slept_for}
@@ -51,11 +50,9 @@ use Rattle.layer_traits.specs.declared.call_states.Stage.{Stage}
 use Rattle.layer_traits.specs.declared.call_states.Stage.TheVariants.{Idle, Enters, Tries, Waits, Signals, SignalsOwn}
 use Rattle.cpu.specs.Table.Setups.{Call, Thread, Private, home_of, program_of, thread_at}
 use Rattle.cpu.specs.Table.Choice.{after_section, at_buffer, first_section, guest_after, recorded, recorded_entry, recorded_position, recorded_try, returned_at}
-use Rattle.cpu.specs.Table.Choice.{section_at}
-use Rattle.cpu.specs.Table.Choice.{settled, slept_if, with_call as call_put, woken}
+use Rattle.cpu.specs.Table.Choice.{section_at, settled, slept_if, with_call as call_put, woken}
 use Rattle.cpu.specs.Tower.Views.{TowerAnswer, TowerBlock, TowerName, TowerOut, answer_view, name_of, report_of, tower}
-use Rattle.cpu.specs.Tower.Privates.{asks_in, call_from, closed_by, guest_at, guests_after, message_of, private_after, private_of}
-use Rattle.cpu.specs.Tower.Privates.{thread_from, trace_after}
+use Rattle.cpu.specs.Tower.Privates.{asks_in, call_from, closed_by, guest_at, guests_after, message_of, private_after, private_of, thread_from, trace_after}
 use Rattle.cpu.specs.Tower.Composed.{HandIsKnown, IsKind, IsLine, IsLined}
 use Rattle.cpu.proofs.Tower.Callers.{Site}
 use Rattle.cpu.proofs.Tower.Numbered.{goes, gone, numbered_long, own_at, part_at, parts, threads_at}

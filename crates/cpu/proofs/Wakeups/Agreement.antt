@@ -19,13 +19,11 @@ use Rattle.layer_traits.proofs.PlaceLemmas.{is_home_true}
 use Rattle.cpu.specs.Table.Blocks.{side_of}
 use Rattle.layer_traits.specs.declared.call_states.Stage.{Stage}
 use Rattle.layer_traits.specs.declared.call_states.Stage.TheVariants.{Idle, Acquires, Enters, Tries, Waits, AcquiresAgain, Signals, SignalsOwn, Releases}
-use Rattle.cpu.specs.Table.Setups.{Setup}
-use Rattle.cpu.specs.Table.Setups.{Call, Thread, Private, new_thread, thread_at, with_thread, home_of}
+use Rattle.cpu.specs.Table.Setups.{Setup, Call, Thread, Private, new_thread, thread_at, with_thread, home_of}
 use Rattle.cpu.specs.Table.Choice.{slept_if, woken}
 use Rattle.cpu.specs.Wakeups.Order.{Progress, Begins, HasEntered, WasRefused, Owes}
 use Rattle.cpu.proofs.Wakeups.Lists.{refuted}
-use Rattle.cpu.proofs.Wakeups.Posts.{Waiting, Visit, Outside, In}
-use Rattle.cpu.proofs.Wakeups.Posts.{post_by, post_woken, is_local}
+use Rattle.cpu.proofs.Wakeups.Posts.{Waiting, Visit, Outside, In, post_by, post_woken, is_local}
 
 -- once the other side is signalled, the own side is owed its signal
 abbrev pub owing_own : Side → Progress

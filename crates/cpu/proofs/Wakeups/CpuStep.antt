@@ -22,11 +22,9 @@ use Rattle.cpu.specs.Table.Blocks.{Block, OfBuffer, OfPending, Name, Pend, TakeA
 use Rattle.cpu.specs.Table.Edits.{edited, answer, answer_of_buffer}
 use Rattle.layer_traits.specs.declared.call_states.Stage.{Stage}
 use Rattle.layer_traits.specs.declared.call_states.Stage.TheVariants.{Idle, Acquires, Enters, Tries, Waits, AcquiresAgain, Signals, SignalsOwn, Releases}
-use Rattle.cpu.specs.Table.Setups.{Setup}
-use Rattle.cpu.specs.Table.Setups.{Call, Private, thread_at, home_of, stands_at, opening_buffer}
+use Rattle.cpu.specs.Table.Setups.{Setup, Call, Private, thread_at, home_of, stands_at, opening_buffer}
 use Rattle.cpu.specs.Table.Choice.{Ask, at_pending, at_buffer, section_at, first_section, try_of, first_signal}
-use Rattle.cpu.specs.Table.Choice.{second_signal, asked_by, asked_at, asked_in, asked, with_guest, settled}
-use Rattle.cpu.specs.Table.Choice.{after_call, after_by, after_at, after_in}
+use Rattle.cpu.specs.Table.Choice.{second_signal, asked_by, asked_at, asked_in, asked, with_guest, settled, after_call, after_by, after_at, after_in}
 use Rattle.cpu.specs.Table.Steps.{after_reply}
 use Rattle.cpu.specs.Wakeups.Order.{block_of, Begins, HasEntered, Owes}
 use Rattle.cpu.proofs.Wakeups.Lists.{refuted}

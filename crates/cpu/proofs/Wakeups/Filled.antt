@@ -16,8 +16,7 @@ use Rattle.cpu.specs.Table.Blocks.{Name, Reported, Nothing, Position, Done, WasC
 use Rattle.cpu.specs.Table.Edits.{kernel}
 use Rattle.layer_traits.specs.declared.call_states.Stage.{Stage}
 use Rattle.layer_traits.specs.declared.call_states.Stage.TheVariants.{Idle, Acquires, Enters, Tries, Waits, AcquiresAgain, Signals, SignalsOwn, Releases}
-use Rattle.cpu.specs.Table.Setups.{Setup}
-use Rattle.cpu.specs.Table.Setups.{Call, Private, thread_at, home_of, at_boot, opening, stands_at, home_threads, open_calls, have_ended}
+use Rattle.cpu.specs.Table.Setups.{Setup, Call, Private, thread_at, home_of, at_boot, opening, stands_at, home_threads, open_calls, have_ended}
 use Rattle.cpu.specs.Table.Choice.{asked, Choice, Halts, Alone, Goes, with_call, at_instruction, at_call, at_ready, at_current, at_hand, choice}
 use Rattle.cpu.specs.Table.Choice.{recorded, recorded_entry, recorded_position, recorded_shut, slept_if, woken, returned_at, returned_by}
 use Rattle.cpu.specs.Table.Choice.{returned_in, settled, after_by, after_at, after_in, after_section}

@@ -30,8 +30,7 @@ use Rattle.cpu.specs.Table.Edits.{acquired, line_of, entered, put, taken, shut, 
 use Rattle.cpu.specs.Table.Setups.{Setup, home_of}
 use Rattle.cpu.specs.Wakeups.Order.{Progress, Begins, HasEntered, WasRefused, Owes, progress_after, receivers_signalled, senders_signalled, MayEdit}
 use Rattle.cpu.proofs.Wakeups.Lists.{refuted, none_is_not, first_is}
-use Rattle.cpu.proofs.Wakeups.Posts.{Waiting, Visit, Outside, In}
-use Rattle.cpu.proofs.Wakeups.Posts.{is_buffer, sleeps_in, sleeps_at, is_inside, is_starting, is_lined, InStep}
+use Rattle.cpu.proofs.Wakeups.Posts.{Waiting, Visit, Outside, In, is_buffer, sleeps_in, sleeps_at, is_inside, is_starting, is_lined, InStep}
 use Rattle.cpu.proofs.Wakeups.Posts.{is_caller, waiters_of, post_by, post_woken, post_moved, next_visit, visit_moved, marked}
 
 pub record Pair (b : BufId) (u : Tid) (k : Buffer) (g : Progress) (visit : Visit) (post : Where) : Type 0 where

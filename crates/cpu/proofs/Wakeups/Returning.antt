@@ -13,12 +13,10 @@ use Rattle.event_log.specs.Sections.{Section}
 use Rattle.thread_blocks.specs.Queues.{first}
 use Rattle.layer_traits.specs.declared.locked.Side.TheVariants.{Receivers, Senders}
 use Rattle.layer_traits.specs.BufferBlocks.{may_join}
-use Rattle.cpu.specs.Table.Blocks.{Buffer, OfBuffer, Name, RelQ, Pend, side_of}
-use Rattle.cpu.specs.Table.Blocks.{Reported, Nothing, Position, Answer}
+use Rattle.cpu.specs.Table.Blocks.{Buffer, OfBuffer, Name, RelQ, Pend, side_of, Reported, Nothing, Position, Answer}
 use Rattle.cpu.specs.Table.Edits.{edited_buffer, acquired, entered, reports, wakes, answer, answer_of_acquire, answer_of_buffer}
 use Rattle.layer_traits.specs.declared.call_states.Stage.TheVariants.{Idle, Acquires, Enters, Tries, Signals, SignalsOwn, Releases}
-use Rattle.cpu.specs.Table.Setups.{Setup}
-use Rattle.cpu.specs.Table.Setups.{Call, Private, thread_at, home_of, home_threads, have_ended, stands_at}
+use Rattle.cpu.specs.Table.Setups.{Setup, Call, Private, thread_at, home_of, home_threads, have_ended, stands_at}
 use Rattle.cpu.specs.Table.Choice.{section_at, first_signal, second_signal, asked, Goes, choice, with_call, entry_of, effected, recorded}
 use Rattle.cpu.specs.Table.Choice.{woken, guest_after, returned, returned_at, settled, after_section}
 use Rattle.cpu.specs.Table.Steps.{Whole, steps_by}

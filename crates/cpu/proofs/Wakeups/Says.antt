@@ -20,14 +20,12 @@ use Rattle.cpu.specs.Table.Blocks.{Name, Reported, Nothing, Position, Done, WasC
 use Rattle.cpu.specs.Table.Edits.{kernel}
 use Rattle.layer_traits.specs.declared.call_states.Stage.{Stage}
 use Rattle.layer_traits.specs.declared.call_states.Stage.TheVariants.{Idle, Acquires, Enters, Tries, Waits, AcquiresAgain, Signals, SignalsOwn, Releases}
-use Rattle.cpu.specs.Table.Setups.{Setup}
-use Rattle.cpu.specs.Table.Setups.{Call, Thread, Private, new_thread, thread_at, with_thread, program_of}
+use Rattle.cpu.specs.Table.Setups.{Setup, Call, Thread, Private, new_thread, thread_at, with_thread, program_of}
 use Rattle.cpu.specs.Table.Setups.{stands_at, at_boot, home_of, home_threads, open_calls, have_ended, opening}
 use Rattle.cpu.specs.Table.Choice.{asked, Choice, Halts, Alone, Goes, new_call, with_call, with_guest}
 use Rattle.cpu.specs.Table.Choice.{begins, at_instruction, at_call, at_ready, at_current, at_hand, choice}
 use Rattle.cpu.specs.Table.Choice.{recorded, recorded_entry, recorded_position, recorded_shut, slept_if}
-use Rattle.cpu.specs.Table.Choice.{woken, guest_after, returned_at, returned_by, returned_in, settled}
-use Rattle.cpu.specs.Table.Choice.{after_by, after_at, after_in, after_section}
+use Rattle.cpu.specs.Table.Choice.{woken, guest_after, returned_at, returned_by, returned_in, settled, after_by, after_at, after_in, after_section}
 use Rattle.cpu.specs.Table.Steps.{after_reply, acting}
 use Rattle.cpu.specs.Wakeups.Quiet.{IsNextEffect}
 use Rattle.cpu.proofs.Wakeups.Lists.{refuted}

@@ -19,15 +19,13 @@ use Rattle.cpu.specs.Table.Blocks.{Buffer, Name, TryPut, TryTake, Pend, TakeAll,
 use Rattle.cpu.specs.Table.Edits.{may_put, may_take, report_of_put, report_of_take, answer_of_buffer, drawn_position}
 use Rattle.layer_traits.specs.declared.call_states.Stage.{Stage}
 use Rattle.layer_traits.specs.declared.call_states.Stage.TheVariants.{Idle, Acquires, Enters, Tries, Waits, AcquiresAgain, Signals, SignalsOwn, Releases}
-use Rattle.cpu.specs.Table.Setups.{Setup}
-use Rattle.cpu.specs.Table.Setups.{Call, Thread, Private, thread_at, with_thread, home_of, stands_at}
+use Rattle.cpu.specs.Table.Setups.{Setup, Call, Thread, Private, thread_at, with_thread, home_of, stands_at}
 use Rattle.cpu.specs.Table.Choice.{section_at, first_section, try_of, first_signal, second_signal, with_call}
 use Rattle.cpu.specs.Table.Choice.{with_guest, goes_to, recorded, recorded_entry, recorded_try, entry_of}
 use Rattle.cpu.specs.Table.Choice.{slept_if, woken, returned_at, returned_by, returned_in, settled, guest_after, after_call}
 use Rattle.cpu.specs.Wakeups.Order.{Begins, HasEntered, WasRefused, Owes}
 use Rattle.cpu.proofs.Wakeups.Lists.{refuted}
-use Rattle.cpu.proofs.Wakeups.Posts.{Visit, Outside, In}
-use Rattle.cpu.proofs.Wakeups.Posts.{is_pending, caller_in, is_caller, waiters_of, post_slept}
+use Rattle.cpu.proofs.Wakeups.Posts.{Visit, Outside, In, is_pending, caller_in, is_caller, waiters_of, post_slept}
 use Rattle.cpu.proofs.Wakeups.Posts.{post_moved, post_drained, post_pending, next_visit, visit_moved, is_local}
 use Rattle.cpu.proofs.Wakeups.Agreement.{owing_own, visit_of_stage, visit_of_call, is_last, is_done, seat, Agrees, IsSettled, at_same}
 use Rattle.cpu.proofs.Wakeups.Agreement.{at_other, Same, same_with, agrees_same, runs, within, agrees_slept, agrees_woken}

@@ -20,8 +20,7 @@ use Rattle.cpu.specs.Table.Blocks.{Name, AcqQ, Enter, TryPut, TryTake, Shut, Wai
 use Rattle.cpu.specs.Table.Blocks.{Reported, Position, Done, WasClosed, DidShut, NotYet, Drained, Answer}
 use Rattle.layer_traits.specs.declared.call_states.Stage.{Stage}
 use Rattle.layer_traits.specs.declared.call_states.Stage.TheVariants.{Idle, Acquires, Enters, Tries, Waits, AcquiresAgain, Signals, SignalsOwn, Releases}
-use Rattle.cpu.specs.Table.Setups.{Setup, Call, Private}
-use Rattle.cpu.specs.Table.Setups.{thread_at, with_thread, home_of, stands_at, home_threads, open_calls, have_ended}
+use Rattle.cpu.specs.Table.Setups.{Setup, Call, Private, thread_at, with_thread, home_of, stands_at, home_threads, open_calls, have_ended}
 
 -- The section that is asked.
 

@@ -1,8 +1,7 @@
 use Rattle.std.proofs.Common.{◌<◌, ◌++◌, length, Option, refl, ap, sym, ◌∙◌, subst, arith, vec_capacity}
 use Rattle.event_log.specs.declared.ids.CpuId.{CpuId}
 use Rattle.layer_traits.specs.declared.calls.Effect.{Effect}
-use Rattle.layer_traits.specs.BufferLaw.{answer_in, buffer_of, call_state_of}
-use Rattle.layer_traits.specs.BufferLaw.{answer_with}
+use Rattle.layer_traits.specs.BufferLaw.{answer_in, buffer_of, call_state_of, answer_with}
 use Rattle.cpu.specs.Guests.{entries_of, polled}
 use Rattle.cpu.specs.Cpus.{ActsGrow, programs_of, fresh_at, guest_at, stands_at, with_guest}
 use Rattle.cpu.proofs.GuestLists.{programs_with}
