@@ -81,7 +81,7 @@ impl Tally {
     ///
     /// Errors: `Op` if the op is not the number of entries so far. `Pos` if the pos is not the
     /// number of those that are counted with its kind. Else the first reason against the effect.
-    /// Then nothing changed.
+    /// Nothing is judged behind an error, so the buffer need not be as before.
     #[tactic(auto, unfolding(crate::specs::Judging::entry_on))]
     pub fn enter(&mut self, entry: &Entry) -> Result<(), Reason>
         requires { (entry.now.op < ENTRIES) × (entry.now.pos < ENTRIES) }
