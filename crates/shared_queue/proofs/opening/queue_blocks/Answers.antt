@@ -6,9 +6,9 @@ use Rattle.shared_queue.proofs.OpeningLemmas.{all_there, blocks_there, homes_rea
 use Rattle.shared_queue.specs.Opening.{AreQueues, buffers_from}
 use Rattle.shared_queue.proofs.opening.queue_blocks.Goals as goal
 
--- no lock stands twice
-pub returns-clause-distinct : goal.returns-clause-distinct
-returns-clause-distinct g c =
+-- no lock stands twice, each opens as it must, the pending queues tell the homes, and each CPU has its queue and each buffer its block
+pub returns : goal.returns
+returns g c =
     let locks = c.in_ok-locks.locks in
     let blocks = c.args.blocks.items in
     let homes = c.args.homes.now in
@@ -18,61 +18,11 @@ returns-clause-distinct g c =
     = all_there homes c.loop-i.i c.loop-i.locks.items (locks.items ++ buffers_from 0 blocks) c.loop-i.blocks.items none c.loop-i.invariant.0 in
     let count : length locks.items ≡ c.args.cpus = omega (arith, c.in_ok-locks.ensures.count, locks.ok.0) in
     let queues : AreQueues (length locks.items) homes (length blocks) = subst (λ n. AreQueues n homes (length blocks)) (sym count) c.requires in
-    subst (λ ls. AreDistinct ls) (sym all) (locks_distinct homes 0 locks.items 0 blocks are)
-
--- each lock opens as it must
-pub returns-clause-starts : goal.returns-clause-starts
-returns-clause-starts g c =
-    let locks = c.in_ok-locks.locks in
-    let blocks = c.args.blocks.items in
-    let homes = c.args.homes.now in
-    let are = c.in_ok-locks.ensures.queues in
-    let none : length c.loop-i.blocks.items ≡ 0 = omega (arith, c.loop-i.invariant.2, c.loop-i-test.false) in
-    let all : c.loop-i.locks.items ≡ locks.items ++ buffers_from 0 blocks
-    = all_there homes c.loop-i.i c.loop-i.locks.items (locks.items ++ buffers_from 0 blocks) c.loop-i.blocks.items none c.loop-i.invariant.0 in
-    let count : length locks.items ≡ c.args.cpus = omega (arith, c.in_ok-locks.ensures.count, locks.ok.0) in
-    let queues : AreQueues (length locks.items) homes (length blocks) = subst (λ n. AreQueues n homes (length blocks)) (sym count) c.requires in
-    subst (λ ls. StartsWell (opened ls)) (sym all) (starts_well homes locks.items blocks are queues)
-
--- the pending queues tell the homes
-pub returns-clause-homes : goal.returns-clause-homes
-returns-clause-homes g c =
-    let locks = c.in_ok-locks.locks in
-    let blocks = c.args.blocks.items in
-    let homes = c.args.homes.now in
-    let are = c.in_ok-locks.ensures.queues in
-    let none : length c.loop-i.blocks.items ≡ 0 = omega (arith, c.loop-i.invariant.2, c.loop-i-test.false) in
-    let all : c.loop-i.locks.items ≡ locks.items ++ buffers_from 0 blocks
-    = all_there homes c.loop-i.i c.loop-i.locks.items (locks.items ++ buffers_from 0 blocks) c.loop-i.blocks.items none c.loop-i.invariant.0 in
-    let count : length locks.items ≡ c.args.cpus = omega (arith, c.in_ok-locks.ensures.count, locks.ok.0) in
-    let queues : AreQueues (length locks.items) homes (length blocks) = subst (λ n. AreQueues n homes (length blocks)) (sym count) c.requires in
-    subst (λ ls. homes_in (opened ls) ≡ homes) (sym all) (homes_read homes locks.items blocks are queues)
-
--- each CPU has its queue
-pub returns-clause-queues : goal.returns-clause-queues
-returns-clause-queues g c =
-    let locks = c.in_ok-locks.locks in
-    let blocks = c.args.blocks.items in
-    let homes = c.args.homes.now in
-    let are = c.in_ok-locks.ensures.queues in
-    let none : length c.loop-i.blocks.items ≡ 0 = omega (arith, c.loop-i.invariant.2, c.loop-i-test.false) in
-    let all : c.loop-i.locks.items ≡ locks.items ++ buffers_from 0 blocks
-    = all_there homes c.loop-i.i c.loop-i.locks.items (locks.items ++ buffers_from 0 blocks) c.loop-i.blocks.items none c.loop-i.invariant.0 in
-    let count : length locks.items ≡ c.args.cpus = omega (arith, c.in_ok-locks.ensures.count, locks.ok.0) in
-    let queues : AreQueues (length locks.items) homes (length blocks) = subst (λ n. AreQueues n homes (length blocks)) (sym count) c.requires in
-    λ cpu less. subst (λ ls. IsSome (opened ls (Pending cpu))) (sym all)
-    (queues_there homes locks.items blocks are queues cpu (subst (λ n. cpu.0 < n) (sym count) less))
-
--- and each buffer its block
-pub returns-clause-blocks : goal.returns-clause-blocks
-returns-clause-blocks g c =
-    let locks = c.in_ok-locks.locks in
-    let blocks = c.args.blocks.items in
-    let homes = c.args.homes.now in
-    let are = c.in_ok-locks.ensures.queues in
-    let none : length c.loop-i.blocks.items ≡ 0 = omega (arith, c.loop-i.invariant.2, c.loop-i-test.false) in
-    let all : c.loop-i.locks.items ≡ locks.items ++ buffers_from 0 blocks
-    = all_there homes c.loop-i.i c.loop-i.locks.items (locks.items ++ buffers_from 0 blocks) c.loop-i.blocks.items none c.loop-i.invariant.0 in
-    let count : length locks.items ≡ c.args.cpus = omega (arith, c.in_ok-locks.ensures.count, locks.ok.0) in
-    let queues : AreQueues (length locks.items) homes (length blocks) = subst (λ n. AreQueues n homes (length blocks)) (sym count) c.requires in
-    λ b. subst (λ ls. inner (opened ls) (Buffer b) ≡ slice_get blocks b.0) (sym all) (blocks_there homes locks.items blocks are queues b)
+    record {
+      distinct = subst (λ ls. AreDistinct ls) (sym all) (locks_distinct homes 0 locks.items 0 blocks are);
+      starts = subst (λ ls. StartsWell (opened ls)) (sym all) (starts_well homes locks.items blocks are queues);
+      homes = subst (λ ls. homes_in (opened ls) ≡ homes) (sym all) (homes_read homes locks.items blocks are queues);
+      queues = λ cpu less. subst (λ ls. IsSome (opened ls (Pending cpu))) (sym all)
+          (queues_there homes locks.items blocks are queues cpu (subst (λ n. cpu.0 < n) (sym count) less));
+      blocks = λ b. subst (λ ls. inner (opened ls) (Buffer b) ≡ slice_get blocks b.0) (sym all) (blocks_there homes locks.items blocks are queues b);
+    }
