@@ -14,18 +14,3 @@ pub may_begin : (call_states : List CallState) (t : Tid) (call : Call) → call_
     → MayPollCall (call_state_of call_states t) call
 may_begin call_states t call is = subst (λ call_state. MayPollCall call_state call) (sym (ap (λ l. call_state_of l t) is
     ∙ same_default THREADS t.0 no_call)) refl
-
--- who has begun a call may go on with it
-pub may_go_on : (call_state : CallState) (call : Call) → begun_of call_state ≡ Some call → MayPollCall call_state call
-may_go_on call_state call begun = go call_state.stage begun
-  where
-    go : (stage : Stage) → begun_at stage call_state.call ≡ Some call → (going_at stage call_state call).call ≡ Some call
-    go Idle begun = absurd (cc begun)
-    go Acquires begun = begun
-    go Enters begun = begun
-    go Tries begun = begun
-    go Waits begun = begun
-    go AcquiresAgain begun = begun
-    go Signals begun = begun
-    go SignalsOwn begun = begun
-    go Releases begun = begun

@@ -1,7 +1,7 @@
 -- What a gathering keeps: the entries taken so far, and what is left of each trace.
-use Rattle.std.proofs.Common.{◌≡◌, ◌≢◌, ℕ, zero, suc, ◌+◌, ◌<◌, List, [], ◌∷◌, ◌++◌, length, get_or, set, drop, replicate, sum_by, Option, Some, None, refl}
+use Rattle.std.proofs.Common.{◌≡◌, ◌≢◌, ℕ, zero, suc, ◌+◌, ◌<◌, List, [], ◌∷◌, ◌++◌, length, get_or, set, drop, replicate, sum_by, Some, None, refl}
 use Rattle.std.proofs.Common.{sym, ap, ◌∙◌, subst, inl, inr, arith, add-one, append_assoc, Vec, Global}
-use Rattle.std.proofs.lemmas.List.{get_or-map, drop_more, drop_all, drop-drop, get_or-set_other, get_or-set_same, get_or_past, nil_from_length}
+use Rattle.std.proofs.lemmas.List.{drop_more, drop_all, drop-drop, get_or-set_other, get_or-set_same, get_or_past, nil_from_length}
 use Rattle.std.proofs.lemmas.List.{length-replicate, length-set, length-append, append-nil}
 use Rattle.std.proofs.lemmas.List.Sums.{sum_by-cons, sum_by-set, get_or-le-sum_by}
 use Rattle.std.proofs.lemmas.Bool.{cases_eq, cases_lt}
@@ -12,13 +12,6 @@ use Rattle.event_log.specs.Runs.{count_of}
 use Rattle.event_log.specs.Traces.{IsInterleaving, HasOpOrderFrom, HasOpOrder}
 use Rattle.tracer.specs.Gather.{traces_in, IsOrder, IsFrontReady, TakesFirstReadyFrom, TakesFirstReady, HasNoOrder, next_entry, IsDue, NoneDueBelow}
 use Rattle.tracer.proofs.OrderLemmas.{at_head, head_at, head_within, count_more_same, count_more_other, CameFirst, may_come_first}
-
--- what a look at a vector's slot says of the next entry of its trace
-pub next_here : (vectors : List (Vec Entry Global)) (taken : List ℕ) (k : ℕ) (v : Vec Entry Global) (n : ℕ) (next : Option Entry) → k < length vectors
-    → v ≡ get_or vectors k v → n ≡ get_or taken k 0 → next ≡ slice_get v.items n → next_entry (traces_in vectors) taken k ≡ next
-next_here vectors taken k v n next within here slot look =
-    let items : get_or (traces_in vectors) k [] ≡ v.items = get_or-map (λ trace. trace.items) vectors k v [] within ∙ ap (λ trace. trace.items) (sym here) in
-    ap (λ trace. slice_get trace (get_or taken k 0)) items ∙ (ap (slice_get v.items) (sym slot) ∙ sym look)
 
 -- what is left of each trace, where so many of each are taken
 abbrev pub rests : List (List Entry) → List ℕ → List (List Entry)

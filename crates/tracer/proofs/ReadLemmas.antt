@@ -73,11 +73,5 @@ is_value_taken digits n e = number_to-spelling 18446744073709551615 digits n (li
 pub decimal_is_number : (n : ℕ) → n < 2 ^ 64 → is_number (decimal n) ≡ true
 decimal_is_number n small = is_number-spelled (decimal n) (decimal-spelled n small)
 
-pub digits_again : (n : ℕ) (ps : List (List ℕ)) → n < 2 ^ 64 → digits_at (decimal n ∷ ps) ≡ Ok (decimal n, ps)
-digits_again n ps small = rw (decimal_is_number n small) refl
-
-pub in_range_again : (most n : ℕ) → n < 2 ^ 64 → n ≤ most → in_range most (decimal n) ≡ Ok n
-in_range_again most n small le = rw (number_to-decimal most n small le) refl
-
 pub is_value_again : (n : ℕ) → n < 2 ^ 64 → is_value (decimal n) n ≡ true
 is_value_again n small = rw (number_to-decimal 18446744073709551615 n small (omega arith)) (eq-eqb n n refl)

@@ -1,28 +1,17 @@
 -- One write after another.
-use Rattle.std.proofs.Common.{◌≡◌, ℕ, ◌+◌, ◌<◌, Bool, true, false, List, [], ◌∷◌, ◌++◌, length, get_or, take, drop, Option, Some, None, sym, ap, subst, ◌∙◌}
+use Rattle.std.proofs.Common.{◌≡◌, ℕ, ◌+◌, ◌<◌, Bool, true, false, List, ◌∷◌, ◌++◌, length, get_or, take, drop, Option, Some, None, sym, ap, subst, ◌∙◌}
 use Rattle.std.proofs.Common.{append_assoc}
-use Rattle.std.proofs.lemmas.List.{append-nil, take-append-drop, drop_more}
+use Rattle.std.proofs.lemmas.List.{take-append-drop, drop_more}
 use Rattle.std.proofs.lemmas.List.Concat.{flat_map-append}
 use Rattle.std.specs.List.{flat_map}
-use Rattle.std.specs.Io.KnownBytes.{Appends, Keeps}
+use Rattle.std.specs.Io.KnownBytes.{Appends}
 use Rattle.tracer.specs.Sinks.{Outs}
-
--- what was known stays known
-pub appends_nothing : (old : Option (List ℕ)) → Appends old old []
-appends_nothing None = tt
-appends_nothing (Some xs) = sym (append-nil xs)
 
 pub appends_then : (old mid new : Option (List ℕ)) (a b : List ℕ) → Appends old mid a → Appends mid new b → Appends old new (a ++ b)
 appends_then None mid new a b first second = tt
 appends_then (Some xs) None new a b first second = absurd first
 appends_then (Some xs) (Some ys) None a b first second = absurd second
 appends_then (Some xs) (Some ys) (Some zs) a b first second = second ∙ ap (λ (t : List ℕ). t ++ b) first ∙ append_assoc xs a b
-
-pub appends_kept : (old mid new : Option (List ℕ)) (a : List ℕ) → Appends old mid a → Keeps mid new → Appends old new a
-appends_kept None mid new a first kept = tt
-appends_kept (Some xs) None new a first kept = absurd first
-appends_kept (Some xs) (Some ys) None a first kept = absurd kept
-appends_kept (Some xs) (Some ys) (Some zs) a first kept = kept ∙ first
 
 -- a text whose front is out, and then what comes of the next
 pub outs_then : (failed : Bool) (old mid new : Option (List ℕ)) (a b : List ℕ) → Appends old mid a → Outs failed mid new b → Outs failed old new (a ++ b)

@@ -11,7 +11,3 @@ same_busy f (Some s) = refl
 pub none_beneath : {A B : Type 0} (f : A → B) (under : Option A) → option_map f under ≡ None → under ≡ None
 none_beneath f None none = refl
 none_beneath f (Some s) none = absurd (none-some (f s) (sym none))
-
--- an edit that wakes nobody wakes no thread that is awake
-pub wakes_nobody : {P : Type 0} {A : Type 0} (u : A) → None ≡ Some u → P
-wakes_nobody u woke = absurd (none-some u woke)

@@ -1,4 +1,4 @@
-use Rattle.std.proofs.Common.{◌≡◌, [], ◌<◌, ◌≤◌, IsSome, length, refl, ◌∙◌, arith}
+use Rattle.std.proofs.Common.{◌≡◌, [], ◌<◌, ◌≤◌, IsSome, length, refl, rules, ◌∙◌, arith}
 use Rattle.std.proofs.lemmas.Result.{IfOk-weaker}
 use Rattle.event_log.specs.declared.ids.CpuId.{CpuId}
 use Rattle.event_log.specs.declared.ids.LockId.TheVariants.{Pending}
@@ -12,43 +12,10 @@ use Rattle.queuing_lock.specs.Nested.{nested_lock_of}
 use Rattle.ipc_calls.proofs.Opened.{both_ok}
 use Rattle.ipc_calls.proofs.tower.FifoCondQLockOpensBuffers.open.Goals as goal
 
--- the machine has the capacities and homes of the plan, and nothing was done in it
-pub returns-clause-opened : goal.returns-clause-opened
-returns-clause-opened g c =
-    let S = g.S.ThreadLayer in
-    let r = c.open.result in
-    let opens = c.open.ensures in
-    let caps = c.args.caps.now in
-    let homes = c.args.homes.now in
-    let most = c.requires.buffers in
-    let few : length caps ≤ 256 = omega (arith, most) in
-    IfOk-weaker r
-    (λ m. ((inner (viewed nested_lock_of (S.opening m)) ≡ opening_locks caps) × (homes_in (S.opening m) ≡ homes)) × ((S.seen m ≡ []) × (c.args.room ≤ S.room m))) _
-    (λ m it. record {
-      caps_are = caps_are (viewed nested_lock_of (S.opening m)) caps it.0.0 few;
-      homes_are = homes_viewed nested_lock_of (S.opening m) ∙ it.0.1;
-      none_seen = rw it.1.0 refl;
-      none_moved = rw it.1.0 refl;
-      room_is = it.1.1;
-    })
-    (both_ok r (λ m. (inner (viewed nested_lock_of (S.opening m)) ≡ opening_locks caps) × (homes_in (S.opening m) ≡ homes))
-    (λ m. (S.seen m ≡ []) × (c.args.room ≤ S.room m))
-    (both_ok r (λ m. inner (viewed nested_lock_of (S.opening m)) ≡ opening_locks caps) (λ m. homes_in (S.opening m) ≡ homes) opens.locks opens.homes)
-    (both_ok r (λ m. S.seen m ≡ []) (λ m. c.args.room ≤ S.room m) opens.seen opens.room))
-
--- its locks are those of the capacities that it tells
-pub returns-clause-boot : goal.returns-clause-boot
-returns-clause-boot g c =
-    let S = g.S.ThreadLayer in
-    let caps = c.args.caps.now in
-    let most = c.requires.buffers in
-    let few : length caps ≤ 256 = omega (arith, most) in
-    IfOk-weaker c.open.result (λ m. inner (viewed nested_lock_of (S.opening m)) ≡ opening_locks caps) _
-    (λ m is. boots_well (viewed nested_lock_of (S.opening m)) caps is few) c.open.ensures.locks
-
--- each CPU finds in it what its part needs
-pub returns-clause-fresh : goal.returns-clause-fresh
-returns-clause-fresh g c =
+-- the machine has the capacities and homes of the plan, nothing was done in it, its locks are those of the capacities that it tells,
+-- each CPU finds in it what its part needs, and may act on it
+pub returns : goal.returns
+returns g c =
     let S = g.S.ThreadLayer in
     let r = c.open.result in
     let opens = c.open.ensures in
@@ -57,32 +24,38 @@ returns-clause-fresh g c =
     let most = c.requires.buffers in
     let few : length caps ≤ 256 = omega (arith, most) in
     let cpus = c.requires.most_cpus in
-    IfOk-weaker r
-    (λ m. (((inner (viewed nested_lock_of (S.opening m)) ≡ opening_locks caps) × (homes_in (S.opening m) ≡ homes))
-    × ((S.seen m ≡ []) × ((d : CpuId) → d.0 < c.args.cpus → IsSome (S.opening m (Pending d)))))
-    × (((d : CpuId) → d.0 < CPUS → S.ActsFor m d) × ((d : CpuId) → S.IsOutside m d))) _
-    (λ m it d within.
-    let boots = boots_well (viewed nested_lock_of (S.opening m)) caps it.0.0.0 few in (
-      (it.1.0 d (omega (arith, within, cpus)), boots),
-      it.1.1 d,
-      rw it.0.1.0 refl,
-      rw it.0.1.0 refl,
-      homes_viewed nested_lock_of (S.opening m) ∙ it.0.0.1,
-      viewed_there nested_lock_of (S.opening m) (Pending d) (it.0.1.1 d within),
-      boots,
-    ))
-    (both_ok r _ _ (both_ok r _ _ (both_ok r _ _ opens.locks opens.homes) (both_ok r _ _ opens.seen opens.queues))
-    (both_ok r _ _ opens.acts opens.outside))
-
--- and each CPU may act on it
-pub returns-clause-acts : goal.returns-clause-acts
-returns-clause-acts g c =
-    let S = g.S.ThreadLayer in
-    let r = c.open.result in
-    let caps = c.args.caps.now in
-    let most = c.requires.buffers in
-    let few : length caps ≤ 256 = omega (arith, most) in
-    IfOk-weaker r (λ m. ((d : CpuId) → d.0 < CPUS → S.ActsFor m d) × (inner (viewed nested_lock_of (S.opening m)) ≡ opening_locks caps)) _
-    (λ m it d within. (it.0 d within, boots_well (viewed nested_lock_of (S.opening m)) caps it.1 few))
-    (both_ok r (λ m. (d : CpuId) → d.0 < CPUS → S.ActsFor m d) (λ m. inner (viewed nested_lock_of (S.opening m)) ≡ opening_locks caps)
-    c.open.ensures.acts c.open.ensures.locks)
+    let planned = both_ok r (λ m. inner (viewed nested_lock_of (S.opening m)) ≡ opening_locks caps) (λ m. homes_in (S.opening m) ≡ homes) opens.locks opens.homes in
+    record {
+      opened = IfOk-weaker r
+          (λ m. ((inner (viewed nested_lock_of (S.opening m)) ≡ opening_locks caps) × (homes_in (S.opening m) ≡ homes)) × ((S.seen m ≡ []) × (c.args.room ≤ S.room m))) _
+          (λ m it. record {
+            caps_are = caps_are (viewed nested_lock_of (S.opening m)) caps it.0.0 few;
+            homes_are = homes_viewed nested_lock_of (S.opening m) ∙ it.0.1;
+            none_seen = rw it.1.0 refl;
+            none_moved = rw it.1.0 refl;
+            room_is = it.1.1;
+          })
+          (both_ok r _ _ planned (both_ok r _ _ opens.seen opens.room));
+      boot = IfOk-weaker r (λ m. inner (viewed nested_lock_of (S.opening m)) ≡ opening_locks caps) _
+          (λ m is. boots_well (viewed nested_lock_of (S.opening m)) caps is few) opens.locks;
+      queues = search rules;
+      fresh = IfOk-weaker r
+          (λ m. (((inner (viewed nested_lock_of (S.opening m)) ≡ opening_locks caps) × (homes_in (S.opening m) ≡ homes))
+          × ((S.seen m ≡ []) × ((d : CpuId) → d.0 < c.args.cpus → IsSome (S.opening m (Pending d)))))
+          × (((d : CpuId) → d.0 < CPUS → S.ActsFor m d) × ((d : CpuId) → S.IsOutside m d))) _
+          (λ m it d within.
+          let boots = boots_well (viewed nested_lock_of (S.opening m)) caps it.0.0.0 few in (
+            (it.1.0 d (omega (arith, within, cpus)), boots),
+            it.1.1 d,
+            rw it.0.1.0 refl,
+            rw it.0.1.0 refl,
+            homes_viewed nested_lock_of (S.opening m) ∙ it.0.0.1,
+            viewed_there nested_lock_of (S.opening m) (Pending d) (it.0.1.1 d within),
+            boots,
+          ))
+          (both_ok r _ _ (both_ok r _ _ planned (both_ok r _ _ opens.seen opens.queues)) (both_ok r _ _ opens.acts opens.outside));
+      acts = IfOk-weaker r (λ m. ((d : CpuId) → d.0 < CPUS → S.ActsFor m d) × (inner (viewed nested_lock_of (S.opening m)) ≡ opening_locks caps)) _
+          (λ m it d within. (it.0 d within, boots_well (viewed nested_lock_of (S.opening m)) caps it.1 few)) (both_ok r _ _ opens.acts opens.locks);
+      none = search rules;
+      holders = search rules;
+    }

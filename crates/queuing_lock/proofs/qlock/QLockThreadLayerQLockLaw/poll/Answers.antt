@@ -1,31 +1,24 @@
-use Rattle.std.proofs.Common.{◌≡◌, refl, true, false, Option, Some, None, ◌≢◌, if◌then◌else◌, List, ◌<◌, is_some, map, option_map, slice_set, ap, sym, ◌∙◌, subst}
+use Rattle.std.proofs.Common.{◌≡◌, refl, true, false, Option, Some, None, ◌≢◌, if◌then◌else◌, List, ◌<◌, is_some, option_map, slice_set, ap, sym, ◌∙◌, subst}
 use Rattle.std.proofs.Math.Path.{transport}
 use Rattle.event_log.specs.declared.ids.BufId.{BufId}
 use Rattle.event_log.specs.declared.ids.CpuId.{CpuId}
-use Rattle.event_log.specs.declared.ids.LockId.{LockId}
 use Rattle.event_log.specs.declared.ids.TheConstants.{THREADS}
 use Rattle.event_log.specs.History.{IsLawful}
-use Rattle.event_log.specs.Actions.{renamed}
 use Rattle.layer_traits.specs.declared.locked.QOut.{QOut}
 use Rattle.layer_traits.specs.declared.locked.QOut.TheVariants.{Acquired}
-use Rattle.layer_traits.specs.declared.queue_edits.QueueBlock.{QueueBlock}
 use Rattle.layer_traits.specs.declared.scheds.SchedCall.TheVariants as call
 use Rattle.layer_traits.specs.declared.sleeps.Outcome.{Outcome}
-use Rattle.layer_traits.specs.Locking.{lock_caller, lock_moves, lock_rules}
-use Rattle.layer_traits.specs.LockLaw.{LockPolled, Locking, left_after, lock_plan, locking, slept_for}
+use Rattle.layer_traits.specs.Locking.{lock_caller}
+use Rattle.layer_traits.specs.LockLaw.{LockPolled, left_after, locking, slept_for}
 use Rattle.layer_traits.specs.Payloads.{lock_meant, lock_told, outcome_told}
-use Rattle.layer_traits.specs.Plans.{Follows, Left, table_of}
-use Rattle.layer_traits.specs.QueueBlocks.{homes_in}
-use Rattle.layer_traits.specs.QueueRules.{queue_rules}
+use Rattle.layer_traits.specs.Plans.{Left}
 use Rattle.layer_traits.specs.Queues.{QueueAllowed}
-use Rattle.layer_traits.specs.Renaming.{renamed_edit, renamed_events, renamed_sched, viewed}
+use Rattle.layer_traits.specs.Renaming.{renamed_events, renamed_sched, viewed}
 use Rattle.layer_traits.specs.SleepLaw.{Sleeping}
-use Rattle.layer_traits.specs.Sleeping.{SleepState}
 use Rattle.layer_traits.proofs.FrameLemmas.{untouched, viewed_stays}
-use Rattle.queuing_lock.specs.declared.edits.QBlock.{QBlock}
 use Rattle.queuing_lock.specs.Laws.NestedLaws.{beneath, here}
 use Rattle.queuing_lock.specs.Nested.{edit_in, nested_lock_of}
-use Rattle.queuing_lock.specs.Parts.{DeferredFits, SleptFits, reported_by, slept_left_by}
+use Rattle.queuing_lock.specs.Parts.{DeferredFits, SleptFits, slept_left_by}
 use Rattle.queuing_lock.proofs.PartLemmas.{Before, caller_small, handed, deferred_after, locks}
 use Rattle.queuing_lock.proofs.PartLemmas.{locks_follow, none, others_after, owed, slept_after, slept_asks, slept_reported}
 use Rattle.queuing_lock.proofs.PartLemmas.{under_is}

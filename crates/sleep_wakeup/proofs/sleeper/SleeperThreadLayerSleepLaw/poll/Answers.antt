@@ -1,5 +1,4 @@
 use Rattle.std.proofs.Common.{◌≡◌, Option, Some, None, refl, map, option_map, ap, subst, sym, ◌∙◌}
-use Rattle.std.proofs.Math.Path.{transport}
 use Rattle.event_log.specs.declared.ids.BufId.{BufId}
 use Rattle.event_log.specs.declared.ids.Tid.{Tid}
 use Rattle.event_log.specs.Actions.{renamed}
@@ -16,7 +15,6 @@ use Rattle.layer_traits.specs.Renaming.{renamed_edit, renamed_events, viewed}
 use Rattle.layer_traits.specs.Scheds.{MaySched, SchedPolled, sched_plan, left as sched_left}
 use Rattle.layer_traits.specs.SleepLaw.{MaySleep, SleepPolled, Sleeping, due, left_reported, sleep_plan}
 use Rattle.layer_traits.specs.Sleeping.{sleep_moves, sleep_rules}
-use Rattle.layer_traits.proofs.SleepLemmas.{HandDefers}
 use Rattle.sleep_wakeup.specs.declared.deferred.DeferredOutcome.{DeferredOutcome}
 use Rattle.sleep_wakeup.specs.declared.edits.SleepEdit.{SleepEdit}
 use Rattle.sleep_wakeup.specs.Laws.NestedLaws.{beneath, here}
