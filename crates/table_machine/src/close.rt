@@ -13,7 +13,7 @@ use crate::plays::{Copies, Enters, Meets};
 use crate::rule::Token;
 use crate::shared::Shared;
 use crate::table_words::TableWords;
-use crate::views::Home;
+use crate::views::{Home, Slot};
 use atomic_table::Closed;
 use event_log::LockId;
 use layer_traits::SplitEdit;
@@ -76,7 +76,7 @@ impl<E: SplitEdit, K: TableWords> Shared<E, K> {
 
 // The blocks that lie in the slots, with their locks.
 fn returned<E: SplitEdit>(
-    mut closed: Closed<Home<E, E::Block>, Global>,
+    mut closed: Closed<Slot<E, E::Block>, Global>,
     locks: Vec<LockId>,
     mut blocks: Vec<(LockId, E::Block)>,
 ) -> Vec<(LockId, E::Block)>
@@ -90,11 +90,11 @@ fn returned<E: SplitEdit>(
         → y.block ≡ Some b → get_elem? result.items i ≡ some (lock, b) }
 {
     for i in 0..locks.len() {
-        let home = closed.take(i);
+        let slot = closed.take(i);
         let Home {
             block: left,
             edit: _,
-        } = home;
+        } = slot.into_home();
         let Some(block) = left else { unreachable!() };
         blocks.push_reserved((locks[i], block));
     }

@@ -15,7 +15,6 @@ use crate::plays::{Copies, Draws, Frees, Looks, Meets};
 use crate::rule::Token;
 use crate::shared::Shared;
 use crate::table_words::TableWords;
-use crate::views::Home;
 use event_log::{CpuId, LockId};
 use layer_traits::{Mark, SplitEdit};
 use std::marker::Model;
@@ -99,12 +98,8 @@ impl<E: SplitEdit> Key<E> {
         if !K::serves(ticket, found) {
             return None;
         }
-        let empty = Home {
-            block: None,
-            edit: None,
-        };
-        let home = table.exchange(&mut self.token, rank, empty);
-        home.block
+        let slot = self.token.slot_mut(table, rank);
+        slot.take()
     }
 
     // Puts the block into its slot, and gives the lock on by the word of the CPU's ticket.
@@ -127,11 +122,8 @@ impl<E: SplitEdit> Key<E> {
         let word = shared.word(lock, K::gives_at(self.ticket));
         let rank = shared.rank(lock);
         let table = &shared.table.shared;
-        let home = Home {
-            block: Some(block),
-            edit: Some(edit),
-        };
-        let _empty = table.exchange(&mut self.token, rank, home);
+        let slot = self.token.slot_mut(table, rank);
+        slot.put(block, edit);
         match K::stores(self.ticket) {
             Some(number) => table.store::<Frees<E>>(&mut self.token, word, number),
             None => {

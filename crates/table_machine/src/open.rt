@@ -14,7 +14,7 @@ use crate::plays::Deals;
 use crate::rule::{Opening, Token, Whole};
 use crate::shared::Shared;
 use crate::table_words::TableWords;
-use crate::views::Home;
+use crate::views::Slot;
 use event_log::{CPUS, CpuId, LOCKS, LockId, NoMemory};
 use layer_traits::SplitEdit;
 use std::alloc::{AllocError, Global};
@@ -25,7 +25,7 @@ struct Layout<E: SplitEdit> {
     words: Vec<u64>,
     ranks: Vec<usize>,
     locks: Vec<LockId>,
-    homes: Vec<Home<E, E::Block>>,
+    homes: Vec<Slot<E, E::Block>>,
     returned: Vec<(LockId, E::Block)>,
 }
 
@@ -222,7 +222,7 @@ fn ranks_of<B>(alloc: Global, blocks: &[(LockId, B)]) -> Result<Vec<usize>, Allo
 fn parted<E: SplitEdit>(
     alloc: Global,
     blocks: Vec<(LockId, E::Block)>,
-) -> Result<(Vec<LockId>, Vec<Home<E, E::Block>>), AllocError>
+) -> Result<(Vec<LockId>, Vec<Slot<E, E::Block>>), AllocError>
     ensures locks { IfOk result (λ r. r.0.items ≡ map (λ (o : LockId × _). o.0) blocks.items) }
     ensures homes { IfOk result (λ r. r.1.items ≡ map (λ (o : LockId × _). fresh_home o.1) blocks.items) }
 {
@@ -230,10 +230,7 @@ fn parted<E: SplitEdit>(
     let mut homes = Vec::with_capacity(alloc, blocks.len())?;
     for (lock, block) in blocks {
         locks.push(lock)?;
-        homes.push(Home {
-            block: Some(block),
-            edit: None,
-        })?;
+        homes.push(Slot::new(block))?;
     }
     Ok((locks, homes))
 }

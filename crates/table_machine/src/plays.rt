@@ -2,7 +2,7 @@
 ghost use Rattle.table_machine.specs.Plays.{Drew, Looked, Freed, Met, Entered};
 
 use crate::table_words::TableWords;
-use crate::views::{Home, View};
+use crate::views::{Slot, View};
 use atomic_table::{Join, Play, Split};
 use layer_traits::SplitEdit;
 use std::marker::PhantomData;
@@ -12,7 +12,7 @@ pub(crate) struct Draws<E> {
     edit: PhantomData<E>,
 }
 
-impl<E: SplitEdit> Play<Home<E, E::Block>, View<E, E::Block>> for Draws<E> {
+impl<E: SplitEdit> Play<Slot<E, E::Block>, View<E, E::Block>> for Draws<E> {
     ghost then = { Drew E.rules };
 }
 
@@ -22,7 +22,7 @@ pub(crate) struct Looks<E, K> {
     words: PhantomData<K>,
 }
 
-impl<E: SplitEdit, K: TableWords> Play<Home<E, E::Block>, View<E, E::Block>> for Looks<E, K> {
+impl<E: SplitEdit, K: TableWords> Play<Slot<E, E::Block>, View<E, E::Block>> for Looks<E, K> {
     ghost then = { λ _ v found w. Looked K.kind E.rules v found w };
 }
 
@@ -31,7 +31,7 @@ pub(crate) struct Frees<E> {
     edit: PhantomData<E>,
 }
 
-impl<E: SplitEdit> Play<Home<E, E::Block>, View<E, E::Block>> for Frees<E> {
+impl<E: SplitEdit> Play<Slot<E, E::Block>, View<E, E::Block>> for Frees<E> {
     ghost then = { λ _ v _ w. Freed E.rules v w };
 }
 
@@ -40,7 +40,7 @@ pub(crate) struct Meets<E> {
     edit: PhantomData<E>,
 }
 
-impl<E: SplitEdit> Play<Home<E, E::Block>, View<E, E::Block>> for Meets<E> {
+impl<E: SplitEdit> Play<Slot<E, E::Block>, View<E, E::Block>> for Meets<E> {
     ghost then = { Met E.rules };
 }
 
@@ -49,7 +49,7 @@ pub(crate) struct Enters<E> {
     edit: PhantomData<E>,
 }
 
-impl<E: SplitEdit> Play<Home<E, E::Block>, View<E, E::Block>> for Enters<E> {
+impl<E: SplitEdit> Play<Slot<E, E::Block>, View<E, E::Block>> for Enters<E> {
     ghost then = { Entered };
 }
 

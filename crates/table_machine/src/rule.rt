@@ -1,6 +1,6 @@
 //! The rule that each atomic step keeps.
 use crate::table_words::TableWords;
-use crate::views::{Home, View};
+use crate::views::{Slot, View};
 use atomic_table::{Seat, Shared, Table, TableRule};
 use event_log::LockId;
 use layer_traits::SplitEdit;
@@ -23,7 +23,7 @@ pub(crate) struct LogRule<E, K> {
     words: PhantomData<K>,
 }
 
-impl<E: SplitEdit, K: TableWords> TableRule<Home<E, E::Block>, View<E, E::Block>, Opening<E::Block>>
+impl<E: SplitEdit, K: TableWords> TableRule<Slot<E, E::Block>, View<E, E::Block>, Opening<E::Block>>
     for LogRule<E, K> {
     ghost use Rattle.std.specs.Prelude.{[]};
     ghost use Rattle.table_machine.specs.Rule.{TableInv};
@@ -34,17 +34,17 @@ impl<E: SplitEdit, K: TableWords> TableRule<Home<E, E::Block>, View<E, E::Block>
     ghost first = { λ k. viewed k.blocks.value.items (cpus_from 0 k.cpus) [] };
 }
 
-pub(crate) type Token<E> = Seat<Home<E, <E as SplitEdit>::Block>, View<E, <E as SplitEdit>::Block>>;
+pub(crate) type Token<E> = Seat<Slot<E, <E as SplitEdit>::Block>, View<E, <E as SplitEdit>::Block>>;
 
 pub(crate) type Core<E, K> = Shared<
-    Home<E, <E as SplitEdit>::Block>,
+    Slot<E, <E as SplitEdit>::Block>,
     View<E, <E as SplitEdit>::Block>,
     Opening<<E as SplitEdit>::Block>,
     LogRule<E, K>,
 >;
 
 pub(crate) type Whole<E, K> = Table<
-    Home<E, <E as SplitEdit>::Block>,
+    Slot<E, <E as SplitEdit>::Block>,
     View<E, <E as SplitEdit>::Block>,
     Opening<<E as SplitEdit>::Block>,
     LogRule<E, K>,

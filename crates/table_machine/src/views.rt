@@ -1,13 +1,79 @@
 //! What lies in a slot, and what a seat knows.
-use event_log::{CpuId, Event, LockId};
-use layer_traits::Mark;
-use std::collections::LinkedList;
 
-/// What lies in the slot of a lock: its block, and the edit of the section that left it there.
+ghost use Rattle.std.specs.Prelude.{◌≡◌, None, Some};
+
+use event_log::{CpuId, Event, LockId};
+use layer_traits::{Ghost, Mark};
+use std::collections::LinkedList;
+use std::marker::Model;
+use std::mem;
+
+/// What lies in the slot of a lock: its block and, for clauses alone, the edit of the section that
+/// left it there.
 #[derive(Drop)]
 pub(crate) struct Home<E, B> {
     pub(crate) block: Option<B>,
-    pub(crate) edit: Option<E>,
+    pub(crate) edit: Ghost<Option<E>>,
+}
+
+/// The slot of a lock, seen as what lies in it. Slots lie side by side, and CPUs that are inside
+/// different locks write theirs at the same time: so 128 bytes behind what lies there are left
+/// unused, and at any address no two slots share a pair of cache lines.
+#[derive(Drop)]
+pub(crate) struct Slot<E, B> {
+    home: Home<E, B>,
+    unused: [u64; 16],
+}
+
+impl<E, B> Model for Slot<E, B> {
+    ghost use Rattle.table_machine.specs.declared.views.Home.{Home};
+
+    ghost Value = { Home E B };
+
+    ghost view = { λ s. s.home };
+}
+
+impl<E: Drop, B: Drop> Slot<E, B> {
+    ghost use Rattle.table_machine.specs.Rule.{fresh_home};
+
+    /// A slot in which this block lies, and no section left it there.
+    pub(crate) fn new(block: B) -> Slot<E, B>
+        ensures { result ≡ fresh_home block }
+    {
+        Slot {
+            home: Home {
+                block: Some(block),
+                edit: Ghost::of(&None),
+            },
+            unused: [0; 16],
+        }
+    }
+
+    /// What lies in the slot.
+    pub(crate) fn into_home(self) -> Home<E, B>
+        ensures { result ≡ self }
+    {
+        let Slot { home, unused: _ } = self;
+        home
+    }
+
+    /// Takes the block out.
+    #[inline(always)]
+    pub(crate) fn take(&mut self) -> Option<B>
+        ensures block { result ≡ self.old.block }
+        ensures empty { self.new ≡ record { block = None; edit = self.old.edit } }
+    {
+        mem::replace(&mut self.home.block, None)
+    }
+
+    /// Puts a block in, in place of what lies there, with the edit of the section that leaves it.
+    #[inline(always)]
+    pub(crate) fn put(&mut self, block: B, edit: E)
+        ensures { self.new ≡ record { block = Some block; edit = Some edit } }
+    {
+        self.home.block = Some(block);
+        self.home.edit = Ghost::of(&Some(edit));
+    }
 }
 
 /// What a seat knows. No value of it is made: it exists in proofs alone.

@@ -1,5 +1,6 @@
 use Rattle.std.proofs.Common.{◌<◌, ◌≡◌, ◌+◌, length, arith, sym, ap, ◌∙◌, subst, length-append, vec_capacity}
 use Rattle.std.specs.Mem.Slots.{slots_items, slots_filled, slots_len, slots_counts}
+use Rattle.table_machine.specs.declared.views.Home.{Home}
 use Rattle.table_machine.proofs.Returning.{stays_filled, stays_empty, a_block, given_more, below_of}
 use Rattle.table_machine.proofs.close.returned.Goals as goal
 
@@ -7,8 +8,8 @@ pub unreachable-requires : goal.unreachable-requires
 unreachable-requires g c =
     let below : c.loop-i.i < length c.args.locks.items = omega arith in
     let there = c.requires.home c.loop-i.i below in
-    a_block (slots_items c.args.closed.slots) (slots_items c.loop-i.closed.slots) c.loop-i.i c.take-home.result there.0 c.take-home.ensures.value
-    c.loop-i.invariant.same there.1 there.2 c.in_default.is
+    a_block (slots_items c.args.closed.slots) (slots_items c.loop-i.closed.slots) c.loop-i.i c.take-slot.result there.0 c.take-slot.ensures.value
+    c.loop-i.invariant.same there.1 there.2 (ap (λ (h : Home _ _). h.block) (sym c.into_home-left.ensures) ∙ c.in_default.is)
 
 pub loop-i-preserved : goal.loop-i-preserved
 loop-i-preserved g c =
@@ -16,18 +17,19 @@ loop-i-preserved g c =
     let counts = slots_counts c.loop-i.closed.slots in
     let within : c.loop-i.i < length (slots_filled c.loop-i.closed.slots) = let a = c.loop-i.invariant.count in let b = counts.1 in omega arith in
     record {
-      filled = stays_filled (slots_filled c.loop-i.closed.slots) (slots_filled c.take-home.new.self.slots) c.loop-i.i (slots_len c.loop-i.closed.slots)
-          (slots_len c.take-home.new.self.slots) c.take-home.ensures.others.1 c.take-home.ensures.others.2 c.loop-i.invariant.filled;
-      emptied = stays_empty (slots_filled c.loop-i.closed.slots) (slots_filled c.take-home.new.self.slots) c.loop-i.i c.take-home.ensures.others.1 within
+      filled = stays_filled (slots_filled c.loop-i.closed.slots) (slots_filled c.take-slot.new.self.slots) c.loop-i.i (slots_len c.loop-i.closed.slots)
+          (slots_len c.take-slot.new.self.slots) c.take-slot.ensures.others.1 c.take-slot.ensures.others.2 c.loop-i.invariant.filled;
+      emptied = stays_empty (slots_filled c.loop-i.closed.slots) (slots_filled c.take-slot.new.self.slots) c.loop-i.i c.take-slot.ensures.others.1 within
           c.loop-i.invariant.emptied;
-      same = c.take-home.ensures.others.0 ∙ c.loop-i.invariant.same;
-      count = c.take-home.ensures.others.2 ∙ c.loop-i.invariant.count;
+      same = c.take-slot.ensures.others.0 ∙ c.loop-i.invariant.same;
+      count = c.take-slot.ensures.others.2 ∙ c.loop-i.invariant.count;
       given = ap length c.push_reserved.ensures.items ∙ (length-append c.loop-i.blocks.items _ ∙ ap (λ n. n + 1) c.loop-i.invariant.given);
       room = subst (λ n. Rattle.std.proofs.Common.◌≤◌ (length c.args.locks.items) n) (sym c.push_reserved.ensures.capacity) c.loop-i.invariant.room;
       done = given_more c.args.locks.items (slots_items c.args.closed.slots) (slots_items c.loop-i.closed.slots) c.loop-i.blocks.items
-          c.push_reserved.new.self.items c.loop-i.i c.index.result.now c.take-home.result c.in-Some.block
+          c.push_reserved.new.self.items c.loop-i.i c.index.result.now c.take-slot.result c.in-Some.block
           c.loop-i.invariant.given c.push_reserved.ensures.items below
-          c.index.ensures c.take-home.ensures.value c.loop-i.invariant.same c.in-Some.is c.loop-i.invariant.done;
+          c.index.ensures c.take-slot.ensures.value c.loop-i.invariant.same
+          (ap (λ (h : Home _ _). h.block) (sym c.into_home-left.ensures) ∙ c.in-Some.is) c.loop-i.invariant.done;
     }
 
 pub returns-clause-blocks : goal.returns-clause-blocks

@@ -20,4 +20,4 @@ pub returns-clause-adds : goal.returns-clause-adds
 returns-clause-adds g c =
     let hit = look_hit g.E.SplitEdit.rules g.K.TableWords.kind _ _ _ _ _ _ c.args.lock c.args.ticket c.self.invariant c.args.self.now c.args.shared.now _
     c.self.view_is c.requires.of c.requires.waiting (sym c.serves.ensures ∙ c.if-not-serves.false) c.rank-rank.ensures.rank c.load-found.ensures.2 in
-    (hit.read, rw c.exchange-home.ensures.3 hit.adds)
+    (hit.read, hit.adds)
