@@ -1,10 +1,8 @@
 -- A text cut at the first place of a byte.
-use Rattle.std.proofs.Common.{◌≡◌, ℕ, Some, None, ◌+◌, ◌<◌, ◌==◌, true, false, List, [], ◌∷◌, ◌++◌, length, get_or, take, drop, sym, ap, ◌∙◌, arith}
+use Rattle.std.proofs.Common.{◌≡◌, ℕ, ◌+◌, ◌<◌, ◌==◌, true, false, List, [], ◌∷◌, ◌++◌, length, get_or, take, drop, sym, ap, ◌∙◌, arith}
 use Rattle.std.specs.List.{slice_split}
 use Rattle.std.proofs.lemmas.List.{take-append-drop, drop_more, get_or-take, length-take, get_or_default}
-use Rattle.std.proofs.lemmas.Bool.{false_from_ne_true}
 use Rattle.std.proofs.lemmas.List.Splits.{slice_split_at, slice_split_none}
-use Rattle.memchr.specs.Find.{IsFirstByte, is_byte}
 
 pub cut_at : (at : ℕ) (text : List ℕ) (i : ℕ) → i < length text → ((k : ℕ) → k < i → (get_or text k 0 == at) ≡ false) → (get_or text i 0 == at) ≡ true
     → slice_split (λ b. b == at) text ≡ take i text ∷ slice_split (λ b. b == at) (drop (i + 1) text)
@@ -21,12 +19,3 @@ pub cut_none : (at : ℕ) (text : List ℕ) → ((k : ℕ) → k < length text �
 cut_none at text before =
     let none : (k : ℕ) (d : ℕ) → k < length text → (get_or text k d == at) ≡ false = λ k d inside. rw (get_or_default text k d 0 inside) (before k inside) in
     slice_split_none (λ b. b == at) text none
-
--- the same at the place that a search found, or where it found none
-pub cut_first : (at : ℕ) (text : List ℕ) (i : ℕ) → IsFirstByte (is_byte at) text (Some i)
-    → slice_split (λ b. b == at) text ≡ take i text ∷ slice_split (λ b. b == at) (drop (i + 1) text)
-cut_first at text i first =
-    cut_at at text i first.0.high (λ k below. false_from_ne_true (get_or text k 0 == at) (first.0.before k (omega arith) below)) first.1
-
-pub cut_nowhere : (at : ℕ) (text : List ℕ) → IsFirstByte (is_byte at) text None → slice_split (λ b. b == at) text ≡ text ∷ []
-cut_nowhere at text nowhere = cut_none at text (λ k inside. false_from_ne_true (get_or text k 0 == at) (nowhere k (omega arith) inside))

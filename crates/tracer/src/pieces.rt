@@ -8,20 +8,6 @@ ghost use Rattle.tracer.specs.Lines.{left_of};
 use crate::numerals::Numeral;
 use crate::verdicts::Reason;
 use event_log::number_to;
-use memchr::memchr;
-
-/// The first line of the text, without its line feed, and what stands behind that. A line is longer
-/// than a piece, so its end is looked for many bytes at a time.
-pub fn cut_line(text: &[u8]) -> Option<(&[u8], &[u8])>
-    ensures none { IfNone result (slice_split (λ b. b == 10) text.now ≡ text.now ∷ []) }
-    ensures some { IfSome result (λ p. slice_split (λ b. b == 10) text.now ≡ p.0.now ∷ slice_split (λ b. b == 10) p.1.now) }
-    ensures shorter { IfSome result (λ p. length p.0.now + 1 + length p.1.now ≡ length text.now) }
-{
-    match memchr(b'\n', text) {
-        Some(end) => Some((&text[..end], &text[end + 1..])),
-        None => None,
-    }
-}
 
 /// What stands before the first byte `at` of the text, and what stands behind it.
 #[inline(always)]
