@@ -1,7 +1,7 @@
 -- The lists that all CPUs share: an allowed call can be done on them, and it keeps them in agreement with the calls.
-use Rattle.std.proofs.Common.{◌≡◌, ◌≢◌, ℕ, zero, suc, ◌<◌, Bool, true, false, List, [], ◌∷◌, ◌++◌, length, slice_get, slice_set, ◌==◌, Err, is_err, is_ok}
+use Rattle.std.proofs.Common.{◌≡◌, ◌≢◌, ℕ, ◌<◌, Bool, true, false, List, [], ◌∷◌, ◌++◌, length, slice_get, slice_set, ◌==◌, Err, is_err, is_ok}
 use Rattle.std.proofs.Common.{if◌then◌else◌, Option, Some, None, IsSome, IfSome, option_map, refl, ap, sym, ◌∙◌, subst, arith}
-use Rattle.std.proofs.Common.{Result, Ok, OnOk, replicate, reverse, unwrap_or, ◌+◌, ◌≤◌}
+use Rattle.std.proofs.Common.{Result, Ok, OnOk, replicate, reverse, unwrap_or, ◌≤◌}
 use Rattle.std.proofs.lemmas.Bool.{eq-eqb, eqb-true}
 use Rattle.std.proofs.lemmas.List.{get_or-replicate, length-replicate, reverse-append}
 use Rattle.std.proofs.lemmas.Option.{get_or_from_slice_get, slice_get-get_or, slice_get_within}
@@ -84,13 +84,6 @@ pub repeated : {X : Type 0} (n i : ℕ) (x : X) → i < n → slice_get (replica
 repeated n i x within =
     let long = length-replicate n x in
     slice_get-get_or (replicate n x) i x (omega (arith, within, long)) ∙ ap Some (get_or-replicate n i x x within)
-
--- one more of the same
-pub repeat_more : {X : Type 0} (n : ℕ) (x : X) → replicate n x ++ x ∷ [] ≡ replicate (n + 1) x
-repeat_more zero x = refl
-repeat_more (suc n) x =
-    let next : suc (n + 1) ≡ suc n + 1 = omega arith in
-    ap (λ l. x ∷ l) (repeat_more n x) ∙ ap (λ m. replicate m x) next
 
 module _ {E B O : Type 0} (rules : Rules E B O) (mv : MoveRules E O) (wakes : WakesSleepers rules mv) (start : Opening B) (past : List (QueueEvent E))
     (lists : Lists B) (sound : IsKernel rules mv start past lists) where

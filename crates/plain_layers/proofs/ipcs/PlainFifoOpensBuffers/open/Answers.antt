@@ -1,4 +1,4 @@
-use Rattle.std.proofs.Common.{◌≡◌, [], ◌<◌, ◌≤◌, ◌*◌, IsSome, length, refl, arith}
+use Rattle.std.proofs.Common.{◌≡◌, [], ◌<◌, ◌≤◌, ◌*◌, IsSome, length, refl, rules, arith}
 use Rattle.std.proofs.lemmas.Result.{IfOk-weaker}
 use Rattle.event_log.specs.declared.ids.CpuId.{CpuId}
 use Rattle.event_log.specs.declared.ids.LockId.TheVariants.{Pending}
@@ -9,41 +9,10 @@ use Rattle.plain_layers.proofs.OpeningLemmas.{both_ok}
 use Rattle.plain_layers.proofs.PlainOpenings.{boots_shown, caps_observed, fresh_read, half_room}
 use Rattle.plain_layers.proofs.ipcs.PlainFifoOpensBuffers.open.Goals as goal
 
--- the machine has the capacities and homes of the plan, and nothing was done in it
-pub returns-clause-opened : goal.returns-clause-opened
-returns-clause-opened g c =
-    let S = g.S.ThreadLayer in
-    let r = c.open.result in
-    let opens = c.open.ensures in
-    let caps = c.args.caps.now in
-    let homes = c.args.homes.now in
-    let most = c.requires.buffers in
-    let few : length caps ≤ 256 = omega (arith, most) in
-    both_ok r (λ m. (inner (S.opening m) ≡ fresh_buffers caps) × (homes_in (S.opening m) ≡ homes))
-    (λ m. (S.seen m ≡ []) × (c.args.room * 2 ≤ S.room m)) _
-    (both_ok r (λ m. inner (S.opening m) ≡ fresh_buffers caps) (λ m. homes_in (S.opening m) ≡ homes) _ opens.buffers opens.homes (λ m one other. (one, other)))
-    (both_ok r (λ m. S.seen m ≡ []) (λ m. c.args.room * 2 ≤ S.room m) _ opens.seen opens.room (λ m one other. (one, other)))
-    (λ m it been. record {
-      caps_are = caps_observed (S.opening m) caps it.0 few;
-      homes_are = it.1;
-      none_seen = rw been.0 refl;
-      none_moved = rw been.0 refl;
-      room_is = half_room c.args.room (S.room m) been.1;
-    })
-
--- its locks are those of the capacities that it tells
-pub returns-clause-boot : goal.returns-clause-boot
-returns-clause-boot g c =
-    let S = g.S.ThreadLayer in
-    let caps = c.args.caps.now in
-    let most = c.requires.buffers in
-    let few : length caps ≤ 256 = omega (arith, most) in
-    IfOk-weaker c.open.result (λ m. inner (S.opening m) ≡ fresh_buffers caps) _
-    (λ m fresh. boots_shown (S.opening m) caps fresh few) c.open.ensures.buffers
-
--- each CPU finds in it what its part needs
-pub returns-clause-fresh : goal.returns-clause-fresh
-returns-clause-fresh g c =
+-- the machine has the capacities and homes of the plan, nothing was done in it, its locks are those of the capacities that it tells,
+-- each CPU finds in it what its part needs, and may act on it
+pub returns : goal.returns
+returns g c =
     let S = g.S.ThreadLayer in
     let r = c.open.result in
     let opens = c.open.ensures in
@@ -52,31 +21,39 @@ returns-clause-fresh g c =
     let most = c.requires.buffers in
     let few : length caps ≤ 256 = omega (arith, most) in
     let cpus = c.requires.most_cpus in
-    both_ok r (λ m. ((inner (S.opening m) ≡ fresh_buffers caps) × (homes_in (S.opening m) ≡ homes))
-    × ((S.seen m ≡ []) × ((d : CpuId) → d.0 < c.args.cpus → IsSome (S.opening m (Pending d)))))
-    (λ m. ((d : CpuId) → d.0 < CPUS → S.ActsFor m d) × ((d : CpuId) → S.IsOutside m d)) _
-    (both_ok r (λ m. (inner (S.opening m) ≡ fresh_buffers caps) × (homes_in (S.opening m) ≡ homes))
-    (λ m. (S.seen m ≡ []) × ((d : CpuId) → d.0 < c.args.cpus → IsSome (S.opening m (Pending d)))) _
-    (both_ok r (λ m. inner (S.opening m) ≡ fresh_buffers caps) (λ m. homes_in (S.opening m) ≡ homes) _ opens.buffers opens.homes (λ m one other. (one, other)))
-    (both_ok r (λ m. S.seen m ≡ []) (λ m. (d : CpuId) → d.0 < c.args.cpus → IsSome (S.opening m (Pending d))) _ opens.seen opens.queues (λ m one other. (one, other)))
-    (λ m one other. (one, other)))
-    (both_ok r (λ m. (d : CpuId) → d.0 < CPUS → S.ActsFor m d) (λ m. (d : CpuId) → S.IsOutside m d) _ opens.acts opens.outside (λ m one other. (one, other)))
-    (λ m it may d within. (
-      (may.0 d (omega (arith, within, cpus)), g.met.S.OpensAttempts.whole.0, record { all = may.0; fresh = fresh_read (S.opening m) caps it.0.0 few }),
-      may.1 d,
-      rw it.1.0 refl,
-      rw it.1.0 refl,
-      it.0.1,
-      it.1.1 d within,
-    ))
-
--- and each CPU may act on it
-pub returns-clause-acts : goal.returns-clause-acts
-returns-clause-acts g c =
-    let S = g.S.ThreadLayer in
-    let r = c.open.result in
-    let caps = c.args.caps.now in
-    let most = c.requires.buffers in
-    let few : length caps ≤ 256 = omega (arith, most) in
-    both_ok r (λ m. (d : CpuId) → d.0 < CPUS → S.ActsFor m d) (λ m. inner (S.opening m) ≡ fresh_buffers caps) _ c.open.ensures.acts c.open.ensures.buffers
-    (λ m acts fresh d within. (acts d within, g.met.S.OpensAttempts.whole.0, record { all = acts; fresh = fresh_read (S.opening m) caps fresh few }))
+    let it = both_ok r (λ m. inner (S.opening m) ≡ fresh_buffers caps) (λ m. homes_in (S.opening m) ≡ homes)
+    (λ m. (inner (S.opening m) ≡ fresh_buffers caps) × (homes_in (S.opening m) ≡ homes)) opens.buffers opens.homes (λ m one other. (one, other)) in
+    record {
+      opened = both_ok r (λ m. (inner (S.opening m) ≡ fresh_buffers caps) × (homes_in (S.opening m) ≡ homes))
+          (λ m. (S.seen m ≡ []) × (c.args.room * 2 ≤ S.room m)) _ it
+          (both_ok r (λ m. S.seen m ≡ []) (λ m. c.args.room * 2 ≤ S.room m) _ opens.seen opens.room (λ m one other. (one, other)))
+          (λ m it been. record {
+            caps_are = caps_observed (S.opening m) caps it.0 few;
+            homes_are = it.1;
+            none_seen = rw been.0 refl;
+            none_moved = rw been.0 refl;
+            room_is = half_room c.args.room (S.room m) been.1;
+          });
+      boot = IfOk-weaker r (λ m. inner (S.opening m) ≡ fresh_buffers caps) _ (λ m fresh. boots_shown (S.opening m) caps fresh few) opens.buffers;
+      queues = search rules;
+      fresh = both_ok r (λ m. ((inner (S.opening m) ≡ fresh_buffers caps) × (homes_in (S.opening m) ≡ homes))
+          × ((S.seen m ≡ []) × ((d : CpuId) → d.0 < c.args.cpus → IsSome (S.opening m (Pending d)))))
+          (λ m. ((d : CpuId) → d.0 < CPUS → S.ActsFor m d) × ((d : CpuId) → S.IsOutside m d)) _
+          (both_ok r (λ m. (inner (S.opening m) ≡ fresh_buffers caps) × (homes_in (S.opening m) ≡ homes))
+          (λ m. (S.seen m ≡ []) × ((d : CpuId) → d.0 < c.args.cpus → IsSome (S.opening m (Pending d)))) _ it
+          (both_ok r (λ m. S.seen m ≡ []) (λ m. (d : CpuId) → d.0 < c.args.cpus → IsSome (S.opening m (Pending d))) _ opens.seen opens.queues (λ m one other. (one, other)))
+          (λ m one other. (one, other)))
+          (both_ok r (λ m. (d : CpuId) → d.0 < CPUS → S.ActsFor m d) (λ m. (d : CpuId) → S.IsOutside m d) _ opens.acts opens.outside (λ m one other. (one, other)))
+          (λ m it may d within. (
+            (may.0 d (omega (arith, within, cpus)), g.met.S.OpensAttempts.whole.0, record { all = may.0; fresh = fresh_read (S.opening m) caps it.0.0 few }),
+            may.1 d,
+            rw it.1.0 refl,
+            rw it.1.0 refl,
+            it.0.1,
+            it.1.1 d within,
+          ));
+      acts = both_ok r (λ m. (d : CpuId) → d.0 < CPUS → S.ActsFor m d) (λ m. inner (S.opening m) ≡ fresh_buffers caps) _ opens.acts opens.buffers
+          (λ m acts fresh d within. (acts d within, g.met.S.OpensAttempts.whole.0, record { all = acts; fresh = fresh_read (S.opening m) caps fresh few }));
+      none = search rules;
+      holders = search rules;
+    }

@@ -4,10 +4,13 @@ use Rattle.event_log.specs.History.{IsLawful, same_cpu}
 use Rattle.event_log.specs.declared.ids.CpuId.{CpuId}
 use Rattle.event_log.specs.declared.ids.TheConstants.{CPUS}
 use Rattle.event_log.proofs.Same.{cpu_numbered}
+use Rattle.layer_traits.specs.declared.queues.QueueAnswer.{QueueAnswer}
+use Rattle.layer_traits.specs.declared.queues.QueueCall.{QueueCall}
 use Rattle.layer_traits.specs.declared.scheds.SchedAnswer.TheVariants.{Done}
+use Rattle.layer_traits.specs.declared.scheds.SchedCall.{SchedCall}
 use Rattle.layer_traits.specs.Payloads.{call_meant, queue_told, sched_meant}
 use Rattle.layer_traits.specs.QueueBlocks.{homes_in}
-use Rattle.layer_traits.specs.Queues.{QueueAllowed, QueuePolled, event, kernel}
+use Rattle.layer_traits.specs.Queues.{Kernel, QueueAllowed, QueuePolled, event, kernel}
 use Rattle.layer_traits.specs.Scheds.{SchedPolled, own_by, queue_call}
 use Rattle.layer_traits.proofs.FrameLemmas.{untouched}
 use Rattle.scheduler.specs.Owns.{local_after}
@@ -15,102 +18,102 @@ use Rattle.scheduler.specs.Parts.{PartFits}
 use Rattle.scheduler.proofs.StepLemmas.{call_may, done_fits, done_polled, finish_ok, local_fits, local_polled, lock_is_there, may_take, other_fits}
 use Rattle.plain_layers.proofs.KernelLemmas.{lock_handed, there_meant}
 use Rattle.plain_layers.specs.Kernels.{HasKernel, IsKernel, call_room, calls_in, no_site, opening_of}
+use Rattle.plain_layers.proofs.scheds.PlainSchedLayerSchedLaw.poll.Given.{Over}
 use Rattle.plain_layers.proofs.scheds.PlainSchedLayerSchedLaw.poll.Goals as goal
+use Rattle.plain_layers.proofs.scheds.PlainSchedLayerSchedLaw.poll.Goals.{Start, In-Err, In-Ok, After-pass_locally, After-done-answer, After-take_answer}
 
 less : (n k : ℕ) → n ≡ k + 1 → n ≤ k + 1
 less n k is = omega (arith, is)
 
+-- the call, and the one at the shared queues that it is
+abbrev call_of : (g : Over) (c : Start g) → SchedCall g.row.E.Denot
+call_of g c = sched_meant g.E.SplitEdit.meant c.args.call c.args.payload.now
+
+-- who acts on the machine
+abbrev Acts : (g : Over) (c : Start g) → CpuId → Type 0
+Acts g c d = (d.0 < CPUS) × IsKernel g.E.SplitEdit.rules g.E.Moves.moves c.args.m.now.opening (calls_in c.args.m.now) c.args.m.now.lists
+
+abbrev step_of : (g : Over) (c : In-Ok g) → QueueCall g.row.E.Denot
+step_of g c = call_meant g.E.SplitEdit.meant c.in-Ok.step c.args.payload.now
+
+is_shared : (g : Over) (c : In-Ok g) → queue_call (homes_in (opening_of c.args.m.now.opening)) c.args.self.now.cpu
+    (sched_meant g.E.SplitEdit.meant c.args.call c.args.payload.now) ≡ Some (step_of g c)
+is_shared g c = ap (λ h. queue_call h c.args.self.now.cpu (sched_meant g.E.SplitEdit.meant c.args.call c.args.payload.now))
+    (c.requires.fits.2.homes ∙ sym c.as_slice-homes.ensures.value) ∙ c.in-Ok.ensures.shared c.args.payload.now
+
 pub pass_locally-requires : goal.pass_locally-requires
 pass_locally-requires g c =
-    let rules = g.E.SplitEdit.rules in
-    let mv = g.E.Moves.moves in
-    let wakes = g.met.E.Moves.wakes_sleepers in
-    let self = c.args.self.now in
-    let m = c.args.m.now in
-    let opening = opening_of m.opening in
     let fits = c.requires.fits in
-    finish_ok rules mv opening wakes fits.1.starts self.cpu (calls_in m) self.own fits.1.lawful fits.2.stands
+    finish_ok g.E.SplitEdit.rules g.E.Moves.moves (opening_of c.args.m.now.opening) g.met.E.Moves.wakes_sleepers fits.1.starts c.args.self.now.cpu
+    (calls_in c.args.m.now) c.args.self.now.own fits.1.lawful fits.2.stands
 
 pub done-answer-requires-clause-lock : goal.done-answer-requires-clause-lock
 done-answer-requires-clause-lock g c =
-    let rules = g.E.SplitEdit.rules in
-    let mv = g.E.Moves.moves in
-    let wakes = g.met.E.Moves.wakes_sleepers in
-    let self = c.args.self.now in
-    let m = c.args.m.now in
-    let opening = opening_of m.opening in
-    let payload = c.args.payload.now in
-    let call = sched_meant g.E.SplitEdit.meant c.args.call payload in
-    let step = call_meant g.E.SplitEdit.meant c.in-Ok.step payload in
+    let at = goal.at.done-answer-requires-clause-lock g c in
     let fits = c.requires.fits in
-    let is : queue_call (homes_in opening) self.cpu call ≡ Some step
-    = ap (λ h. queue_call h self.cpu call) (fits.2.homes ∙ sym c.as_slice-homes.ensures.value) ∙ c.in-Ok.ensures.shared payload in
+    let payload = c.args.payload.now in
+    let opening = opening_of c.args.m.now.opening in
     subst (λ l. IsSome (opening l)) (lock_handed g.E.SplitEdit.meant c.in-Ok.step payload)
-    (lock_is_there rules mv opening wakes fits.1.starts self.cpu self.cpu self.homes.items None (calls_in m) self.own fits.1.lawful fits.2
-    call c.requires.call step is (there_meant g.E.SplitEdit.meant opening c.args.call payload c.requires.there))
+    (lock_is_there _ _ _ g.met.E.Moves.wakes_sleepers fits.1.starts fits.1.lawful fits.2 (call_of g at.Start) c.requires.call (step_of g at.In-Ok)
+    (is_shared g at.In-Ok) (there_meant g.E.SplitEdit.meant opening c.args.call payload c.requires.there))
 
 pub done-answer-requires-clause-call : goal.done-answer-requires-clause-call
 done-answer-requires-clause-call g c =
-    let rules = g.E.SplitEdit.rules in
-    let mv = g.E.Moves.moves in
-    let wakes = g.met.E.Moves.wakes_sleepers in
-    let self = c.args.self.now in
-    let m = c.args.m.now in
-    let opening = opening_of m.opening in
-    let payload = c.args.payload.now in
-    let call = sched_meant g.E.SplitEdit.meant c.args.call payload in
-    let step = call_meant g.E.SplitEdit.meant c.in-Ok.step payload in
+    let at = goal.at.done-answer-requires-clause-call g c in
     let fits = c.requires.fits in
-    let is : queue_call (homes_in opening) self.cpu call ≡ Some step
-    = ap (λ h. queue_call h self.cpu call) (fits.2.homes ∙ sym c.as_slice-homes.ensures.value) ∙ c.in-Ok.ensures.shared payload in
-    call_may rules mv opening wakes fits.1.starts self.cpu self.cpu self.homes.items None (calls_in m) self.own fits.1.lawful fits.2
-    call c.requires.call step is [] tt fits.1.lawful
+    call_may _ _ _ g.met.E.Moves.wakes_sleepers fits.1.starts fits.1.lawful fits.2 (call_of g at.Start) c.requires.call (step_of g at.In-Ok)
+    (is_shared g at.In-Ok) [] tt fits.1.lawful
+
+-- the call done at once
+module _ (g : Over) (c : After-done-answer g) where
+  abbrev K : Kernel g.row.E.Denot g.row.E-Block.Denot g.row.E-Out.Denot
+  K = kernel g.E.SplitEdit.rules g.E.Moves.moves (opening_of c.args.m.now.opening)
+
+  abbrev answer : QueueAnswer g.row.E-Out.Denot
+  answer = queue_told g.E.SplitEdit.told c.done-answer.result c.done-answer.new.payload
+
+  legal : IsLawful (QueueAllowed K) (calls_in c.done-answer.new.self)
+  legal = subst (λ o. IsLawful (QueueAllowed (kernel g.E.SplitEdit.rules g.E.Moves.moves (opening_of o))) (calls_in c.done-answer.new.self))
+      c.done-answer.ensures.opening c.done-answer.ensures.sound.lawful
+
+  polled : {ActsFor : CpuId → Type 0} → QueuePolled K ActsFor (event c.args.self.now.cpu (call_meant g.E.SplitEdit.meant c.in-Ok.step c.args.payload.now))
+      (Some answer) (calls_in c.args.m.now) (calls_in c.done-answer.new.self)
+  polled = record { others = []; foreign = λ d acts. tt; is = c.done-answer.ensures.seen; answers = c.done-answer.ensures.answer }
 
 pub take_answer-requires : goal.take_answer-requires
 take_answer-requires g c =
-    let rules = g.E.SplitEdit.rules in
-    let mv = g.E.Moves.moves in
-    let wakes = g.met.E.Moves.wakes_sleepers in
-    let self = c.args.self.now in
-    let m = c.args.m.now in
-    let opening = opening_of m.opening in
-    let payload = c.args.payload.now in
-    let call = sched_meant g.E.SplitEdit.meant c.args.call payload in
-    let step = call_meant g.E.SplitEdit.meant c.in-Ok.step payload in
-    let answer = queue_told g.E.SplitEdit.told c.done-answer.result c.done-answer.new.payload in
+    let at = goal.at.take_answer-requires g c in
     let fits = c.requires.fits in
-    let is : queue_call (homes_in opening) self.cpu call ≡ Some step
-    = ap (λ h. queue_call h self.cpu call) (fits.2.homes ∙ sym c.as_slice-homes.ensures.value) ∙ c.in-Ok.ensures.shared payload in
-    let Acts = λ (d : CpuId). (d.0 < CPUS) × IsKernel rules mv m.opening (calls_in m) m.lists in
-    let n = c.done-answer.new.self in
-    let said = c.done-answer.ensures in
-    let legal = subst (λ o. IsLawful (QueueAllowed (kernel rules mv (opening_of o))) (calls_in n)) said.opening said.sound.lawful in
-    let polled : QueuePolled (kernel rules mv opening) Acts (event self.cpu step) (Some answer) (calls_in m) (calls_in n) =
-    record { others = []; foreign = λ d acts. tt; is = said.seen; answers = said.answer } in
-    may_take rules mv opening wakes fits.1.starts self.cpu self.cpu self.homes.items None (calls_in m) self.own fits.1.lawful fits.2
-    call c.requires.call step is Acts (fits.0, fits.1) (calls_in n) answer polled legal
+    let done = at.After-done-answer in
+    may_take _ _ _ g.met.E.Moves.wakes_sleepers fits.1.starts fits.1.lawful fits.2 (call_of g at.Start) c.requires.call (step_of g at.In-Ok)
+    (is_shared g at.In-Ok) {ActsFor = Acts g at.Start} (fits.0, fits.1) (polled g done) (legal g done)
 
 -- a call that touches nothing shared
 
+is_local : (g : Over) (c : In-Err g) → queue_call (homes_in (opening_of c.args.m.now.opening)) c.args.self.now.cpu
+    (sched_meant g.E.SplitEdit.meant c.args.call c.args.payload.now) ≡ None
+is_local g c = ap (λ h. queue_call h c.args.self.now.cpu (sched_meant g.E.SplitEdit.meant c.args.call c.args.payload.now))
+    (c.requires.fits.2.homes ∙ sym c.as_slice-homes.ensures.value) ∙ (c.in-Err.ensures.local c.args.payload.now).1
+
+passed : (g : Over) (c : After-pass_locally g) → c.pass_locally.new.own
+    ≡ local_after (sched_meant g.E.SplitEdit.meant c.args.call c.args.payload.now) c.args.self.now.own
+passed g c = c.pass_locally.ensures ∙ ap (λ s. local_after s c.args.self.now.own) (sym (c.in-Err.ensures.local c.args.payload.now).0)
+
 pub returns-in-Err-clause-framed : goal.returns-in-Err-clause-framed
 returns-in-Err-clause-framed g c =
+    let at = goal.at.returns-in-Err-clause-framed g c in
     let rules = g.E.SplitEdit.rules in
     let mv = g.E.Moves.moves in
-    let wakes = g.met.E.Moves.wakes_sleepers in
     let self = c.args.self.now in
     let m = c.args.m.now in
-    let opening = opening_of m.opening in
-    let payload = c.args.payload.now in
-    let call = sched_meant g.E.SplitEdit.meant c.args.call payload in
     let fits = c.requires.fits in
-    let told = c.in-Err.ensures.local payload in
-    let is : queue_call (homes_in opening) self.cpu call ≡ None
-    = ap (λ h. queue_call h self.cpu call) (fits.2.homes ∙ sym c.as_slice-homes.ensures.value) ∙ told.1 in
-    let own : c.pass_locally.new.own ≡ local_after call self.own = c.pass_locally.ensures ∙ ap (λ s. local_after s self.own) (sym told.0) in
-    let kept = local_fits rules mv opening wakes fits.1.starts self.cpu self.cpu self.homes.items None (calls_in m) self.own fits.1.lawful fits.2
-    call c.requires.call is in
+    let kept = local_fits _ _ _ g.met.E.Moves.wakes_sleepers fits.1.starts fits.1.lawful fits.2 (call_of g at.Start) c.requires.call (is_local g at.In-Err) in
     record {
-      fits = (fits.0, fits.1, subst (λ o. PartFits rules mv opening self.cpu self.cpu self.homes.items None (calls_in m) o) (sym own) kept);
+      fits = (
+        fits.0,
+        fits.1,
+        subst (λ o. PartFits rules mv (opening_of m.opening) self.cpu self.cpu self.homes.items None (calls_in m) o) (sym (passed g at.After-pass_locally)) kept,
+      );
       cpu = refl;
       stays = untouched (λ k. opening_of k.opening) (λ k. no_site) (λ k. call_room k) (λ k c. HasKernel rules mv k c) m;
       others = λ p other fits. fits;
@@ -119,56 +122,43 @@ returns-in-Err-clause-framed g c =
 
 pub returns-in-Err-clause-seen : goal.returns-in-Err-clause-seen
 returns-in-Err-clause-seen g c =
-    let rules = g.E.SplitEdit.rules in
-    let mv = g.E.Moves.moves in
-    let wakes = g.met.E.Moves.wakes_sleepers in
+    let at = goal.at.returns-in-Err-clause-seen g c in
     let self = c.args.self.now in
     let m = c.args.m.now in
-    let opening = opening_of m.opening in
-    let payload = c.args.payload.now in
-    let call = sched_meant g.E.SplitEdit.meant c.args.call payload in
     let fits = c.requires.fits in
-    let told = c.in-Err.ensures.local payload in
-    let is : queue_call (homes_in opening) self.cpu call ≡ None
-    = ap (λ h. queue_call h self.cpu call) (fits.2.homes ∙ sym c.as_slice-homes.ensures.value) ∙ told.1 in
-    let own : c.pass_locally.new.own ≡ local_after call self.own = c.pass_locally.ensures ∙ ap (λ s. local_after s self.own) (sym told.0) in
-    let Acts = λ (d : CpuId). (d.0 < CPUS) × IsKernel rules mv m.opening (calls_in m) m.lists in
-    subst (λ o. SchedPolled (kernel rules mv opening) Acts self.cpu call (Some Done) (calls_in m) (calls_in m) self.own o) (sym own)
-    (local_polled rules mv opening wakes fits.1.starts self.cpu self.cpu self.homes.items None (calls_in m) self.own fits.1.lawful fits.2
-    call c.requires.call is Acts)
+    let K = kernel g.E.SplitEdit.rules g.E.Moves.moves (opening_of m.opening) in
+    subst (λ o. SchedPolled K (Acts g at.Start) self.cpu (call_of g at.Start) (Some Done) (calls_in m) (calls_in m) self.own o)
+    (sym (passed g at.After-pass_locally))
+    (local_polled _ _ _ g.met.E.Moves.wakes_sleepers fits.1.starts fits.1.lawful fits.2 (call_of g at.Start) c.requires.call (is_local g at.In-Err)
+    (Acts g at.Start))
 
 -- a call that is one at the shared queues
 
+taken : (g : Over) (c : After-take_answer g) → c.take_answer.new.own ≡ own_by g.E.Moves.moves (homes_in (opening_of c.args.m.now.opening))
+    c.args.self.now.cpu (queue_told g.E.SplitEdit.told c.done-answer.result c.done-answer.new.payload) c.args.self.now.own
+taken g c = c.take_answer.ensures.own
+    ∙ ap (λ h. own_by g.E.Moves.moves h c.args.self.now.cpu (queue_told g.E.SplitEdit.told c.done-answer.result c.done-answer.new.payload) c.args.self.now.own)
+    (sym (c.requires.fits.2.homes ∙ sym c.as_slice-homes.ensures.value))
+
 pub returns-in-Ok-clause-framed : goal.returns-in-Ok-clause-framed
 returns-in-Ok-clause-framed g c =
+    let at = goal.at.returns-in-Ok-clause-framed g c in
     let rules = g.E.SplitEdit.rules in
     let mv = g.E.Moves.moves in
     let wakes = g.met.E.Moves.wakes_sleepers in
     let self = c.args.self.now in
-    let m = c.args.m.now in
-    let opening = opening_of m.opening in
-    let payload = c.args.payload.now in
-    let call = sched_meant g.E.SplitEdit.meant c.args.call payload in
-    let step = call_meant g.E.SplitEdit.meant c.in-Ok.step payload in
-    let answer = queue_told g.E.SplitEdit.told c.done-answer.result c.done-answer.new.payload in
     let fits = c.requires.fits in
-    let is : queue_call (homes_in opening) self.cpu call ≡ Some step
-    = ap (λ h. queue_call h self.cpu call) (fits.2.homes ∙ sym c.as_slice-homes.ensures.value) ∙ c.in-Ok.ensures.shared payload in
-    let Acts = λ (d : CpuId). (d.0 < CPUS) × IsKernel rules mv m.opening (calls_in m) m.lists in
+    let done = at.After-done-answer in
     let n = c.done-answer.new.self in
     let said = c.done-answer.ensures in
-    let legal = subst (λ o. IsLawful (QueueAllowed (kernel rules mv (opening_of o))) (calls_in n)) said.opening said.sound.lawful in
-    let polled : QueuePolled (kernel rules mv opening) Acts (event self.cpu step) (Some answer) (calls_in m) (calls_in n) =
-    record { others = []; foreign = λ d acts. tt; is = said.seen; answers = said.answer } in
-    let own : c.take_answer.new.own ≡ own_by mv (homes_in opening) self.cpu answer self.own
-    = c.take_answer.ensures.own ∙ ap (λ h. own_by mv h self.cpu answer self.own) (sym (fits.2.homes ∙ sym c.as_slice-homes.ensures.value)) in
     record {
       fits = (
         fits.0,
         said.sound,
-        subst₂ (λ o x. PartFits rules mv (opening_of o) self.cpu self.cpu self.homes.items None (calls_in n) x) (sym said.opening) (sym own)
-            (done_fits rules mv opening wakes fits.1.starts self.cpu self.cpu self.homes.items None (calls_in m) self.own fits.1.lawful fits.2
-            call c.requires.call step is Acts (fits.0, fits.1) (calls_in n) answer polled legal self.cpu None refl refl),
+        subst₂ (λ o x. PartFits rules mv (opening_of o) self.cpu self.cpu self.homes.items None (calls_in n) x) (sym said.opening)
+            (sym (taken g at.After-take_answer))
+            (done_fits _ _ _ wakes fits.1.starts fits.1.lawful fits.2 (call_of g at.Start) c.requires.call (step_of g at.In-Ok) (is_shared g at.In-Ok)
+            {ActsFor = Acts g at.Start} (fits.0, fits.1) (polled g done) (legal g done) self.cpu None refl refl),
       );
       cpu = refl;
       stays = record {
@@ -182,36 +172,19 @@ returns-in-Ok-clause-framed g c =
             theirs.0,
             said.sound,
             subst (λ o. PartFits rules mv (opening_of o) p.cpu p.cpu p.homes.items None (calls_in n) p.own) (sym said.opening)
-                (other_fits rules mv opening wakes fits.1.starts Acts self.cpu p.cpu p.cpu p.homes.items None step (Some answer)
-                (calls_in m) (calls_in n) p.own (theirs.0, fits.1) apart polled legal theirs.2),
+                (other_fits _ _ _ wakes fits.1.starts (Acts g at.Start) self.cpu p.cpu _ _ _ (step_of g at.In-Ok) (Some (answer g done))
+                _ _ p.own (theirs.0, fits.1) apart (polled g done) (legal g done) theirs.2),
           );
       holders = λ d other acts held. held;
     }
 
 pub returns-in-Ok-clause-seen : goal.returns-in-Ok-clause-seen
 returns-in-Ok-clause-seen g c =
-    let rules = g.E.SplitEdit.rules in
-    let mv = g.E.Moves.moves in
-    let wakes = g.met.E.Moves.wakes_sleepers in
+    let at = goal.at.returns-in-Ok-clause-seen g c in
     let self = c.args.self.now in
-    let m = c.args.m.now in
-    let opening = opening_of m.opening in
-    let payload = c.args.payload.now in
-    let call = sched_meant g.E.SplitEdit.meant c.args.call payload in
-    let step = call_meant g.E.SplitEdit.meant c.in-Ok.step payload in
-    let answer = queue_told g.E.SplitEdit.told c.done-answer.result c.done-answer.new.payload in
     let fits = c.requires.fits in
-    let is : queue_call (homes_in opening) self.cpu call ≡ Some step
-    = ap (λ h. queue_call h self.cpu call) (fits.2.homes ∙ sym c.as_slice-homes.ensures.value) ∙ c.in-Ok.ensures.shared payload in
-    let Acts = λ (d : CpuId). (d.0 < CPUS) × IsKernel rules mv m.opening (calls_in m) m.lists in
-    let n = c.done-answer.new.self in
-    let said = c.done-answer.ensures in
-    let legal = subst (λ o. IsLawful (QueueAllowed (kernel rules mv (opening_of o))) (calls_in n)) said.opening said.sound.lawful in
-    let polled : QueuePolled (kernel rules mv opening) Acts (event self.cpu step) (Some answer) (calls_in m) (calls_in n) =
-    record { others = []; foreign = λ d acts. tt; is = said.seen; answers = said.answer } in
-    let own : c.take_answer.new.own ≡ own_by mv (homes_in opening) self.cpu answer self.own
-    = c.take_answer.ensures.own ∙ ap (λ h. own_by mv h self.cpu answer self.own) (sym (fits.2.homes ∙ sym c.as_slice-homes.ensures.value)) in
-    subst₂ (λ a x. SchedPolled (kernel rules mv opening) Acts self.cpu call (Some a) (calls_in m) (calls_in n) self.own x)
-    (sym c.take_answer.ensures.answer) (sym own)
-    (done_polled rules mv opening wakes fits.1.starts self.cpu self.cpu self.homes.items None (calls_in m) self.own fits.1.lawful fits.2
-    call c.requires.call step is Acts (fits.0, fits.1) (calls_in n) answer polled legal)
+    let done = at.After-done-answer in
+    subst₂ (λ a x. SchedPolled (K g done) (Acts g at.Start) self.cpu (call_of g at.Start) (Some a) (calls_in c.args.m.now) (calls_in c.done-answer.new.self)
+    self.own x) (sym c.take_answer.ensures.answer) (sym (taken g at.After-take_answer))
+    (done_polled _ _ _ g.met.E.Moves.wakes_sleepers fits.1.starts fits.1.lawful fits.2 (call_of g at.Start) c.requires.call (step_of g at.In-Ok)
+    (is_shared g at.In-Ok) (fits.0, fits.1) (polled g done) (legal g done))
