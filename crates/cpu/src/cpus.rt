@@ -53,7 +53,14 @@ impl<I: CallLayer<IpcLaw>> Cpu<I> {
     {
         let hand = self.part.hand();
         match self.part.current() {
-            Some(thread) => choice_for(thread, hand, self.guests.at(thread)),
+            Some(thread) => {
+                if hand.is_none() {
+                    if let Some(call) = self.guests.kept_for(thread) {
+                        return Choice::Polls(thread, call);
+                    }
+                }
+                choice_for(thread, hand, self.guests.at(thread))
+            }
             None => match hand {
                 Some(woken) => Choice::Passes(Pass::MakeReady(woken)),
                 None if self.part.has_ready() => Choice::Passes(Pass::Switch),

@@ -1,6 +1,6 @@
 //! The guests of a CPU, by thread.
 
-ghost use Rattle.std.specs.Prelude.{◌≡◌, ◌+◌, ◌^◌, ◌<◌, ◌≤◌, not, length, if◌then◌else◌, Some, None};
+ghost use Rattle.std.specs.Prelude.{◌≡◌, ◌+◌, ◌^◌, ◌<◌, ◌≤◌, not, length, if◌then◌else◌, Some, None, IfSome};
 ghost use Rattle.std.specs.List.{count_by, list_all};
 ghost use Rattle.layer_traits.specs.Places.{one_if};
 ghost use Rattle.cpu.specs.Guests.{answer_with, computed, is_begun, is_ended, polled};
@@ -106,6 +106,19 @@ impl Guests {
         &self.kept
     }
 
+    /// The message call at which this thread's guest stands, for clauses alone, where it is the one that
+    /// is kept. So nobody reads its program.
+    #[inline(always)]
+    pub(crate) fn kept_for(&self, thread: Tid) -> Option<Ghost<Call>>
+        ensures { IfSome result (λ call. stands_at (guest_at self.now.items thread.0) call) }
+    {
+        if self.kept_by == Some(thread) {
+            Some(Ghost::of(&self.kept))
+        } else {
+            None
+        }
+    }
+
     /// Notes what a poll of a thread's call answered, and tells whether an effect that the call has
     /// after it came in it.
     #[inline(always)]
@@ -196,8 +209,11 @@ fn recount(begun: &mut usize, live: &mut usize, before: GuestStage, after: Guest
     ensures begun { begun.new + one_if (is_begun before) ≡ begun.old + one_if (is_begun after) }
     ensures live { live.new + one_if (not (is_ended before)) ≡ live.old + one_if (not (is_ended after)) }
 {
-    *begun = recounted(*begun, before.is_begun(), after.is_begun());
-    *live = recounted(*live, before.is_live(), after.is_live());
+    // Most polls leave the stage.
+    if before != after {
+        *begun = recounted(*begun, before.is_begun(), after.is_begun());
+        *live = recounted(*live, before.is_live(), after.is_live());
+    }
 }
 
 /// What is left of a count, or comes to it, where one that was counted or not now is or is not.

@@ -1,9 +1,9 @@
 //! A thread's guest as its CPU keeps it.
 
-ghost use Rattle.std.specs.Prelude.{◌≡◌, Option, None, if◌then◌else◌};
+ghost use Rattle.std.specs.Prelude.{◌≡◌, Option, Some, None, if◌then◌else◌};
 ghost use Rattle.layer_traits.specs.declared.calls.Call.{Call};
 ghost use Rattle.layer_traits.specs.declared.calls.Effect.{Effect};
-ghost use Rattle.layer_traits.specs.BufferLaw.{message_of};
+ghost use Rattle.layer_traits.specs.BufferLaw.{message_of, reply_with};
 ghost use Rattle.cpu.specs.declared.guests.Todo.TheVariants.{Calls};
 
 use event_log::{BufId, Msg};
@@ -189,17 +189,26 @@ impl Guest {
     pub(crate) fn note(&mut self, effect: &Option<Effect>, answer: Option<ReplyKind>)
         ensures { self.new ≡ polled self.old effect.now (answer_with effect.now answer) }
     {
-        self.stage = match (answer, effect) {
-            (Some(_), _) => GuestStage::Idle,
-            (None, Some(_)) => GuestStage::Done,
-            (None, None) => GuestStage::Begun,
-        };
-        match answer {
-            None | Some(ReplyKind::NoBuffer) => {}
-            Some(ReplyKind::Sent) => self.thread.after_send(&self.program),
-            Some(ReplyKind::Got) => self.thread.after_recv(&self.program, message_of(effect)),
-            Some(ReplyKind::Shut) => self.thread.after_close(&self.program),
-            Some(ReplyKind::Closed) => self.thread.after_closed(&self.program),
+        match (answer, effect) {
+            (Some(kind), _) => self.take_reply(kind, effect),
+            (None, Some(_)) => self.stage = GuestStage::Done,
+            (None, None) => self.stage = GuestStage::Begun,
+        }
+    }
+
+    /// Moves on after a reply of this kind, where `effect` is what the call has had. It stands out of line,
+    /// since few polls reply.
+    #[inline(never)]
+    fn take_reply(&mut self, kind: ReplyKind, effect: &Option<Effect>)
+        ensures { self.new ≡ polled self.old effect.now (Some (reply_with kind effect.now)) }
+    {
+        self.stage = GuestStage::Idle;
+        match kind {
+            ReplyKind::NoBuffer => {}
+            ReplyKind::Sent => self.thread.after_send(&self.program),
+            ReplyKind::Got => self.thread.after_recv(&self.program, message_of(effect)),
+            ReplyKind::Shut => self.thread.after_close(&self.program),
+            ReplyKind::Closed => self.thread.after_closed(&self.program),
         }
     }
 }
