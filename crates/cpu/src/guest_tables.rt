@@ -100,7 +100,7 @@ impl Guests {
     {
         let _ = asked;
         if self.kept_by != Some(thread) {
-            self.kept = call_at(&self.table[usize::from(thread.0)]);
+            keep_call(&self.table[usize::from(thread.0)], &mut self.kept);
             self.kept_by = Some(thread);
         }
         &self.kept
@@ -143,7 +143,8 @@ impl Guests {
         if answer.is_some() {
             self.kept_by = None;
         }
-        fresh
+        // A poll that leaves the stage and does not answer had no effect.
+        fresh && (answer.is_some() || before != after)
     }
 
     /// Notes that a pass is done which began while this thread ran.
@@ -187,15 +188,13 @@ impl Guests {
     }
 }
 
-/// The message call at which this guest stands.
+/// Makes the message call at which this guest stands, if it stands at one.
 #[inline(always)]
-fn call_at(guest: &Option<Guest>) -> Call
-    ensures { (call : Call) → stands_at guest.now call → result ≡ call }
+fn keep_call(guest: &Option<Guest>, kept: &mut Call)
+    ensures { (call : Call) → stands_at guest.now call → kept.new ≡ call }
 {
-    match guest {
-        Some(guest) => guest.call(),
-        // It has none.
-        None => Call::Recv(BufId(0)),
+    if let Some(guest) = guest {
+        guest.make_call(kept);
     }
 }
 
@@ -223,7 +222,13 @@ fn recounted(count: usize, before: bool, after: bool) -> usize
     requires room { count + one_if after < 2 ^ 64 + one_if before }
     ensures { result + one_if before ≡ count + one_if after }
 {
-    count - usize::from(before) + usize::from(after)
+    if before == after {
+        count
+    } else if before {
+        count - 1
+    } else {
+        count + 1
+    }
 }
 
 /// How many of the guests are in a call that has had no effect.

@@ -108,20 +108,33 @@ impl Guest {
 
     /// The message call at which the guest stands.
     #[inline(always)]
-    pub(crate) fn call(&self) -> Call
+    fn call(&self) -> Call
         ensures { (call : Call) → todo_of self.now ≡ Calls call → result ≡ call }
     {
+        let mut call = Call::Recv(BufId(0));
+        self.make_call(&mut call);
+        call
+    }
+
+    /// Makes the message call at which the guest stands, if it stands at one. Each kind of call is written
+    /// where it is kept: none is copied.
+    #[inline(always)]
+    pub(crate) fn make_call(&self, kept: &mut Call)
+        ensures { (call : Call) → todo_of self.now ≡ Calls call → kept.new ≡ call }
+    {
         match self.thread.next(&self.program) {
-            Instruction::Send(buffer, from, _) => Call::Send(buffer, self.thread.message(from)),
-            Instruction::Close(buffer) => Call::Close(buffer),
-            Instruction::Recv(buffer, ..) => Call::Recv(buffer),
+            Instruction::Send(buffer, from, _) => {
+                *kept = Call::Send(buffer, self.thread.message(from));
+            }
+            Instruction::Close(buffer) => *kept = Call::Close(buffer),
+            Instruction::Recv(buffer, ..) => *kept = Call::Recv(buffer),
             // It stands at none.
             Instruction::Exit
             | Instruction::Yield
             | Instruction::Set(..)
             | Instruction::Add(..)
             | Instruction::Sub(..)
-            | Instruction::Jnz(..) => Call::Recv(BufId(0)),
+            | Instruction::Jnz(..) => {}
         }
     }
 
