@@ -53,7 +53,14 @@ impl<I: CallLayer<IpcLaw>> Cpu<I> {
     {
         let hand = self.part.hand();
         match self.part.current() {
-            Some(thread) => choice_for(thread, hand, self.guests.at(thread)),
+            Some(thread) => {
+                if hand.is_none() {
+                    if let Some(call) = self.guests.kept_for(thread) {
+                        return Choice::Polls(thread, call);
+                    }
+                }
+                choice_for(thread, hand, self.guests.at(thread))
+            }
             None => match hand {
                 Some(woken) => Choice::Passes(Pass::MakeReady(woken)),
                 None if self.part.has_ready() => Choice::Passes(Pass::Switch),
@@ -70,7 +77,7 @@ impl<I: CallLayer<IpcLaw>> Cpu<I> {
         requires { (t : _) → (I.threads self.now.part).current ≡ Some t → t.0 < length self.now.guests.items }
         ensures { result ≡ halted_at (I.threads self.now.part) self.now.guests.items self.now.trace.items self.now.limit }
     {
-        if self.part.hand().is_none() && self.guests.are_over() {
+        if self.guests.are_over() && self.part.hand().is_none() {
             return Some(Reason::AllEnded);
         }
         if self.trace.len() + self.guests.begun() < self.limit {
@@ -134,8 +141,8 @@ impl<I: CallLayer<IpcLaw>> Cpu<I> {
         note_effect(&mut self.trace, self.number, thread, buffer, fresh, effect);
     }
 
-    /// Polls this pass from thread to thread.
-    #[inline(always)]
+    /// Polls this pass from thread to thread. It stands out of line, since most steps are calls'.
+    #[inline(never)]
     fn pass(&mut self, m: &mut I::Machine, pass: Pass)
         requires fits { I.Fits self.old.part m.old }
         requires room { 0 < I.room m.old }

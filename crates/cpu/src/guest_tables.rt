@@ -1,6 +1,6 @@
 //! The guests of a CPU, by thread.
 
-ghost use Rattle.std.specs.Prelude.{◌≡◌, ◌+◌, ◌^◌, ◌<◌, ◌≤◌, not, length, if◌then◌else◌, Some, None};
+ghost use Rattle.std.specs.Prelude.{◌≡◌, ◌+◌, ◌^◌, ◌<◌, ◌≤◌, not, length, if◌then◌else◌, Some, None, IfSome};
 ghost use Rattle.std.specs.List.{count_by, list_all};
 ghost use Rattle.layer_traits.specs.Places.{one_if};
 ghost use Rattle.layer_traits.specs.BufferLaw.{answer_with};
@@ -101,10 +101,23 @@ impl Guests {
     {
         let _ = asked;
         if self.kept_by != Some(thread) {
-            self.kept = call_at(&self.table[usize::from(thread.0)]);
+            keep_call(&self.table[usize::from(thread.0)], &mut self.kept);
             self.kept_by = Some(thread);
         }
         &self.kept
+    }
+
+    /// The message call at which this thread's guest stands, for clauses alone, where it is the one that
+    /// is kept. So nobody reads its program.
+    #[inline(always)]
+    pub(crate) fn kept_for(&self, thread: Tid) -> Option<Ghost<Call>>
+        ensures { IfSome result (λ call. stands_at (guest_at self.now.items thread.0) call) }
+    {
+        if self.kept_by == Some(thread) {
+            Some(Ghost::of(&self.kept))
+        } else {
+            None
+        }
     }
 
     /// Notes what a poll of a thread's call answered, and tells whether an effect that the call has
@@ -131,7 +144,8 @@ impl Guests {
         if answer.is_some() {
             self.kept_by = None;
         }
-        fresh
+        // A poll that leaves the stage and does not answer had no effect.
+        fresh && (answer.is_some() || before != after)
     }
 
     /// Notes that a pass is done which began while this thread ran.
@@ -175,15 +189,13 @@ impl Guests {
     }
 }
 
-/// The message call at which this guest stands.
+/// Makes the message call at which this guest stands, if it stands at one.
 #[inline(always)]
-fn call_at(guest: &Option<Guest>) -> Call
-    ensures { (call : Call) → stands_at guest.now call → result ≡ call }
+fn keep_call(guest: &Option<Guest>, kept: &mut Call)
+    ensures { (call : Call) → stands_at guest.now call → kept.new ≡ call }
 {
-    match guest {
-        Some(guest) => guest.call(),
-        // It has none.
-        None => Call::Recv(BufId(0)),
+    if let Some(guest) = guest {
+        guest.make_call(kept);
     }
 }
 
@@ -197,8 +209,11 @@ fn recount(begun: &mut usize, live: &mut usize, before: GuestStage, after: Guest
     ensures begun { begun.new + one_if (is_begun before) ≡ begun.old + one_if (is_begun after) }
     ensures live { live.new + one_if (not (is_ended before)) ≡ live.old + one_if (not (is_ended after)) }
 {
-    *begun = recounted(*begun, before.is_begun(), after.is_begun());
-    *live = recounted(*live, before.is_live(), after.is_live());
+    // Most polls leave the stage.
+    if before != after {
+        *begun = recounted(*begun, before.is_begun(), after.is_begun());
+        *live = recounted(*live, before.is_live(), after.is_live());
+    }
 }
 
 /// What is left of a count, or comes to it, where one that was counted or not now is or is not.
@@ -208,7 +223,13 @@ fn recounted(count: usize, before: bool, after: bool) -> usize
     requires room { count + one_if after < 2 ^ 64 + one_if before }
     ensures { result + one_if before ≡ count + one_if after }
 {
-    count - usize::from(before) + usize::from(after)
+    if before == after {
+        count
+    } else if before {
+        count - 1
+    } else {
+        count + 1
+    }
 }
 
 /// How many of the guests are in a call that has had no effect.

@@ -1,9 +1,9 @@
 //! A thread's guest as its CPU keeps it.
 
-ghost use Rattle.std.specs.Prelude.{◌≡◌, Option, None, if◌then◌else◌};
+ghost use Rattle.std.specs.Prelude.{◌≡◌, Option, Some, None, if◌then◌else◌};
 ghost use Rattle.layer_traits.specs.declared.calls.Call.{Call};
 ghost use Rattle.layer_traits.specs.declared.calls.Effect.{Effect};
-ghost use Rattle.layer_traits.specs.BufferLaw.{answer_with};
+ghost use Rattle.layer_traits.specs.BufferLaw.{answer_with, reply_with};
 ghost use Rattle.cpu.specs.declared.guests.Todo.TheVariants.{Calls};
 
 use event_log::BufId;
@@ -108,20 +108,33 @@ impl Guest {
 
     /// The message call at which the guest stands.
     #[inline(always)]
-    pub(crate) fn call(&self) -> Call
+    fn call(&self) -> Call
         ensures { (call : Call) → todo_of self.now ≡ Calls call → result ≡ call }
     {
+        let mut call = Call::Recv(BufId(0));
+        self.make_call(&mut call);
+        call
+    }
+
+    /// Makes the message call at which the guest stands, if it stands at one. Each kind of call is written
+    /// where it is kept: none is copied.
+    #[inline(always)]
+    pub(crate) fn make_call(&self, kept: &mut Call)
+        ensures { (call : Call) → todo_of self.now ≡ Calls call → kept.new ≡ call }
+    {
         match self.thread.next(&self.program) {
-            Instruction::Send(buffer, from, _) => Call::Send(buffer, self.thread.message(from)),
-            Instruction::Close(buffer) => Call::Close(buffer),
-            Instruction::Recv(buffer, ..) => Call::Recv(buffer),
+            Instruction::Send(buffer, from, _) => {
+                *kept = Call::Send(buffer, self.thread.message(from));
+            }
+            Instruction::Close(buffer) => *kept = Call::Close(buffer),
+            Instruction::Recv(buffer, ..) => *kept = Call::Recv(buffer),
             // It stands at none.
             Instruction::Exit
             | Instruction::Yield
             | Instruction::Set(..)
             | Instruction::Add(..)
             | Instruction::Sub(..)
-            | Instruction::Jnz(..) => Call::Recv(BufId(0)),
+            | Instruction::Jnz(..) => {}
         }
     }
 
@@ -189,17 +202,26 @@ impl Guest {
     pub(crate) fn note(&mut self, effect: &Option<Effect>, answer: Option<ReplyKind>)
         ensures { self.new ≡ polled self.old effect.now (answer_with effect.now answer) }
     {
-        self.stage = match (answer, effect) {
-            (Some(_), _) => GuestStage::Idle,
-            (None, Some(_)) => GuestStage::Done,
-            (None, None) => GuestStage::Begun,
-        };
-        match answer {
-            None | Some(ReplyKind::NoBuffer) => {}
-            Some(ReplyKind::Sent) => self.thread.after_send(&self.program),
-            Some(ReplyKind::Got) => self.thread.after_recv(&self.program, message_of(effect)),
-            Some(ReplyKind::Shut) => self.thread.after_close(&self.program),
-            Some(ReplyKind::Closed) => self.thread.after_closed(&self.program),
+        match (answer, effect) {
+            (Some(kind), _) => self.take_reply(kind, effect),
+            (None, Some(_)) => self.stage = GuestStage::Done,
+            (None, None) => self.stage = GuestStage::Begun,
+        }
+    }
+
+    /// Moves on after a reply of this kind, where `effect` is what the call has had. It stands out of line,
+    /// since few polls reply.
+    #[inline(never)]
+    fn take_reply(&mut self, kind: ReplyKind, effect: &Option<Effect>)
+        ensures { self.new ≡ polled self.old effect.now (Some (reply_with kind effect.now)) }
+    {
+        self.stage = GuestStage::Idle;
+        match kind {
+            ReplyKind::NoBuffer => {}
+            ReplyKind::Sent => self.thread.after_send(&self.program),
+            ReplyKind::Got => self.thread.after_recv(&self.program, message_of(effect)),
+            ReplyKind::Shut => self.thread.after_close(&self.program),
+            ReplyKind::Closed => self.thread.after_closed(&self.program),
         }
     }
 }

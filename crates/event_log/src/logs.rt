@@ -47,7 +47,7 @@ impl<E> EventLog<E> {
         if self.events.len() == self.room {
             return Err(LogFull);
         }
-        self.events.push(event).unwrap();
+        self.events.push_reserved(event);
         Ok(())
     }
 

@@ -1,6 +1,7 @@
 //! The outcome of a section whose answer waits until the thread that it woke has left the hand.
 
-ghost use Rattle.std.specs.Prelude.{◌≡◌};
+ghost use Rattle.std.specs.Prelude.{◌≡◌, Some, None, option_map};
+ghost use Rattle.layer_traits.specs.declared.scheds.SchedAnswer.TheVariants.{Done};
 ghost use Rattle.layer_traits.specs.SleepLaw.{due};
 ghost use Rattle.sleep_wakeup.specs.Parts.{answer_reported, as_edit, deferred_of_answer, done_of, parcel_reported};
 
@@ -56,29 +57,66 @@ pub(crate) fn complete<E, B: Drop>(
     ensures parcel { payload.new.parcel ≡ parcel_reported deferred.old answer payload.old.parcel }
 {
     match answer {
-        SchedAnswer::Done => match deferred.take() {
-            None => None,
-            Some(k) => {
-                payload.parcel = k.parcel;
-                Some(k.outcome)
-            }
-        },
+        SchedAnswer::Done => release(deferred, payload),
         SchedAnswer::Answer(outcome) => {
             if !outcome.slept && hand.is_some() {
-                *deferred = Some(DeferredOutcome {
-                    buffer,
-                    edit,
-                    outcome,
-                    parcel: payload.parcel,
-                });
+                keep(deferred, buffer, edit, outcome, payload);
                 return None;
             }
             if deferred.is_some() {
-                *deferred = None;
+                forget(deferred);
             }
             Some(outcome)
         }
     }
+}
+
+/// Gives the outcome that is kept, if one is, with its parcel in the payload. It stands out of line, as
+/// few polls wake a thread of another CPU.
+#[inline(never)]
+fn release<E, B: Drop>(
+    deferred: &mut Option<DeferredOutcome<E, B>>,
+    payload: &mut Payload,
+) -> Option<Outcome<B>>
+    ensures deferred { deferred.new ≡ None }
+    ensures answer { result ≡ option_map (λ k. k.outcome) deferred.old }
+    ensures parcel { payload.new.parcel ≡ parcel_reported deferred.old Done payload.old.parcel }
+{
+    match deferred.take() {
+        None => None,
+        Some(k) => {
+            payload.parcel = k.parcel;
+            Some(k.outcome)
+        }
+    }
+}
+
+/// Keeps this outcome of a section, with the parcel that lies in the payload. It stands out of line, as
+/// [`release`] does.
+#[inline(never)]
+fn keep<E, B: Drop>(
+    deferred: &mut Option<DeferredOutcome<E, B>>,
+    buffer: BufId,
+    edit: Ghost<E>,
+    outcome: Outcome<B>,
+    payload: &Payload,
+)
+    ensures { deferred.new ≡ Some (record { buffer = buffer; edit = edit; outcome = outcome; parcel = payload.now.parcel }) }
+{
+    *deferred = Some(DeferredOutcome {
+        buffer,
+        edit,
+        outcome,
+        parcel: payload.parcel,
+    });
+}
+
+/// Keeps no outcome.
+#[inline(never)]
+fn forget<E, B: Drop>(deferred: &mut Option<DeferredOutcome<E, B>>)
+    ensures { deferred.new ≡ None }
+{
+    *deferred = None;
 }
 
 /// Whether a call that is passed on is done.

@@ -43,12 +43,12 @@ impl<E: Drop, B: Drop> TicketPhase<E, B> {
         ensures { self.new ≡ hit_by found self.old }
     {
         if let Some(block) = found {
-            match mem::replace(self, TicketPhase::Out) {
+            *self = match mem::replace(self, TicketPhase::Out) {
                 TicketPhase::Waiting { lock, edit, .. } => {
-                    *self = TicketPhase::Holding { lock, edit, block };
+                    TicketPhase::Holding { lock, edit, block }
                 }
-                other => *self = other,
-            }
+                other => other,
+            };
         }
     }
 }
