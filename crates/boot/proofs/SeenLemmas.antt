@@ -1,8 +1,6 @@
 -- Arrays whose items are all of one kind: what is seen after some items.
 use Rattle.std.proofs.Common.{◌≡◌, ℕ, ◌+◌, ◌<◌, ◌≤◌, List, [], ◌∷◌, ◌++◌, length, get_or, map, Option, Some, None, refl, sym, ◌∙◌, ap}
-use Rattle.toml.specs.Data.{Data}
-use Rattle.toml.specs.View.{view, items_of}
-use Rattle.toml.specs.declared.value.Value.{Value}
+use Rattle.toml.specs.{Data.Data, View.view, View.items_of, declared.value.Value.Value}
 use Rattle.event_log.specs.Reading.{all_as}
 use Rattle.event_log.proofs.ReadingLemmas.{with_front, left_as, seen_none, seen_one, seen_other, seen_all}
 use Rattle.boot.specs.Plan.{data_in}

@@ -4,9 +4,8 @@ use Rattle.std.proofs.lemmas.List.Elements.{All-push, All-nil}
 use Rattle.toml.specs.Data.{Members}
 use Rattle.event_log.specs.Reading.{read_from}
 use Rattle.event_log.proofs.ReadingLemmas.{after, left_from, read_none, read_one, read_fault, read_all}
-use Rattle.boot.specs.declared.refusals.BootError.{BootError}
+use Rattle.boot.specs.{declared.refusals.BootError.BootError, Plan.Task, Plan.IsTask, Plan.task_at, Plan.Fails}
 use Rattle.boot.specs.declared.refusals.BootError.TheVariants.{NoMemory, BadToml, MissingKey, OutOfRange, Guest}
-use Rattle.boot.specs.Plan.{Task, IsTask, task_at, Fails}
 
 -- the first `i` tables are threads, in front
 pub record TasksSoFar {X : Type 0} (table : X → Members) (cpus buffers : ℕ) (tables : List X) (i : ℕ) (front : List Task) : Type 0 where

@@ -22,8 +22,7 @@ pub struct Boot {
 }
 
 impl Model for Boot {
-    ghost use Rattle.boot.specs.Plan.{BootPlan, IsPlan};
-    ghost use Rattle.boot.specs.Seen.{tasks_of};
+    ghost use Rattle.boot.specs.{Plan.BootPlan, Plan.IsPlan, Seen.tasks_of};
 
     ghost Value = { BootPlan };
 

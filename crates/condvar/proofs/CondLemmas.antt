@@ -1,44 +1,25 @@
 -- What a poll of a lock with conditions leaves, and why whoever was woken out of a wait stands on no waiting list.
-use Rattle.std.proofs.Common.{◌≡◌, ◌<◌, ◌≤◌, Bool, true, false, ◌&&◌, List, length, slice_set, Option, Some, None, is_some, if◌then◌else◌, refl, ap, ◌∙◌, sym, arith}
+use Rattle.std.proofs.Common.{◌≡◌, ◌<◌, ◌≤◌, Bool, true, false, ◌&&◌, List, length, slice_set, Option, Some, None, is_some, if◌then◌else◌, refl, ap, ◌∙◌, sym}
+use Rattle.std.proofs.Common.{arith}
 use Rattle.std.proofs.lemmas.Option.{slice_get_within}
-use Rattle.event_log.specs.declared.ids.BufId.{BufId}
-use Rattle.event_log.specs.declared.ids.CpuId.{CpuId}
-use Rattle.event_log.specs.declared.ids.LockId.{LockId}
-use Rattle.event_log.specs.declared.ids.LockId.TheVariants.{Buffer}
-use Rattle.event_log.specs.declared.ids.Tid.{Tid}
-use Rattle.event_log.specs.declared.ids.TheConstants.{THREADS}
-use Rattle.event_log.specs.Actions.{Action}
-use Rattle.layer_traits.specs.declared.conditions.CvLeave.TheVariants.{Leave, Wait}
-use Rattle.layer_traits.specs.declared.conditions.CvOut.{CvOut}
-use Rattle.layer_traits.specs.declared.conditions.CvOut.TheVariants as answer
-use Rattle.layer_traits.specs.declared.locked.QEdit.TheVariants.{Acquire, Inside, Release}
-use Rattle.layer_traits.specs.declared.locked.QOut.{QOut}
-use Rattle.layer_traits.specs.declared.locked.QOut.TheVariants.{Acquired, Queued, Did, Released}
-use Rattle.layer_traits.specs.declared.locked.Side.{Side}
-use Rattle.layer_traits.specs.declared.moves.WaitList.{WaitList}
-use Rattle.layer_traits.specs.declared.payloads.Parcel.{Parcel}
-use Rattle.layer_traits.specs.declared.queue_edits.QueueBlock.{QueueBlock}
-use Rattle.layer_traits.specs.declared.queue_edits.QueueEdit.{QueueEdit}
-use Rattle.layer_traits.specs.declared.queues.QueueAnswer.{QueueAnswer}
-use Rattle.layer_traits.specs.declared.queues.QueueEvent.{QueueEvent}
-use Rattle.layer_traits.specs.declared.scheds.SchedCall.{SchedCall}
-use Rattle.layer_traits.specs.declared.sleeps.Outcome.{Outcome}
-use Rattle.layer_traits.specs.Conditions.{MonitorRules, CvCall, cv_rules}
-use Rattle.layer_traits.specs.CvLaw.{CvPolled, MayCallCond, MayWait, Waiting, cv_plan_for, left_reported, left_waiting, waited, waiting_with}
-use Rattle.layer_traits.specs.ListsAgree.{is_at}
-use Rattle.layer_traits.specs.Locking.{LockState, lock_after, lock_caller, wait_list_in}
-use Rattle.layer_traits.specs.LockLaw.{Locking, LockPolled, LocksAgree, MayGo, MayLock, lock_kernel, lock_plan, slept_for}
-use Rattle.layer_traits.specs.MoveRules.{MoveRules}
-use Rattle.layer_traits.specs.Payloads.{cv_meant, cv_told, lock_meant, lock_told, outcome_told, told_by}
-use Rattle.layer_traits.specs.Places.{AreMoves, Stands, Threads, home_of, one_if, wait_channel_of}
-use Rattle.layer_traits.specs.Plans.{Follows, Table}
-use Rattle.layer_traits.specs.QueueBlocks.{homes_in, inner}
-use Rattle.layer_traits.specs.Queues.{Kernel, buffer_sections, moves_in}
-use Rattle.layer_traits.proofs.CallLemmas.{follows_raised}
-use Rattle.layer_traits.proofs.CountLemmas.{not_counted}
-use Rattle.layer_traits.proofs.PlaceLemmas.{current_at}
+use Rattle.event_log.specs.{declared.ids.BufId.BufId, declared.ids.CpuId.CpuId, declared.ids.LockId.LockId, declared.ids.LockId.TheVariants.Buffer}
+use Rattle.event_log.specs.{declared.ids.Tid.Tid, declared.ids.TheConstants.THREADS, Actions.Action}
+use Rattle.layer_traits.specs.declared.{conditions.CvLeave.TheVariants.Leave, conditions.CvLeave.TheVariants.Wait, conditions.CvOut.CvOut}
+use Rattle.layer_traits.specs.declared.{moves.WaitList.WaitList, payloads.Parcel.Parcel, queue_edits.QueueBlock.QueueBlock, queue_edits.QueueEdit.QueueEdit}
+use Rattle.layer_traits.specs.declared.{queues.QueueAnswer.QueueAnswer, queues.QueueEvent.QueueEvent, scheds.SchedCall.SchedCall, sleeps.Outcome.Outcome}
+use Rattle.layer_traits.specs.declared.locked.{QEdit.TheVariants.Acquire, QEdit.TheVariants.Inside, QEdit.TheVariants.Release, QOut.QOut}
+use Rattle.layer_traits.specs.declared.locked.{QOut.TheVariants.Acquired, QOut.TheVariants.Queued, QOut.TheVariants.Did, QOut.TheVariants.Released, Side.Side}
+use Rattle.layer_traits.specs.{Conditions.MonitorRules, Conditions.CvCall, Conditions.cv_rules, CvLaw.CvPolled, CvLaw.MayCallCond, CvLaw.MayWait, CvLaw.Waiting}
+use Rattle.layer_traits.specs.{CvLaw.cv_plan_for, CvLaw.left_reported, CvLaw.left_waiting, CvLaw.waited, CvLaw.waiting_with, ListsAgree.is_at}
+use Rattle.layer_traits.specs.{Locking.LockState, Locking.lock_after, Locking.lock_caller, Locking.wait_list_in, LockLaw.Locking, LockLaw.LockPolled}
+use Rattle.layer_traits.specs.{LockLaw.LocksAgree, LockLaw.MayGo, LockLaw.MayLock, LockLaw.lock_kernel, LockLaw.lock_plan, LockLaw.slept_for}
+use Rattle.layer_traits.specs.{MoveRules.MoveRules, Payloads.cv_meant, Payloads.cv_told, Payloads.lock_meant, Payloads.lock_told, Payloads.outcome_told}
+use Rattle.layer_traits.specs.{Payloads.told_by, Places.AreMoves, Places.Stands, Places.Threads, Places.home_of, Places.one_if, Places.wait_channel_of}
+use Rattle.layer_traits.specs.{Plans.Follows, Plans.Table, QueueBlocks.homes_in, QueueBlocks.inner, Queues.Kernel, Queues.buffer_sections, Queues.moves_in}
+use Rattle.layer_traits.proofs.{CallLemmas.follows_raised, CountLemmas.not_counted, PlaceLemmas.current_at}
 use Rattle.thread_blocks.specs.Queues.{is_in}
 use Rattle.condvar.specs.Waiting.{calls_wait, is_wait, is_waited, is_waiting, side_in}
+use Rattle.layer_traits.specs.declared.conditions.CvOut.TheVariants as answer
 
 -- a thread that runs is one that a machine may have
 pub current_small : (homes : List CpuId) (c : CpuId) (moves : _) (own : Threads) (t : Tid) → AreMoves homes moves → Stands homes c moves own

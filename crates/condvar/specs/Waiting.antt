@@ -1,18 +1,12 @@
 -- Which call waits, on which side, and which answer says that its caller waits now.
 use Rattle.std.specs.Prelude.{Bool, true, false, List, Option, Some, None}
-use Rattle.layer_traits.specs.declared.conditions.CvLeave.TheVariants.{Leave, Wait}
-use Rattle.layer_traits.specs.declared.conditions.CvOut.{CvOut}
-use Rattle.layer_traits.specs.declared.conditions.CvOut.TheVariants as answer
-use Rattle.layer_traits.specs.declared.locked.QEdit.TheVariants.{Acquire, Inside, Release}
-use Rattle.layer_traits.specs.declared.locked.QOut.{QOut}
-use Rattle.layer_traits.specs.declared.locked.QOut.TheVariants.{Acquired, Queued, Did, Released}
-use Rattle.layer_traits.specs.declared.locked.Side.{Side}
-use Rattle.layer_traits.specs.declared.locked.Side.TheVariants.{Receivers}
-use Rattle.layer_traits.specs.declared.sleeps.Outcome.{Outcome}
+use Rattle.layer_traits.specs.{declared.conditions.CvLeave.TheVariants.Leave, declared.conditions.CvLeave.TheVariants.Wait, declared.conditions.CvOut.CvOut}
+use Rattle.layer_traits.specs.{declared.locked.QEdit.TheVariants.Acquire, declared.locked.QEdit.TheVariants.Inside, declared.locked.QEdit.TheVariants.Release}
+use Rattle.layer_traits.specs.{declared.locked.QOut.QOut, declared.locked.QOut.TheVariants.Acquired, declared.locked.QOut.TheVariants.Queued}
+use Rattle.layer_traits.specs.{declared.locked.QOut.TheVariants.Did, declared.locked.QOut.TheVariants.Released, declared.locked.Side.Side}
+use Rattle.layer_traits.specs.{declared.locked.Side.TheVariants.Receivers, declared.sleeps.Outcome.Outcome, Conditions.CvCall, CvLaw.Waiting, LockLaw.Locking}
 use Rattle.event_log.specs.declared.ids.BufId.{BufId}
-use Rattle.layer_traits.specs.Conditions.{CvCall}
-use Rattle.layer_traits.specs.CvLaw.{Waiting}
-use Rattle.layer_traits.specs.LockLaw.{Locking}
+use Rattle.layer_traits.specs.declared.conditions.CvOut.TheVariants as answer
 
 -- the side of a wait; Receivers of a call that is no wait
 abbrev pub side_in : {G : Type 0} → CvCall G → Side

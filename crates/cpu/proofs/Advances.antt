@@ -1,33 +1,18 @@
 -- One step of one CPU of a system keeps what always holds of the system.
-use Rattle.std.proofs.Common.{◌≡◌, ◌≢◌, ◌⊎◌, inl, inr, ℕ, ◌+◌, ◌<◌, ◌≤◌, ◌==◌, Bool, true, false, List, [], ◌∷◌}
-use Rattle.std.proofs.Common.{◌++◌, length, Option, Some, None, refl, ap, sym, ◌∙◌, subst, arith, slice_set}
+use Rattle.std.proofs.Common.{◌≡◌, ◌≢◌, ◌⊎◌, inl, inr, ℕ, ◌+◌, ◌<◌, ◌≤◌, ◌==◌, Bool, true, false, List, [], ◌∷◌, ◌++◌, length, Option, Some, None, refl, ap}
+use Rattle.std.proofs.Common.{sym, ◌∙◌, subst, arith, slice_set}
 use Rattle.std.specs.Prelude.{slice_get, if◌then◌else◌}
 use Rattle.std.specs.List.{AllByRecursion}
-use Rattle.std.proofs.lemmas.Bool.{cases_eq, eqb-false, ne_eqb}
-use Rattle.std.proofs.lemmas.List.{length-append, length-set}
-use Rattle.std.proofs.lemmas.Option.{slice_get_within}
-use Rattle.event_log.specs.declared.entries.Entry.{Entry}
-use Rattle.event_log.specs.declared.ids.CpuId.{CpuId}
-use Rattle.event_log.specs.declared.ids.TheConstants.{CPUS, THREADS}
-use Rattle.event_log.specs.Actions.{Action, cpu_of_action, phase}
-use Rattle.event_log.specs.History.{AreForeign, AreOthers, same_cpu}
-use Rattle.event_log.proofs.Foreign.{phase_others}
-use Rattle.event_log.proofs.Same.{same_cpu_self}
-use Rattle.layer_traits.specs.BufferLaw.{UnderWay, cpu_of_entry}
-use Rattle.layer_traits.specs.OnePlace.{cpu_at}
-use Rattle.layer_traits.specs.Places.{Threads}
-use Rattle.layer_traits.specs.declared.steps.Reason.{Reason}
-use Rattle.layer_traits.specs.declared.steps.Reason.TheVariants.{StepsUsed}
-use Rattle.layer_traits.specs.declared.call_states.CallState.{CallState}
-use Rattle.cpu.specs.declared.guests.Guest.{Guest}
-use Rattle.cpu.specs.Cpus.{ActsGrow, IsCpu, SeenGrows, of_cpu}
-use Rattle.cpu.specs.Claims.{CpuShown, Shown}
-use Rattle.cpu.specs.Systems.{IsAt, IsSystem, halted_in, own_reason, own_reason_in, reason_of, reason_or}
-use Rattle.cpu.proofs.CpuStates.{valid_cpu}
-use Rattle.cpu.proofs.GuestLists.{cpu_same}
-use Rattle.cpu.proofs.ListReads.{all_both, all_by, all_left, all_right, set_again, set_else, set_there}
-use Rattle.cpu.proofs.Schedules.{seen_stays}
-use Rattle.cpu.proofs.Sounding.{Observed}
+use Rattle.std.proofs.lemmas.{Bool.cases_eq, Bool.eqb-false, Bool.ne_eqb, List.length-append, List.length-set, Option.slice_get_within}
+use Rattle.event_log.specs.{declared.entries.Entry.Entry, declared.ids.CpuId.CpuId, declared.ids.TheConstants.CPUS, declared.ids.TheConstants.THREADS}
+use Rattle.event_log.specs.{Actions.Action, Actions.cpu_of_action, Actions.phase, History.AreForeign, History.AreOthers, History.same_cpu}
+use Rattle.event_log.proofs.{Foreign.phase_others, Same.same_cpu_self}
+use Rattle.layer_traits.specs.{BufferLaw.UnderWay, BufferLaw.cpu_of_entry, OnePlace.cpu_at, Places.Threads, declared.steps.Reason.Reason}
+use Rattle.layer_traits.specs.{declared.steps.Reason.TheVariants.StepsUsed, declared.call_states.CallState.CallState}
+use Rattle.cpu.specs.{declared.guests.Guest.Guest, Cpus.ActsGrow, Cpus.IsCpu, Cpus.SeenGrows, Cpus.of_cpu, Claims.CpuShown, Claims.Shown, Systems.IsAt}
+use Rattle.cpu.specs.{Systems.IsSystem, Systems.halted_in, Systems.own_reason, Systems.own_reason_in, Systems.reason_of, Systems.reason_or}
+use Rattle.cpu.proofs.{CpuStates.valid_cpu, GuestLists.cpu_same, ListReads.all_both, ListReads.all_by, ListReads.all_left, ListReads.all_right}
+use Rattle.cpu.proofs.{ListReads.set_again, ListReads.set_else, ListReads.set_there, Schedules.seen_stays, Sounding.Observed}
 
 -- where the holder acts for each CPU that there may be, no effect is foreign
 no_others : (ActsFor : CpuId → Type 0) (others : List Entry) → ((c : CpuId) → c.0 < CPUS → ActsFor c) → AllByRecursion (λ e. e.cpu.0 < CPUS) others

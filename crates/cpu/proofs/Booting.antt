@@ -1,31 +1,17 @@
 -- A CPU and a system before their first step are as they are always to be.
-use Rattle.std.proofs.Common.{◌≡◌, ◌⊎◌, inl, inr, ℕ, zero, suc, ◌+◌, ◌^◌, ◌<◌, ◌≤◌, false, List, [], ◌∷◌, ◌++◌, length}
-use Rattle.std.proofs.Common.{map, cond, drop, replicate, vec_capacity, Option, Some, None, refl, ap, sym, ◌∙◌, subst, arith}
+use Rattle.std.proofs.Common.{◌≡◌, ◌⊎◌, inl, inr, ℕ, zero, suc, ◌+◌, ◌^◌, ◌<◌, ◌≤◌, false, List, [], ◌∷◌, ◌++◌, length, map, cond, drop, replicate}
+use Rattle.std.proofs.Common.{vec_capacity, Option, Some, None, refl, ap, sym, ◌∙◌, subst, arith}
 use Rattle.std.specs.Prelude.{slice_get, slice_index_or}
 use Rattle.std.specs.List.{AllByRecursion}
-use Rattle.std.proofs.lemmas.Bool.{cases_lt}
-use Rattle.std.proofs.lemmas.List.{get_or-replicate, get_or_past, length-replicate}
-use Rattle.std.proofs.lemmas.List.Elements.{All-get_or}
-use Rattle.std.proofs.lemmas.List.Sums.{sum_by-cons}
-use Rattle.std.proofs.lemmas.Option.{get_or_from_slice_get, slice_get_within}
-use Rattle.event_log.specs.declared.entries.Entry.{Entry}
-use Rattle.event_log.specs.declared.ids.CpuId.{CpuId}
-use Rattle.event_log.specs.declared.ids.Tid.{Tid}
-use Rattle.event_log.specs.declared.ids.TheConstants.{CPUS, THREADS}
-use Rattle.event_log.specs.Actions.{Action}
+use Rattle.std.proofs.lemmas.{Bool.cases_lt, List.get_or-replicate, List.get_or_past, List.length-replicate, List.Elements.All-get_or, List.Sums.sum_by-cons}
+use Rattle.std.proofs.lemmas.{Option.get_or_from_slice_get, Option.slice_get_within}
+use Rattle.event_log.specs.{declared.entries.Entry.Entry, declared.ids.CpuId.CpuId, declared.ids.Tid.Tid, declared.ids.TheConstants.CPUS}
+use Rattle.event_log.specs.{declared.ids.TheConstants.THREADS, Actions.Action}
 use Rattle.guest.specs.Calls.{starts}
-use Rattle.layer_traits.specs.declared.call_layers.CallLayer.{Ghosts}
-use Rattle.layer_traits.specs.declared.call_states.CallState.{CallState}
-use Rattle.layer_traits.specs.BufferLaw.{no_call, call_state_of}
-use Rattle.layer_traits.specs.OnePlace.{cpu_at}
-use Rattle.layer_traits.specs.Openings.{AreOpenable}
-use Rattle.layer_traits.specs.Places.{at_boot}
-use Rattle.cpu.specs.declared.cpus.Cpu.{Cpu}
-use Rattle.cpu.specs.declared.guests.Guest.{Guest}
-use Rattle.cpu.specs.Guests.{HasCome, is_begun}
-use Rattle.cpu.specs.Boots.{AreGuests, IsBootedAs}
-use Rattle.cpu.specs.Cpus.{IsCpu, begun_count, guest_at, is_begun_guest}
-use Rattle.cpu.specs.Systems.{IsAt, IsSystem}
+use Rattle.layer_traits.specs.{declared.call_layers.CallLayer.Ghosts, declared.call_states.CallState.CallState, BufferLaw.no_call, BufferLaw.call_state_of}
+use Rattle.layer_traits.specs.{OnePlace.cpu_at, Openings.AreOpenable, Places.at_boot}
+use Rattle.cpu.specs.{declared.cpus.Cpu.Cpu, declared.guests.Guest.Guest, Guests.HasCome, Guests.is_begun, Boots.AreGuests, Boots.IsBootedAs, Cpus.IsCpu}
+use Rattle.cpu.specs.{Cpus.begun_count, Cpus.guest_at, Cpus.is_begun_guest, Systems.IsAt, Systems.IsSystem}
 
 -- a thread that never called
 no_call_at : (t : Tid) → call_state_of (replicate THREADS no_call) t ≡ no_call

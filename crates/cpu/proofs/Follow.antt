@@ -1,31 +1,20 @@
 -- How a guest follows its entries over one poll of its call.
 use Rattle.std.proofs.Common.{◌≡◌, ◌⊎◌, inl, inr, ℕ, List, ◌∷◌, ◌++◌, Option, Some, None, refl, ap, sym, ◌∙◌, subst}
-use Rattle.event_log.specs.declared.entries.Entry.{Entry}
-use Rattle.event_log.specs.declared.entries.Kind.{Kind}
-use Rattle.event_log.specs.declared.entries.Kind.TheVariants as kind
-use Rattle.event_log.specs.declared.ids.BufId.{BufId}
-use Rattle.event_log.specs.declared.ids.CpuId.{CpuId}
-use Rattle.event_log.specs.declared.ids.Tid.{Tid}
-use Rattle.event_log.specs.Messages.{Message}
-use Rattle.event_log.specs.Runs.{Closes, Receives, Sends, group_of}
-use Rattle.guest.specs.declared.instructions.Instruction.{Instruction}
-use Rattle.guest.specs.declared.instructions.Instruction.TheVariants as ins
-use Rattle.guest.specs.declared.instructions.Into.{Into}
-use Rattle.guest.specs.declared.instructions.Source.{Source}
-use Rattle.guest.specs.State.{State, moved_on, next_of, message_from}
-use Rattle.guest.specs.Calls.{IsProgramsCalls, asks, closes, offers, receives, sends}
-use Rattle.layer_traits.specs.declared.calls.Call.{Call}
-use Rattle.layer_traits.specs.declared.calls.Call.TheVariants.{Send, Recv, Close}
-use Rattle.layer_traits.specs.declared.calls.Effect.{Effect}
-use Rattle.layer_traits.specs.declared.calls.Reply.{Reply}
-use Rattle.layer_traits.specs.declared.call_states.CallState.{CallState}
-use Rattle.layer_traits.specs.declared.call_states.Stage.{Stage}
-use Rattle.layer_traits.specs.declared.call_states.Stage.TheVariants as at
+use Rattle.event_log.specs.{declared.entries.Entry.Entry, declared.entries.Kind.Kind, declared.ids.BufId.BufId, declared.ids.CpuId.CpuId, declared.ids.Tid.Tid}
+use Rattle.event_log.specs.{Messages.Message, Runs.Closes, Runs.Receives, Runs.Sends, Runs.group_of}
+use Rattle.guest.specs.{declared.instructions.Instruction.Instruction, declared.instructions.Into.Into, declared.instructions.Source.Source, State.State}
+use Rattle.guest.specs.{State.moved_on, State.next_of, State.message_from, Calls.IsProgramsCalls, Calls.asks, Calls.closes, Calls.offers, Calls.receives}
+use Rattle.guest.specs.{Calls.sends}
+use Rattle.layer_traits.specs.declared.calls.{Call.Call, Call.TheVariants.Send, Call.TheVariants.Recv, Call.TheVariants.Close, Effect.Effect, Reply.Reply}
+use Rattle.layer_traits.specs.declared.call_states.{CallState.CallState, Stage.Stage}
 use Rattle.layer_traits.specs.BufferLaw.{Answered, IsEffectOf, MayPollCall, begun_at, begun_of, buffer_of, entry_of, going, going_at, reply_by, reply_of}
-use Rattle.cpu.specs.declared.guests.GuestStage.{GuestStage}
-use Rattle.cpu.specs.declared.guests.GuestStage.TheVariants.{Idle, Begun, Done, Ended}
-use Rattle.cpu.specs.declared.guests.Todo.TheVariants.{Finish, Calls}
-use Rattle.cpu.specs.Guests.{HasComeIn, IsSettled, after_answer, after_effect, after_received, after_sent, entries_of, fresh_effect, had, stage_after, todo_at}
+use Rattle.cpu.specs.{declared.guests.GuestStage.GuestStage, declared.guests.GuestStage.TheVariants.Idle, declared.guests.GuestStage.TheVariants.Begun}
+use Rattle.cpu.specs.{declared.guests.GuestStage.TheVariants.Done, declared.guests.GuestStage.TheVariants.Ended, declared.guests.Todo.TheVariants.Finish}
+use Rattle.cpu.specs.{declared.guests.Todo.TheVariants.Calls, Guests.HasComeIn, Guests.IsSettled, Guests.after_answer, Guests.after_effect}
+use Rattle.cpu.specs.{Guests.after_received, Guests.after_sent, Guests.entries_of, Guests.fresh_effect, Guests.had, Guests.stage_after, Guests.todo_at}
+use Rattle.event_log.specs.declared.entries.Kind.TheVariants as kind
+use Rattle.guest.specs.declared.instructions.Instruction.TheVariants as ins
+use Rattle.layer_traits.specs.declared.call_states.Stage.TheVariants as at
 
 going_effect : (stage : Stage) (call_state : CallState) (c : Call) → (going_at stage call_state c).call ≡ Some c
     → (going_at stage call_state c).effect ≡ had (begun_at stage call_state.call) call_state.effect

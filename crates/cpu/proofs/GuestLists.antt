@@ -1,25 +1,14 @@
 -- Tables of guests with one guest changed, and the entries of a CPU and of a thread in a grown history.
-use Rattle.std.proofs.Common.{◌≡◌, ◌≢◌, ℕ, zero, suc, ◌+◌, ◌<◌, ◌≤◌, ◌==◌, Bool, true, false, not, List, [], ◌∷◌, ◌++◌, length, slice_index_or}
-use Rattle.std.proofs.Common.{cond, count_by, reverse, get_or, Option, Some, None, option_map, refl, ap, sym, ◌∙◌, subst, arith, slice_set}
-use Rattle.std.proofs.lemmas.Bool.{eq-eqb, ne_eqb}
-use Rattle.std.proofs.lemmas.List.{append-nil, reverse-append, get_or-set_same, get_or-set_other, set-get_or, map-set}
-use Rattle.std.proofs.lemmas.List.Elements.{filter-append}
-use Rattle.std.proofs.lemmas.List.Sums.{sum_by-set}
-use Rattle.std.proofs.lemmas.Option.{same_Some}
-use Rattle.event_log.specs.declared.entries.Entry.{Entry}
-use Rattle.event_log.specs.declared.ids.BufId.{BufId}
-use Rattle.event_log.specs.declared.ids.CpuId.{CpuId}
-use Rattle.event_log.specs.declared.ids.Tid.{Tid}
-use Rattle.event_log.specs.History.{AreOthers, AreForeign}
-use Rattle.layer_traits.specs.declared.calls.Effect.{Effect}
-use Rattle.layer_traits.specs.declared.calls.Reply.{Reply}
-use Rattle.layer_traits.specs.BufferLaw.{cpu_of_entry, entry_of}
-use Rattle.layer_traits.specs.Places.{one_if}
-use Rattle.cpu.specs.declared.guests.Guest.{Guest}
-use Rattle.cpu.specs.declared.guests.GuestStage.{GuestStage}
-use Rattle.cpu.specs.declared.guests.GuestStage.TheVariants.{Idle, Begun, Done, Ended}
-use Rattle.cpu.specs.Guests.{entries_of, fresh_effect, is_begun, is_calling, stage_after}
-use Rattle.cpu.specs.Cpus.{begun_count, guest_at, is_begun_guest, is_over, of_cpu, of_thread, programs_of, with_guest}
+use Rattle.std.proofs.Common.{◌≡◌, ◌≢◌, ℕ, zero, suc, ◌+◌, ◌<◌, ◌≤◌, ◌==◌, Bool, true, false, not, List, [], ◌∷◌, ◌++◌, length, slice_index_or, cond, count_by}
+use Rattle.std.proofs.Common.{reverse, get_or, Option, Some, None, option_map, refl, ap, sym, ◌∙◌, subst, arith, slice_set}
+use Rattle.std.proofs.lemmas.{Bool.eq-eqb, Bool.ne_eqb, Option.same_Some}
+use Rattle.std.proofs.lemmas.List.{append-nil, reverse-append, get_or-set_same, get_or-set_other, set-get_or, map-set, Elements.filter-append, Sums.sum_by-set}
+use Rattle.event_log.specs.{declared.entries.Entry.Entry, declared.ids.BufId.BufId, declared.ids.CpuId.CpuId, declared.ids.Tid.Tid, History.AreOthers}
+use Rattle.event_log.specs.{History.AreForeign}
+use Rattle.layer_traits.specs.{declared.calls.Effect.Effect, declared.calls.Reply.Reply, BufferLaw.cpu_of_entry, BufferLaw.entry_of, Places.one_if}
+use Rattle.cpu.specs.{declared.guests.Guest.Guest, Guests.entries_of, Guests.fresh_effect, Guests.is_begun, Guests.is_calling, Guests.stage_after}
+use Rattle.cpu.specs.{Cpus.begun_count, Cpus.guest_at, Cpus.is_begun_guest, Cpus.is_over, Cpus.of_cpu, Cpus.of_thread, Cpus.programs_of, Cpus.with_guest}
+use Rattle.cpu.specs.declared.guests.GuestStage.{GuestStage, TheVariants.Idle, TheVariants.Begun, TheVariants.Done, TheVariants.Ended}
 use Rattle.guest.specs.declared.instructions.Instruction.{Instruction}
 
 -- a guest's number is within its table

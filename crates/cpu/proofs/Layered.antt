@@ -1,24 +1,15 @@
 -- A CPU over a layer of message calls, by what the layer's laws say of its part, as the lemmas about its steps take it.
 use Rattle.std.proofs.Common.{◌≡◌, false, Some, None, ap, ◌∙◌, subst, refl, arith}
+use Rattle.event_log.specs.{declared.ids.CpuId.CpuId, declared.ids.Tid.Tid, Actions.phase}
+use Rattle.layer_traits.specs.{contracts.call_layers.CallLayer.TheBound.Met, declared.call_layers.CallLaw.Ghosts as LawGhosts}
+use Rattle.layer_traits.specs.{declared.call_layers.CallLayer.Ghosts, Places.AreMoves, Places.Stands, Places.home_of, Plans.is_in_section}
+use Rattle.layer_traits.proofs.PlaceLemmas.{current_at}
+use Rattle.cpu.specs.{declared.cpus.Cpu.Cpu, Cpus.programs_of, CpuSteps.IsCpuAt, CpuSteps.IsTabledAt, CpuSteps.Leaves, Tower.Privates.threads_in}
+use Rattle.cpu.proofs.{CpuStates.valid_cpu, Passing.none_grow, Passing.none_moved, Passing.none_seen, TableCalls.ObservedCpu, TableCalls.ObservedOutset}
+use Rattle.cpu.proofs.{TableCalls.hand_known}
 use borrow.Fn.World.{World}
 use denote.RattleType.{RattleType}
 use mir.Syntax.{Dict}
-use Rattle.event_log.specs.declared.ids.CpuId.{CpuId}
-use Rattle.event_log.specs.declared.ids.Tid.{Tid}
-use Rattle.event_log.specs.Actions.{phase}
-use Rattle.layer_traits.specs.contracts.call_layers.CallLayer.TheBound.{Met}
-use Rattle.layer_traits.specs.declared.call_layers.CallLaw.{Ghosts as LawGhosts}
-use Rattle.layer_traits.specs.declared.call_layers.CallLayer.{Ghosts}
-use Rattle.layer_traits.specs.Places.{AreMoves, Stands, home_of}
-use Rattle.layer_traits.specs.Plans.{is_in_section}
-use Rattle.layer_traits.proofs.PlaceLemmas.{current_at}
-use Rattle.cpu.specs.declared.cpus.Cpu.{Cpu}
-use Rattle.cpu.specs.Cpus.{programs_of}
-use Rattle.cpu.specs.CpuSteps.{IsCpuAt, IsTabledAt, Leaves}
-use Rattle.cpu.specs.Tower.Privates.{threads_in}
-use Rattle.cpu.proofs.CpuStates.{valid_cpu}
-use Rattle.cpu.proofs.Passing.{none_grow, none_moved, none_seen}
-use Rattle.cpu.proofs.TableCalls.{ObservedCpu, ObservedOutset, hand_known}
 
 -- what always holds of a CPU whose part fits the machine; what names the whole state of a part is said of a layer whose polls are actions
 pub record IsLayered {P L M : Type 0} (I : Ghosts P L M) (m : M) (p : Cpu P M) : Type 0 where

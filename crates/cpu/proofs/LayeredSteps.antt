@@ -2,22 +2,12 @@
 use Rattle.std.proofs.Common.{◌≡◌, ℕ, ◌+◌, ◌<◌, List, length, map, Option, Some, slice_set, vec_capacity, subst, ◌∙◌, refl}
 use Rattle.std.specs.Prelude.{slice_get}
 use Rattle.std.specs.List.{AllByRecursion}
-use Rattle.event_log.specs.declared.ids.BufId.{BufId}
-use Rattle.event_log.specs.declared.ids.TheConstants.{CPUS}
-use Rattle.event_log.specs.declared.ids.Tid.{Tid}
-use Rattle.event_log.specs.declared.ids.CpuId.{CpuId}
-use Rattle.layer_traits.specs.declared.call_layers.CallLayer.{Ghosts}
-use Rattle.layer_traits.specs.Places.{Stands}
-use Rattle.cpu.specs.declared.cpus.Cpu.{Cpu}
-use Rattle.cpu.specs.Claims.{CpuShown, cpu_shown}
-use Rattle.cpu.specs.CpuSteps.{IsCpuAt, IsTabledAt, Leaves}
-use Rattle.cpu.specs.Sound.{IsReachedByTable}
-use Rattle.cpu.specs.Cpus.{IsCpu, programs_of}
-use Rattle.cpu.specs.Systems.{IsAt, SamePlan}
-use Rattle.cpu.proofs.Advances.{Holds, Works, stepped}
-use Rattle.cpu.proofs.Sounding.{Observed, shown_in}
-use Rattle.cpu.proofs.ListReads.{shown_at, shown_same, shown_length}
-use Rattle.cpu.proofs.Orders.{Has}
+use Rattle.event_log.specs.declared.ids.{BufId.BufId, TheConstants.CPUS, Tid.Tid, CpuId.CpuId}
+use Rattle.layer_traits.specs.{declared.call_layers.CallLayer.Ghosts, Places.Stands}
+use Rattle.cpu.specs.{declared.cpus.Cpu.Cpu, Claims.CpuShown, Claims.cpu_shown, CpuSteps.IsCpuAt, CpuSteps.IsTabledAt, CpuSteps.Leaves, Sound.IsReachedByTable}
+use Rattle.cpu.specs.{Cpus.IsCpu, Cpus.programs_of, Systems.IsAt, Systems.SamePlan}
+use Rattle.cpu.proofs.{Advances.Holds, Advances.Works, Advances.stepped, Sounding.Observed, Sounding.shown_in, ListReads.shown_at, ListReads.shown_same}
+use Rattle.cpu.proofs.{ListReads.shown_length, Orders.Has}
 
 -- what a CPU shows
 abbrev pub shown_by : {P L M : Type 0} → Ghosts P L M → Cpu P M → CpuShown

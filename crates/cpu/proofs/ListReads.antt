@@ -1,12 +1,11 @@
 -- Reads and writes of lists by their index.
-use Rattle.std.proofs.Common.{◌≡◌, ℕ, zero, suc, ◌+◌, ◌<◌, List, [], ◌∷◌, ◌++◌, length, map}
-use Rattle.std.proofs.Common.{reverse, Some, option_map, refl, ap, sym, ◌∙◌, subst, arith, slice_set}
+use Rattle.std.proofs.Common.{◌≡◌, ℕ, zero, suc, ◌+◌, ◌<◌, List, [], ◌∷◌, ◌++◌, length, map, reverse, Some, option_map, refl, ap, sym, ◌∙◌, subst, arith}
+use Rattle.std.proofs.Common.{slice_set}
 use Rattle.std.specs.Prelude.{slice_get, slice_index_or}
 use Rattle.std.specs.List.{AllByRecursion}
-use Rattle.std.proofs.lemmas.List.{reverse-append, length-map, length-set}
-use Rattle.std.proofs.lemmas.Option.{slice_get-map, slice_get_read}
-pub use Rattle.event_log.proofs.ListLemmas.{set_else, set_there, there_is}
+use Rattle.std.proofs.lemmas.{List.reverse-append, List.length-map, List.length-set, Option.slice_get-map, Option.slice_get_read}
 use Rattle.cpu.specs.Claims.{listed}
+pub use Rattle.event_log.proofs.ListLemmas.{set_else, set_there, there_is}
 
 -- a write of what stands there changes nothing
 pub set_again : {X : Type 0} (xs : List X) (i : ℕ) (x : X) → slice_get xs i ≡ Some x → slice_set xs i x ≡ xs

@@ -1,20 +1,12 @@
 -- What the machine and the parts of a system tell of its buffers and of where its threads stand: some of them tells.
 use Rattle.std.proofs.Common.{◌≡◌, ◌⊎◌, inl, inr, ℕ, ◌+◌, ◌<◌, ◌≤◌, List, length, Option, Some, None, refl, ap, sym, ◌∙◌, subst, arith}
 use Rattle.std.specs.Prelude.{slice_get, slice_index_or}
-use Rattle.std.proofs.lemmas.Bool.{cases_eq, cases_lt}
-use Rattle.std.proofs.lemmas.Option.{slice_get_read, slice_get_within}
-use Rattle.event_log.specs.declared.ids.CpuId.{CpuId}
-use Rattle.event_log.specs.declared.ids.Tid.{Tid}
-use Rattle.event_log.specs.declared.ids.TheConstants.{CPUS}
-use Rattle.layer_traits.specs.declared.calls.Place.{Place}
-use Rattle.layer_traits.specs.declared.call_layers.CallLayer.{Ghosts}
-use Rattle.layer_traits.specs.OnePlace.{cpu_at}
-use Rattle.layer_traits.specs.Owned.{IsHeld}
-use Rattle.layer_traits.specs.Places.{AreMoves, Step, home_of, where_is}
-use Rattle.layer_traits.specs.Observed.{IsOwnPlace, MayObserve, ReadsPlace}
+use Rattle.std.proofs.lemmas.{Bool.cases_eq, Bool.cases_lt, Option.slice_get_read, Option.slice_get_within}
+use Rattle.event_log.specs.declared.ids.{CpuId.CpuId, Tid.Tid, TheConstants.CPUS}
+use Rattle.layer_traits.specs.{declared.calls.Place.Place, declared.call_layers.CallLayer.Ghosts, OnePlace.cpu_at, Owned.IsHeld, Places.AreMoves, Places.Step}
+use Rattle.layer_traits.specs.{Places.home_of, Places.where_is, Observed.IsOwnPlace, Observed.MayObserve, Observed.ReadsPlace}
 use Rattle.layer_traits.proofs.PlaceLemmas.{hand_home}
-use Rattle.cpu.specs.declared.cpus.Cpu.{Cpu}
-use Rattle.cpu.specs.Claims.{CpuShown}
+use Rattle.cpu.specs.{declared.cpus.Cpu.Cpu, Claims.CpuShown}
 use Rattle.cpu.proofs.ListReads.{there_is}
 
 -- a CPU that may hold a lock is one of the first n, if no other may

@@ -1,42 +1,22 @@
 -- What a system tells is what the step table has: its blocks, by the actions of all CPUs, and each CPU's threads.
 use Rattle.std.proofs.Common.{◌≡◌, inl, ℕ, ◌<◌, false, List, [], length, map, Option, Some, None, option_map, slice_index, refl, ap, sym, ◌∙◌}
 use Rattle.std.specs.Prelude.{slice_get}
-use Rattle.event_log.specs.declared.entries.Kind.{Kind}
-use Rattle.event_log.specs.declared.ids.BufId.{BufId}
-use Rattle.event_log.specs.declared.ids.CpuId.{CpuId}
-use Rattle.event_log.specs.declared.ids.LockId.{LockId}
-use Rattle.event_log.specs.declared.ids.LockId.TheVariants.{Buffer as AtBuffer, Pending}
-use Rattle.event_log.specs.declared.ids.Tid.{Tid}
-use Rattle.event_log.specs.Actions.{Action}
-use Rattle.event_log.specs.Buffers.{items_of}
-use Rattle.event_log.specs.Messages.{Message}
-use Rattle.event_log.specs.Runs.{is_closed}
-use Rattle.event_log.specs.Sections.{block_after, sections_in}
+use Rattle.event_log.specs.{declared.entries.Kind.Kind, declared.ids.BufId.BufId, declared.ids.CpuId.CpuId, declared.ids.LockId.LockId}
+use Rattle.event_log.specs.{declared.ids.LockId.TheVariants.Buffer as AtBuffer, declared.ids.LockId.TheVariants.Pending, declared.ids.Tid.Tid, Actions.Action}
+use Rattle.event_log.specs.{Buffers.items_of, Messages.Message, Runs.is_closed, Sections.block_after, Sections.sections_in}
 use Rattle.event_log.proofs.Renaming.{sections_in_renamed}
 use Rattle.layer_traits.specs.declared.moves.WaitList.TheVariants.{Receivers, Senders, Sleepers}
-use Rattle.layer_traits.specs.declared.queue_edits.QueueBlock.TheVariants as block
-use Rattle.layer_traits.specs.Acted.{ItemsAre, MovesAre, guarded, owner_after}
-use Rattle.layer_traits.specs.BufferEffects.{contents_of}
-use Rattle.layer_traits.specs.BufferProtocol.{BufferLock}
-use Rattle.layer_traits.specs.Locking.{wait_list_in, owner_in}
-use Rattle.layer_traits.specs.Places.{pending_by}
-use Rattle.layer_traits.specs.QueueBlocks.{above_of, with_queue}
+use Rattle.layer_traits.specs.{Acted.ItemsAre, Acted.MovesAre, Acted.guarded, Acted.owner_after, BufferEffects.contents_of, BufferProtocol.BufferLock}
+use Rattle.layer_traits.specs.{Locking.wait_list_in, Locking.owner_in, Places.pending_by, QueueBlocks.above_of, QueueBlocks.with_queue}
 use Rattle.layer_traits.proofs.PlanRenaming.{block_viewed}
-use Rattle.cpu.specs.Claims.{WaitersAgree, CpuShown, Shown, waiters_by, buffer_at, no_waiters}
-use Rattle.cpu.specs.Sound.{IsSetupFor, SoundByTable}
-use Rattle.cpu.specs.Table.Blocks.{Buffer, OfBuffer, OfPending, stands_in}
-use Rattle.cpu.specs.Table.Edits.{edited, kernel}
-use Rattle.cpu.specs.Table.Setups.{Setup, opening as table_opening, opening_buffer}
-use Rattle.cpu.specs.Table.Steps.{block_at}
-use Rattle.cpu.specs.Tables.{bare}
-use Rattle.cpu.specs.Observed.{AllowsNow, BufferIsObserved, HasBuffer, IsAwake}
-use Rattle.cpu.specs.Tower.Composed.{OpensAs, named}
-use Rattle.cpu.specs.Tower.Views.{TowerBlock, TowerName, answer_view, buffer_view, name_of, tower, view}
-use Rattle.cpu.specs.Wakeups.Lost.{Allows, NoWakeUpIsLost}
-use Rattle.cpu.proofs.ListReads.{listed_there}
-use Rattle.cpu.proofs.Sounding.{Observed, shown_in}
-use Rattle.cpu.proofs.Tower.Polls.{opens_alike}
-use Rattle.cpu.proofs.Tower.Viewed.{tables_agree}
+use Rattle.cpu.specs.{Claims.WaitersAgree, Claims.CpuShown, Claims.Shown, Claims.waiters_by, Claims.buffer_at, Claims.no_waiters, Sound.IsSetupFor}
+use Rattle.cpu.specs.{Sound.SoundByTable, Table.Blocks.Buffer, Table.Blocks.OfBuffer, Table.Blocks.OfPending, Table.Blocks.stands_in, Table.Edits.edited}
+use Rattle.cpu.specs.{Table.Edits.kernel, Table.Setups.Setup, Table.Setups.opening as table_opening, Table.Setups.opening_buffer, Table.Steps.block_at}
+use Rattle.cpu.specs.{Tables.bare, Observed.AllowsNow, Observed.BufferIsObserved, Observed.HasBuffer, Observed.IsAwake, Tower.Composed.OpensAs}
+use Rattle.cpu.specs.{Tower.Composed.named, Tower.Views.TowerBlock, Tower.Views.TowerName, Tower.Views.answer_view, Tower.Views.buffer_view}
+use Rattle.cpu.specs.{Tower.Views.name_of, Tower.Views.tower, Tower.Views.view, Wakeups.Lost.Allows, Wakeups.Lost.NoWakeUpIsLost}
+use Rattle.cpu.proofs.{ListReads.listed_there, Sounding.Observed, Sounding.shown_in, Tower.Polls.opens_alike, Tower.Viewed.tables_agree}
+use Rattle.layer_traits.specs.declared.queue_edits.QueueBlock.TheVariants as block
 
 -- the table's block of a lock is the view of the layers'
 pub block_read : (setup : Setup) (opening : LockId → Option TowerBlock) (acts : List (Action TowerName)) (lock : LockId)

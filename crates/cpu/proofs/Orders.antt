@@ -1,34 +1,21 @@
 -- What always holds of a system says that its calls have one order, that each thread follows its program, and that entries stay at home.
-use Rattle.std.proofs.Common.{◌≡◌, ◌≢◌, ◌⊎◌, inl, inr, ℕ, zero, suc, ◌<◌, ◌≤◌, ◌==◌, ◌&&◌, Bool, true, false, nat_lt, List, [], ◌∷◌}
-use Rattle.std.proofs.Common.{◌++◌, length, map, reverse, Option, Some, refl, ap, sym, ◌∙◌, subst, arith, slice_set}
+use Rattle.std.proofs.Common.{◌≡◌, ◌≢◌, ◌⊎◌, inl, inr, ℕ, zero, suc, ◌<◌, ◌≤◌, ◌==◌, ◌&&◌, Bool, true, false, nat_lt, List, [], ◌∷◌, ◌++◌, length, map, reverse}
+use Rattle.std.proofs.Common.{Option, Some, refl, ap, sym, ◌∙◌, subst, arith, slice_set}
 use Rattle.std.specs.Prelude.{filter, slice_get, slice_index_or}
 use Rattle.std.specs.List.{AllByRecursion}
-use Rattle.std.proofs.lemmas.Bool.{cases_eq, cases_lt, eq-eqb, ne_eqb}
-use Rattle.std.proofs.lemmas.List.{append-nil, reverse-append, reverse-reverse, length-map, length-set, get_or_past, get_or-set_same, get_or-set_other}
-use Rattle.std.proofs.lemmas.List.Elements.{filter-append}
-use Rattle.std.proofs.lemmas.Option.{slice_get-get_or}
-use Rattle.event_log.specs.declared.entries.Entry.{Entry}
-use Rattle.event_log.specs.declared.entries.Kind.TheVariants.{Close}
-use Rattle.event_log.specs.declared.ids.CpuId.{CpuId}
-use Rattle.event_log.specs.declared.ids.Tid.{Tid}
-use Rattle.event_log.specs.Runs.{is_closed, kind_eq}
-use Rattle.event_log.specs.Traces.{IsInterleaving}
+use Rattle.std.proofs.lemmas.{Bool.cases_eq, Bool.cases_lt, Bool.eq-eqb, Bool.ne_eqb, List.append-nil, List.reverse-append, List.reverse-reverse}
+use Rattle.std.proofs.lemmas.{List.length-map, List.length-set, List.get_or_past, List.get_or-set_same, List.get_or-set_other, List.Elements.filter-append}
+use Rattle.std.proofs.lemmas.{Option.slice_get-get_or}
+use Rattle.event_log.specs.{declared.entries.Entry.Entry, declared.entries.Kind.TheVariants.Close, declared.ids.CpuId.CpuId, declared.ids.Tid.Tid}
+use Rattle.event_log.specs.{Runs.is_closed, Runs.kind_eq, Traces.IsInterleaving}
 use Rattle.thread_blocks.specs.Queues.{is_in}
-use Rattle.guest.specs.Calls.{IsProgramsCalls, HasEnded}
-use Rattle.guest.specs.State.{State}
-use Rattle.layer_traits.specs.declared.calls.Call.{Call}
-use Rattle.layer_traits.specs.declared.calls.Effect.{Effect}
-use Rattle.layer_traits.specs.declared.call_states.CallState.{CallState}
-use Rattle.layer_traits.specs.BufferLaw.{UnderWay, begun_of, call_state_of}
-use Rattle.layer_traits.specs.OnePlace.{cpu_at}
-use Rattle.layer_traits.specs.Places.{Stands, Step}
+use Rattle.guest.specs.{Calls.IsProgramsCalls, Calls.HasEnded, State.State}
+use Rattle.layer_traits.specs.{declared.calls.Call.Call, declared.calls.Effect.Effect, declared.call_states.CallState.CallState, BufferLaw.UnderWay}
+use Rattle.layer_traits.specs.{BufferLaw.begun_of, BufferLaw.call_state_of, OnePlace.cpu_at, Places.Stands, Places.Step}
 use Rattle.layer_traits.proofs.EffectRunLemmas.{count_reversed}
-use Rattle.cpu.specs.declared.guests.Guest.{Guest}
-use Rattle.cpu.specs.declared.guests.GuestStage.{GuestStage}
+use Rattle.cpu.specs.{declared.guests.Guest.Guest, declared.guests.GuestStage.GuestStage, Guests.HasComeIn, Guests.is_ended, Cpus.IsCpu, Cpus.IsOfHome}
+use Rattle.cpu.specs.{Cpus.guest_at, Cpus.of_cpu, Cpus.of_thread, Claims.CpuShown, Claims.Keeps, Claims.listed}
 use Rattle.cpu.specs.declared.guests.GuestStage.TheVariants.{Idle, Begun, Done, Ended}
-use Rattle.cpu.specs.Guests.{HasComeIn, is_ended}
-use Rattle.cpu.specs.Cpus.{IsCpu, IsOfHome, guest_at, of_cpu, of_thread}
-use Rattle.cpu.specs.Claims.{CpuShown, Keeps, listed}
 use Rattle.cpu.proofs.ListReads.{all_reversed, listed_there, there_is}
 
 -- what a test picks of a list turned round

@@ -1,25 +1,15 @@
 -- What a step leaves beside the guests: how effects and actions grow, and the steps in which no guest's call goes on.
 use Rattle.std.proofs.Common.{◌≡◌, ◌==◌, Bool, true, false, List, [], ◌∷◌, ◌++◌, Option, Some, None, is_some, refl, ap, ◌∙◌, arith}
 use Rattle.std.specs.List.{AllByRecursion}
-use Rattle.event_log.specs.declared.entries.Entry.{Entry}
-use Rattle.event_log.specs.declared.ids.CpuId.{CpuId}
-use Rattle.event_log.specs.declared.ids.LockId.{LockId}
-use Rattle.event_log.specs.declared.ids.Tid.{Tid}
+use Rattle.event_log.specs.declared.{entries.Entry.Entry, ids.CpuId.CpuId, ids.LockId.LockId, ids.Tid.Tid}
 use Rattle.event_log.specs.Actions.{Action, Try, Phase, Rests, Waits, Holds, action_in, cpu_of_action, gives, phase, spot_of}
-use Rattle.layer_traits.specs.declared.calls.Call.{Call}
-use Rattle.layer_traits.specs.declared.calls.Effect.{Effect}
-use Rattle.layer_traits.specs.declared.calls.Reply.{Reply}
-use Rattle.layer_traits.specs.declared.call_states.CallState.{CallState}
-use Rattle.layer_traits.specs.Looks.{Tries}
-use Rattle.layer_traits.specs.Places.{Step, Threads}
-use Rattle.layer_traits.specs.Plans.{Plan, Table, Left, Now, Act, Follows}
-use Rattle.layer_traits.specs.BufferLaw.{Called, MovesGrow, OthersSeen, Passing, buffer_of, entry_of, still_passing}
-use Rattle.layer_traits.specs.declared.passes.Pass.{Pass}
+use Rattle.layer_traits.specs.{declared.calls.Call.Call, declared.calls.Effect.Effect, declared.calls.Reply.Reply, declared.call_states.CallState.CallState}
+use Rattle.layer_traits.specs.{Looks.Tries, Places.Step, Places.Threads, Plans.Plan, Plans.Table, Plans.Left, Plans.Now, Plans.Act, Plans.Follows}
+use Rattle.layer_traits.specs.{BufferLaw.Called, BufferLaw.MovesGrow, BufferLaw.OthersSeen, BufferLaw.Passing, BufferLaw.buffer_of, BufferLaw.entry_of}
+use Rattle.layer_traits.specs.{BufferLaw.still_passing, declared.passes.Pass.Pass, Passes.PassPolled, Passes.pass_steps}
 use Rattle.layer_traits.specs.declared.passes.Pass.TheVariants.{Switch, YieldNow, Drain, MakeReady, End}
-use Rattle.layer_traits.specs.Passes.{PassPolled, pass_steps}
-use Rattle.cpu.specs.declared.guests.Guest.{Guest}
-use Rattle.cpu.specs.Guests.{after_pass, entries_of}
-use Rattle.cpu.specs.Cpus.{ActsGrow, SeenGrows, of_cpu, passed_by, programs_of}
+use Rattle.cpu.specs.{declared.guests.Guest.Guest, Guests.after_pass, Guests.entries_of, Cpus.ActsGrow, Cpus.SeenGrows, Cpus.of_cpu, Cpus.passed_by}
+use Rattle.cpu.specs.{Cpus.programs_of}
 use Rattle.cpu.proofs.GuestLists.{cpu_same, programs_with}
 
 -- an action that is due to a CPU is its own

@@ -1,42 +1,24 @@
 -- The place that a system tells of a thread is where the thread stands in the table's own lists.
 use Rattle.std.proofs.Common.{◌≡◌, ℕ, ◌<◌, Bool, true, false, List, length, Option, Some, refl, ap, sym, ◌∙◌, subst, arith, inl, inr}
 use Rattle.std.specs.Prelude.{slice_get, slice_index_or}
-use Rattle.std.proofs.lemmas.Bool.{and_parts}
-use Rattle.std.proofs.lemmas.List.{length-map}
-use Rattle.std.proofs.lemmas.Option.{same_Some}
-use Rattle.event_log.specs.declared.entries.Entry.{Entry}
-use Rattle.event_log.specs.declared.ids.BufId.{BufId}
-use Rattle.event_log.specs.declared.ids.CpuId.{CpuId}
-use Rattle.event_log.specs.declared.ids.LockId.TheVariants as lock
-use Rattle.event_log.specs.declared.ids.LockId.TheVariants.{Buffer as AtBuffer}
-use Rattle.event_log.specs.declared.ids.Tid.{Tid}
+use Rattle.std.proofs.lemmas.{Bool.and_parts, List.length-map, Option.same_Some}
+use Rattle.event_log.specs.declared.{entries.Entry.Entry, ids.BufId.BufId, ids.CpuId.CpuId, ids.LockId.TheVariants.Buffer as AtBuffer, ids.Tid.Tid}
 use Rattle.event_log.proofs.Same.{same_cpu_self}
 use Rattle.thread_blocks.specs.Queues.{is_in}
-use Rattle.layer_traits.specs.declared.calls.Place.{Place}
+use Rattle.layer_traits.specs.{declared.calls.Place.Place, declared.moves.WaitList.WaitList, declared.moves.WaitList.TheVariants.Sleepers}
+use Rattle.layer_traits.specs.{declared.moves.WaitList.TheVariants.Receivers, declared.moves.WaitList.TheVariants.Senders, BufferLaw.Buffering}
+use Rattle.layer_traits.specs.{IpcLaw.WaitListsAgree, ListsAgree.is_at, OnePlace.cpu_at, Passes.or_else, Observed.IsOwnPlace, Observed.queue_place}
+use Rattle.layer_traits.specs.Places.{Asleep, At, Hand, Home, Pend, Stands, Step, Threads, Where, wait_channel_of, copies, home_of, is_cpu, is_here, is_home}
+use Rattle.layer_traits.specs.Places.{is_pend, one_if, pending_by, where_is}
+use Rattle.layer_traits.proofs.{CountLemmas.in_counted, CountLemmas.is_cpu_true, ListsLemmas.wait_channel_here, ListsLemmas.counted_in, PlaceLemmas.pend_count}
+use Rattle.layer_traits.proofs.{PlaceLemmas.pend_home}
+use Rattle.cpu.specs.{declared.guests.Guest.Guest, Claims.WaitersAgree, Claims.CpuShown, Claims.IsPlaceOf, Claims.MovesAgree, Claims.Shown, Claims.waiters_at}
+use Rattle.cpu.specs.{Claims.waiters_by, Claims.listed, Claims.no_waiters, Systems.whole_of, Table.Setups.Private, Table.Setups.Setup, Table.Setups.Thread}
+use Rattle.cpu.specs.{Table.Setups.thread_at, Table.Setups.home_of as table_home, Tables.private, Tables.state_of, Tables.states, Observed.CpuHas}
+use Rattle.cpu.specs.{Observed.CpuIsObserved, Observed.HasBuffer, Observed.IsPlaceByTable, Tower.Privates.threads_in}
+use Rattle.cpu.proofs.{ListReads.listed_there, ListReads.shows_at, ListReads.there_is, Tower.Begins.thread_here}
+use Rattle.event_log.specs.declared.ids.LockId.TheVariants as lock
 use Rattle.layer_traits.specs.declared.calls.Place.TheVariants as place
-use Rattle.layer_traits.specs.declared.moves.WaitList.{WaitList}
-use Rattle.layer_traits.specs.declared.moves.WaitList.TheVariants.{Sleepers, Receivers, Senders}
-use Rattle.layer_traits.specs.BufferLaw.{Buffering}
-use Rattle.layer_traits.specs.IpcLaw.{WaitListsAgree}
-use Rattle.layer_traits.specs.ListsAgree.{is_at}
-use Rattle.layer_traits.specs.OnePlace.{cpu_at}
-use Rattle.layer_traits.specs.Passes.{or_else}
-use Rattle.layer_traits.specs.Places.{Asleep, At, Hand, Home, Pend, Stands, Step, Threads, Where, wait_channel_of, copies, home_of, is_cpu, is_here}
-use Rattle.layer_traits.specs.Places.{is_home, is_pend, one_if, pending_by, where_is}
-use Rattle.layer_traits.specs.Observed.{IsOwnPlace, queue_place}
-use Rattle.layer_traits.proofs.CountLemmas.{in_counted, is_cpu_true}
-use Rattle.layer_traits.proofs.ListsLemmas.{wait_channel_here, counted_in}
-use Rattle.layer_traits.proofs.PlaceLemmas.{pend_count, pend_home}
-use Rattle.cpu.specs.declared.guests.Guest.{Guest}
-use Rattle.cpu.specs.Claims.{WaitersAgree, CpuShown, IsPlaceOf, MovesAgree, Shown, waiters_at, waiters_by, listed, no_waiters}
-use Rattle.cpu.specs.Systems.{whole_of}
-use Rattle.cpu.specs.Table.Setups.{Private, Setup, Thread, thread_at}
-use Rattle.cpu.specs.Table.Setups.{home_of as table_home}
-use Rattle.cpu.specs.Tables.{private, state_of, states}
-use Rattle.cpu.specs.Observed.{CpuHas, CpuIsObserved, HasBuffer, IsPlaceByTable}
-use Rattle.cpu.specs.Tower.Privates.{threads_in}
-use Rattle.cpu.proofs.ListReads.{listed_there, shows_at, there_is}
-use Rattle.cpu.proofs.Tower.Begins.{thread_here}
 
 -- a thread has ended in the table exactly where its part has it among those that have ended
 pub ended_is : (own : Buffering) (guests : List (Option Guest)) (trace : List Entry) (t : Tid) → t.0 < length guests

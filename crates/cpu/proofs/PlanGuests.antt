@@ -1,25 +1,17 @@
 -- The guests, the homes and the capacities of a plan open a system.
-use Rattle.std.proofs.Common.{◌≡◌, ◌≢◌, ◌⊎◌, inl, inr, ℕ, zero, suc, ◌+◌, ◌<◌, ◌≤◌, ◌==◌, Bool, true, false, List, [], ◌∷◌}
-use Rattle.std.proofs.Common.{◌++◌, length, map, replicate, take, Option, Some, None, refl, ap, sym, ◌∙◌, subst, arith}
+use Rattle.std.proofs.Common.{◌≡◌, ◌≢◌, ◌⊎◌, inl, inr, ℕ, zero, suc, ◌+◌, ◌<◌, ◌≤◌, ◌==◌, Bool, true, false, List, [], ◌∷◌, ◌++◌, length, map, replicate, take}
+use Rattle.std.proofs.Common.{Option, Some, None, refl, ap, sym, ◌∙◌, subst, arith}
 use Rattle.std.specs.Prelude.{All, IsTrue, slice_get, slice_index_or, if◌then◌else◌}
-use Rattle.std.proofs.lemmas.Bool.{cases_lt, eq-eqb, eqb-true, ne_eqb}
-use Rattle.std.proofs.lemmas.List.{get_or_past, length-map, map-append, take_more}
-use Rattle.std.proofs.lemmas.List.Elements.{All-from_get_or, All-get_or, All-map}
-use Rattle.std.proofs.lemmas.Option.{get_or_from_slice_get, slice_get_within, unwrap_or-slice_get}
+use Rattle.std.proofs.lemmas.{Bool.cases_lt, Bool.eq-eqb, Bool.eqb-true, Bool.ne_eqb, List.get_or_past, List.length-map, List.map-append, List.take_more}
+use Rattle.std.proofs.lemmas.{List.Elements.All-from_get_or, List.Elements.All-get_or, List.Elements.All-map, Option.get_or_from_slice_get}
+use Rattle.std.proofs.lemmas.{Option.slice_get_within, Option.unwrap_or-slice_get}
 use Rattle.event_log.specs.declared.ids.CpuId.{CpuId}
-use Rattle.guest.specs.declared.instructions.Instruction.{Instruction}
-use Rattle.guest.specs.declared.instructions.Instruction.TheVariants.{Exit}
-use Rattle.guest.specs.Instructions.{names_below}
+use Rattle.guest.specs.{declared.instructions.Instruction.Instruction, declared.instructions.Instruction.TheVariants.Exit, Instructions.names_below}
 use Rattle.boot.specs.Plan.{IsPlan, IsTask, BootPlan, Task, home_of as plan_home, program_of}
-use Rattle.layer_traits.specs.OnePlace.{cpu_at}
-use Rattle.layer_traits.specs.Openings.{AreOpenable}
-use Rattle.cpu.specs.declared.guests.Guest.{Guest}
-use Rattle.cpu.specs.Guests.{new_guest}
-use Rattle.cpu.specs.Boots.{AreGuests, AreTables, guest_for, guests_for, homes_for, tables_for}
-use Rattle.cpu.specs.Claims.{listed}
-use Rattle.cpu.specs.Cpus.{NamesBelow, guest_at}
-use Rattle.cpu.proofs.GuestLists.{guest_within}
-use Rattle.cpu.proofs.ListReads.{listed_length, listed_there, shown_at, shows_at, there_is}
+use Rattle.layer_traits.specs.{OnePlace.cpu_at, Openings.AreOpenable}
+use Rattle.cpu.specs.{declared.guests.Guest.Guest, Guests.new_guest, Boots.AreGuests, Boots.AreTables, Boots.guest_for, Boots.guests_for, Boots.homes_for}
+use Rattle.cpu.specs.{Boots.tables_for, Claims.listed, Cpus.NamesBelow, Cpus.guest_at}
+use Rattle.cpu.proofs.{GuestLists.guest_within, ListReads.listed_length, ListReads.listed_there, ListReads.shown_at, ListReads.shows_at, ListReads.there_is}
 
 -- a program that names none but the first buffers does so in each line
 names_in_lines : (buffers : ℕ) (program : List Instruction) → All (λ i. IsTrue (names_below buffers i)) program → NamesBelow buffers program

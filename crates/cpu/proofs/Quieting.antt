@@ -1,23 +1,17 @@
 -- When nobody is pending: by the places of the threads, and by the pending queues.
 use Rattle.std.proofs.Common.{◌≡◌, ◌≢◌, ◌⊎◌, inl, inr, ℕ, ◌+◌, ◌<◌, Bool, true, false, ◌||◌, List, [], ◌∷◌, length, refl, ap, sym, ◌∙◌, subst, arith}
-use Rattle.std.proofs.lemmas.Bool.{and_right, cases_eq}
-use Rattle.std.proofs.lemmas.Option.{slice_get_within, same_Some}
-use Rattle.event_log.specs.declared.ids.CpuId.{CpuId}
-use Rattle.event_log.specs.declared.ids.Tid.{Tid}
-use Rattle.event_log.specs.declared.ids.LockId.TheVariants.{Pending}
+use Rattle.std.proofs.lemmas.{Bool.and_right, Bool.cases_eq, Option.slice_get_within, Option.same_Some}
+use Rattle.event_log.specs.declared.ids.{CpuId.CpuId, Tid.Tid, LockId.TheVariants.Pending}
 use Rattle.event_log.proofs.Same.{same_cpu_self}
 use Rattle.thread_blocks.specs.Queues.{is_in}
 use Rattle.thread_blocks.proofs.Members.{same_tid_self}
-use Rattle.layer_traits.specs.declared.calls.Place.{Place}
+use Rattle.layer_traits.specs.{declared.calls.Place.Place, OnePlace.cpu_at, Places.AreMoves, Places.Hand, Places.Pend, Places.Stands, Places.Step}
+use Rattle.layer_traits.specs.{Places.Threads, Places.count_in, Places.home_of, Places.is_cpu, Places.is_hand, Places.is_home, Places.is_pend, Places.is_thread}
+use Rattle.layer_traits.specs.{Places.one_if, Places.pending_by, Places.where_is, Observed.IsOwnPlace, Observed.queue_place}
+use Rattle.layer_traits.proofs.{CountLemmas.in_counted, CountLemmas.is_thread_self, PlaceLemmas.hand_at, PlaceLemmas.pend_count, PlaceLemmas.pend_home}
+use Rattle.layer_traits.proofs.{PlaceLemmas.pend_where}
+use Rattle.cpu.specs.{Calm.AllQueuesEmpty, Claims.IsPlaceOf, Claims.MovesAgree, Claims.Shown}
 use Rattle.layer_traits.specs.declared.calls.Place.TheVariants as place
-use Rattle.layer_traits.specs.OnePlace.{cpu_at}
-use Rattle.layer_traits.specs.Places.{AreMoves, Hand, Pend, Stands, Step, Threads, count_in, home_of, is_cpu, is_hand, is_home}
-use Rattle.layer_traits.specs.Places.{is_pend, is_thread, one_if, pending_by, where_is}
-use Rattle.layer_traits.specs.Observed.{IsOwnPlace, queue_place}
-use Rattle.layer_traits.proofs.CountLemmas.{in_counted, is_thread_self}
-use Rattle.layer_traits.proofs.PlaceLemmas.{hand_at, pend_count, pend_home, pend_where}
-use Rattle.cpu.specs.Calm.{AllQueuesEmpty}
-use Rattle.cpu.specs.Claims.{IsPlaceOf, MovesAgree, Shown}
 
 pub clash : {A : Type 0} (b : Bool) → b ≡ true → b ≡ false → A
 clash b on off = absurd (cc (on, off))

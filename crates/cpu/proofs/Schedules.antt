@@ -1,35 +1,26 @@
 -- The steps in which no call goes on: an instruction of a thread's own, and the passes from thread to thread.
-use Rattle.std.proofs.Common.{◌≡◌, ◌≢◌, ◌⊎◌, inl, inr, ℕ, ◌+◌, ◌<◌, ◌==◌, Bool, true, false, List, [], ◌∷◌, ◌++◌, length}
-use Rattle.std.proofs.Common.{Option, Some, None, is_some, option_map, refl, ap, sym, ◌∙◌, subst, arith, reverse, slice_set}
-use Rattle.std.proofs.lemmas.Bool.{cases_eq, ne_eqb}
-use Rattle.std.proofs.lemmas.List.{length-set}
+use Rattle.std.proofs.Common.{◌≡◌, ◌≢◌, ◌⊎◌, inl, inr, ℕ, ◌+◌, ◌<◌, ◌==◌, Bool, true, false, List, [], ◌∷◌, ◌++◌, length, Option, Some, None, is_some}
+use Rattle.std.proofs.Common.{option_map, refl, ap, sym, ◌∙◌, subst, arith, reverse, slice_set}
+use Rattle.std.proofs.lemmas.{Bool.cases_eq, Bool.ne_eqb, List.length-set}
 use Rattle.std.specs.List.{AllByRecursion}
-use Rattle.event_log.specs.declared.entries.Entry.{Entry}
-use Rattle.event_log.specs.declared.ids.Tid.{Tid}
+use Rattle.event_log.specs.declared.{entries.Entry.Entry, ids.Tid.Tid}
 use Rattle.thread_blocks.specs.Queues.{is_in}
-use Rattle.guest.specs.declared.instructions.Instruction.{Instruction}
-use Rattle.guest.specs.declared.instructions.Instruction.TheVariants as ins
-use Rattle.guest.specs.State.{State, next_of}
+use Rattle.guest.specs.{declared.instructions.Instruction.Instruction, State.State, State.next_of}
 use Rattle.guest.proofs.CallsLemmas.{calls-local, calls-yield}
-use Rattle.layer_traits.specs.declared.calls.Call.{Call}
-use Rattle.layer_traits.specs.declared.calls.Effect.{Effect}
-use Rattle.layer_traits.specs.declared.passes.Pass.{Pass}
-use Rattle.layer_traits.specs.declared.passes.Pass.TheVariants.{Switch, YieldNow, Drain, MakeReady, End}
-use Rattle.layer_traits.specs.Passes.{MayPass, as_list, pass_after}
-use Rattle.layer_traits.specs.Places.{Threads, home_of, one_if}
-use Rattle.layer_traits.specs.BufferLaw.{Calling, UnderWay, Passing, begun_of, call_state_of}
-use Rattle.cpu.specs.declared.cpus.Choice.{Choice}
-use Rattle.cpu.specs.declared.cpus.Choice.TheVariants.{Passes, Computes}
-use Rattle.cpu.specs.declared.guests.Guest.{Guest}
-use Rattle.cpu.specs.declared.guests.GuestStage.{GuestStage}
-use Rattle.cpu.specs.declared.guests.GuestStage.TheVariants.{Idle, Begun, Done, Ended}
-use Rattle.cpu.specs.declared.guests.Todo.{Todo}
-use Rattle.cpu.specs.declared.guests.Todo.TheVariants.{Finish, PassOn, Compute, Calls}
-use Rattle.cpu.specs.Guests.{HasCome, HasComeIn, after_pass, computed, is_begun, is_calling, is_ended, passed, todo_at, todo_of}
-use Rattle.cpu.specs.Cpus.{AllFollow, AreOver, IsCpu, IsOfHome, NamesBelow, begun_count, chosen, chosen_at, chosen_by, chosen_for}
-use Rattle.cpu.specs.Cpus.{chosen_idle, chosen_todo, under_way_of, guest_at, is_begun_guest, of_cpu, of_thread, passed_by, with_guest}
-use Rattle.cpu.proofs.CpuStates.{ValidCpu}
-use Rattle.cpu.proofs.GuestLists.{at_other, at_same, count_with, guest_within}
+use Rattle.layer_traits.specs.{declared.calls.Call.Call, declared.calls.Effect.Effect, declared.passes.Pass.Pass, declared.passes.Pass.TheVariants.Switch}
+use Rattle.layer_traits.specs.{declared.passes.Pass.TheVariants.YieldNow, declared.passes.Pass.TheVariants.Drain, declared.passes.Pass.TheVariants.MakeReady}
+use Rattle.layer_traits.specs.{declared.passes.Pass.TheVariants.End, Passes.MayPass, Passes.as_list, Passes.pass_after, Places.Threads, Places.home_of}
+use Rattle.layer_traits.specs.{Places.one_if, BufferLaw.Calling, BufferLaw.UnderWay, BufferLaw.Passing, BufferLaw.begun_of, BufferLaw.call_state_of}
+use Rattle.cpu.specs.{declared.cpus.Choice.Choice, declared.cpus.Choice.TheVariants.Passes, declared.cpus.Choice.TheVariants.Computes, Guests.HasCome}
+use Rattle.cpu.specs.{Guests.HasComeIn, Guests.after_pass, Guests.computed, Guests.is_begun, Guests.is_calling, Guests.is_ended, Guests.passed, Guests.todo_at}
+use Rattle.cpu.specs.{Guests.todo_of, Cpus.AllFollow, Cpus.AreOver, Cpus.IsCpu, Cpus.IsOfHome, Cpus.NamesBelow, Cpus.begun_count, Cpus.chosen, Cpus.chosen_at}
+use Rattle.cpu.specs.{Cpus.chosen_by, Cpus.chosen_for, Cpus.chosen_idle, Cpus.chosen_todo, Cpus.under_way_of, Cpus.guest_at, Cpus.is_begun_guest, Cpus.of_cpu}
+use Rattle.cpu.specs.{Cpus.of_thread, Cpus.passed_by, Cpus.with_guest}
+use Rattle.cpu.specs.declared.guests.{Guest.Guest, GuestStage.GuestStage, GuestStage.TheVariants.Idle, GuestStage.TheVariants.Begun}
+use Rattle.cpu.specs.declared.guests.{GuestStage.TheVariants.Done, GuestStage.TheVariants.Ended, Todo.Todo, Todo.TheVariants.Finish, Todo.TheVariants.PassOn}
+use Rattle.cpu.specs.declared.guests.{Todo.TheVariants.Compute, Todo.TheVariants.Calls}
+use Rattle.cpu.proofs.{CpuStates.ValidCpu, GuestLists.at_other, GuestLists.at_same, GuestLists.count_with, GuestLists.guest_within}
+use Rattle.guest.specs.declared.instructions.Instruction.TheVariants as ins
 
 -- an instruction that asks for no call: the guest is in none
 pub in_no_call : (g : Guest) (es : List Entry) (begun : Option Call) (effect : Option Effect) (todo : Todo)

@@ -1,37 +1,19 @@
 -- A system that is reached by the step table: at boot, after a step, and after a schedule.
-use Rattle.std.proofs.Common.{◌≡◌, ◌≢◌, ℕ, zero, suc, ◌+◌, ◌<◌, ◌≤◌, List, [], ◌∷◌, ◌++◌, length, map, replicate, take}
-use Rattle.std.proofs.Common.{Option, Some, None, option_map, refl, ap, sym, ◌∙◌, subst, arith, slice_set}
+use Rattle.std.proofs.Common.{◌≡◌, ◌≢◌, ℕ, zero, suc, ◌+◌, ◌<◌, ◌≤◌, List, [], ◌∷◌, ◌++◌, length, map, replicate, take, Option, Some, None, option_map, refl}
+use Rattle.std.proofs.Common.{ap, sym, ◌∙◌, subst, arith, slice_set}
 use Rattle.std.specs.Prelude.{slice_get, slice_index_or}
-use Rattle.std.proofs.lemmas.List.{take_more}
-use Rattle.std.proofs.lemmas.Option.{slice_get_within, same_Some}
-use Rattle.event_log.specs.declared.entries.Entry.{Entry}
-use Rattle.event_log.specs.declared.ids.BufId.{BufId}
-use Rattle.event_log.specs.declared.ids.CpuId.{CpuId}
-use Rattle.event_log.specs.declared.ids.TheConstants.{CPUS, THREADS}
-use Rattle.event_log.specs.declared.ids.Tid.{Tid}
-use Rattle.event_log.specs.Actions.{Action, AreLegal}
-use Rattle.layer_traits.specs.declared.moves.WaitList.{WaitList}
-use Rattle.layer_traits.specs.declared.steps.Reason.{Reason}
-use Rattle.layer_traits.specs.declared.steps.Step.{Step}
-use Rattle.layer_traits.specs.declared.steps.Step.TheVariants.{Stepped, Halted}
-use Rattle.layer_traits.specs.Along.{IsStep}
-use Rattle.layer_traits.specs.Places.{Step as Moving}
-use Rattle.cpu.specs.declared.guests.Guest.{Guest}
-use Rattle.cpu.specs.Claims.{CpuShown, Shown, shown_of}
-use Rattle.cpu.specs.Cpus.{guest_at, programs_of}
-use Rattle.cpu.specs.Sound.{IsReachedByTable, IsSetupFor, RanByTable, ReturnsAlone, SoundByTable, after_steps}
-use Rattle.cpu.specs.Systems.{GoesBy, SamePlan, SteppedByTable, whole_of}
-use Rattle.cpu.specs.Table.Setups.{Setup}
-use Rattle.cpu.specs.Table.Steps.{IsReached, Whole, cpu_step, steps, steps_by, system_step}
-use Rattle.cpu.specs.Tables.{IsSetupOf}
-use Rattle.cpu.specs.Tower.Composed.{named}
-use Rattle.cpu.specs.Tower.Views.{TowerName}
-use Rattle.cpu.specs.Wakeups.Alone.{HasReturned, IsInCall, steps_to_return}
-use Rattle.cpu.proofs.GuestLists.{at_programs}
-use Rattle.cpu.proofs.ListReads.{shown_length, shown_same, shows_at, there_is}
-use Rattle.cpu.proofs.TableSystems.{shown_step}
-use Rattle.cpu.proofs.Wakeups.Reaching.{systems_lose_no_wake_up}
-use Rattle.cpu.proofs.Wakeups.Ready.{calls_return_alone}
+use Rattle.std.proofs.lemmas.{List.take_more, Option.slice_get_within, Option.same_Some}
+use Rattle.event_log.specs.{declared.entries.Entry.Entry, declared.ids.BufId.BufId, declared.ids.CpuId.CpuId, declared.ids.TheConstants.CPUS}
+use Rattle.event_log.specs.{declared.ids.TheConstants.THREADS, declared.ids.Tid.Tid, Actions.Action, Actions.AreLegal}
+use Rattle.layer_traits.specs.{declared.moves.WaitList.WaitList, declared.steps.Reason.Reason, declared.steps.Step.Step}
+use Rattle.layer_traits.specs.{declared.steps.Step.TheVariants.Stepped, declared.steps.Step.TheVariants.Halted, Along.IsStep, Places.Step as Moving}
+use Rattle.cpu.specs.{declared.guests.Guest.Guest, Claims.CpuShown, Claims.Shown, Claims.shown_of, Cpus.guest_at, Cpus.programs_of, Sound.IsReachedByTable}
+use Rattle.cpu.specs.{Sound.IsSetupFor, Sound.RanByTable, Sound.ReturnsAlone, Sound.SoundByTable, Sound.after_steps, Systems.GoesBy, Systems.SamePlan}
+use Rattle.cpu.specs.{Systems.SteppedByTable, Systems.whole_of, Table.Setups.Setup, Table.Steps.IsReached, Table.Steps.Whole, Table.Steps.cpu_step}
+use Rattle.cpu.specs.{Table.Steps.steps, Table.Steps.steps_by, Table.Steps.system_step, Tables.IsSetupOf, Tower.Composed.named, Tower.Views.TowerName}
+use Rattle.cpu.specs.{Wakeups.Alone.HasReturned, Wakeups.Alone.IsInCall, Wakeups.Alone.steps_to_return}
+use Rattle.cpu.proofs.{GuestLists.at_programs, ListReads.shown_length, ListReads.shown_same, ListReads.shows_at, ListReads.there_is, TableSystems.shown_step}
+use Rattle.cpu.proofs.{Wakeups.Reaching.systems_lose_no_wake_up, Wakeups.Ready.calls_return_alone}
 
 -- One setup for all states of a system.
 

@@ -1,31 +1,19 @@
 -- A system before its first step is the step table's at boot, and the setup that its plan says is its own.
-use Rattle.std.proofs.Common.{◌≡◌, ℕ, zero, suc, ◌+◌, false, List, [], ◌∷◌, length, map, replicate, Option, Some, None, refl}
-use Rattle.std.proofs.Common.{ap, sym, ◌∙◌, subst, arith}
+use Rattle.std.proofs.Common.{◌≡◌, ℕ, zero, suc, ◌+◌, false, List, [], ◌∷◌, length, map, replicate, Option, Some, None, refl, ap, sym, ◌∙◌, subst, arith}
 use Rattle.std.specs.Prelude.{IfOk, Result, Ok, Err, slice_get, slice_index_or, if◌then◌else◌}
-use Rattle.std.proofs.lemmas.List.{length-map}
-use Rattle.std.proofs.lemmas.Option.{get_or_from_slice_get, slice_get_within}
-use Rattle.event_log.specs.declared.ids.CpuId.{CpuId}
-use Rattle.event_log.specs.declared.ids.TheConstants.{THREADS}
+use Rattle.std.proofs.lemmas.{List.length-map, Option.get_or_from_slice_get, Option.slice_get_within}
+use Rattle.event_log.specs.declared.ids.{CpuId.CpuId, TheConstants.THREADS}
 use Rattle.event_log.proofs.ListLemmas.{alike_at}
 use Rattle.guest.specs.State.{State, at_start}
-use Rattle.layer_traits.specs.BufferLaw.{buffering_at_start, no_call}
-use Rattle.layer_traits.specs.OnePlace.{cpu_at}
-use Rattle.layer_traits.specs.Places.{homed}
+use Rattle.layer_traits.specs.{BufferLaw.buffering_at_start, BufferLaw.no_call, OnePlace.cpu_at, Places.homed}
 use Rattle.layer_traits.proofs.CountLemmas.{same_cpu_sym}
 use Rattle.boot.specs.Plan.{IsPlan, BootPlan, Task}
-use Rattle.cpu.specs.declared.guests.Guest.{Guest}
-use Rattle.cpu.specs.Guests.{new_guest}
-use Rattle.cpu.specs.Boots.{AreGuests, guests_for, homes_for, tables_for}
-use Rattle.cpu.specs.Claims.{CpuShown, Shown}
-use Rattle.cpu.specs.Cpus.{guest_at}
-use Rattle.cpu.specs.Sound.{BootsByTable, IsReachedByTable, IsSetupFor, setup_for}
-use Rattle.cpu.specs.Table.Setups.{Private, Setup, home_threads_from, new_thread, program_or, at_boot}
-use Rattle.cpu.specs.Table.Steps.{IsReached, Whole, boots, boots_from, cpu_numbered}
-use Rattle.cpu.specs.Tables.{private, state_of, states}
-use Rattle.cpu.specs.Tower.Privates.{numbered, thread_from, thread_of, tid}
-use Rattle.cpu.proofs.ListReads.{listed_length, listed_there, shown_at, shows_at}
-use Rattle.cpu.proofs.PlanGuests.{by_task}
-use Rattle.cpu.proofs.Tower.Passed.{no_buffer}
+use Rattle.cpu.specs.{declared.guests.Guest.Guest, Guests.new_guest, Boots.AreGuests, Boots.guests_for, Boots.homes_for, Boots.tables_for, Claims.CpuShown}
+use Rattle.cpu.specs.{Claims.Shown, Cpus.guest_at, Sound.BootsByTable, Sound.IsReachedByTable, Sound.IsSetupFor, Sound.setup_for, Table.Setups.Private}
+use Rattle.cpu.specs.{Table.Setups.Setup, Table.Setups.home_threads_from, Table.Setups.new_thread, Table.Setups.program_or, Table.Setups.at_boot}
+use Rattle.cpu.specs.{Table.Steps.IsReached, Table.Steps.Whole, Table.Steps.boots, Table.Steps.boots_from, Table.Steps.cpu_numbered, Tables.private}
+use Rattle.cpu.specs.{Tables.state_of, Tables.states, Tower.Privates.numbered, Tower.Privates.thread_from, Tower.Privates.thread_of, Tower.Privates.tid}
+use Rattle.cpu.proofs.{ListReads.listed_length, ListReads.listed_there, ListReads.shown_at, ListReads.shows_at, PlanGuests.by_task, Tower.Passed.no_buffer}
 
 -- One CPU.
 

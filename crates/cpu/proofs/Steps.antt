@@ -1,38 +1,23 @@
 -- One poll of a call: what it needs, and that the CPU's invariant holds after it.
-use Rattle.std.proofs.Common.{◌≡◌, ◌≢◌, ◌⊎◌, inl, inr, ℕ, ◌+◌, ◌<◌, ◌≤◌, Bool, true, false, not, List, [], ◌∷◌, ◌++◌, length}
-use Rattle.std.proofs.Common.{Option, Some, None, option_map, nat_lt, refl, ap, sym, ◌∙◌, subst, arith, reverse, slice_set}
-use Rattle.std.proofs.lemmas.Bool.{cases_eq, ltb-true}
-use Rattle.std.proofs.lemmas.List.{length-append, length-set}
+use Rattle.std.proofs.Common.{◌≡◌, ◌≢◌, ◌⊎◌, inl, inr, ℕ, ◌+◌, ◌<◌, ◌≤◌, Bool, true, false, not, List, [], ◌∷◌, ◌++◌, length, Option, Some, None, option_map}
+use Rattle.std.proofs.Common.{nat_lt, refl, ap, sym, ◌∙◌, subst, arith, reverse, slice_set}
+use Rattle.std.proofs.lemmas.{Bool.cases_eq, Bool.ltb-true, List.length-append, List.length-set}
 use Rattle.std.specs.List.{AllByRecursion}
-use Rattle.event_log.specs.declared.entries.Entry.{Entry}
-use Rattle.event_log.specs.declared.ids.BufId.{BufId}
-use Rattle.event_log.specs.declared.ids.CpuId.{CpuId}
-use Rattle.event_log.specs.declared.ids.Tid.{Tid}
-use Rattle.event_log.specs.declared.ids.TheConstants.{THREADS}
+use Rattle.event_log.specs.declared.{entries.Entry.Entry, ids.BufId.BufId, ids.CpuId.CpuId, ids.Tid.Tid, ids.TheConstants.THREADS}
 use Rattle.thread_blocks.specs.Queues.{is_in}
-use Rattle.guest.specs.declared.instructions.Instruction.{Instruction}
-use Rattle.guest.specs.declared.instructions.Instruction.TheVariants as ins
-use Rattle.guest.specs.Instructions.{names_below}
-use Rattle.guest.specs.State.{State, next_of}
-use Rattle.layer_traits.specs.declared.calls.Call.{Call}
-use Rattle.layer_traits.specs.declared.calls.Call.TheVariants.{Send, Recv, Close}
-use Rattle.layer_traits.specs.declared.calls.Effect.{Effect}
-use Rattle.layer_traits.specs.declared.calls.Reply.{Reply}
-use Rattle.layer_traits.specs.declared.call_states.CallState.{CallState}
-use Rattle.layer_traits.specs.Places.{Threads, home_of, one_if}
+use Rattle.guest.specs.{declared.instructions.Instruction.Instruction, Instructions.names_below, State.State, State.next_of}
+use Rattle.layer_traits.specs.declared.calls.{Call.Call, Call.TheVariants.Send, Call.TheVariants.Recv, Call.TheVariants.Close, Effect.Effect, Reply.Reply}
+use Rattle.layer_traits.specs.{declared.call_states.CallState.CallState, Places.Threads, Places.home_of, Places.one_if}
 use Rattle.layer_traits.specs.BufferLaw.{Called, Calling, UnderWay, MayGoOn, MayPollCall, RunsOn, begun_of, buffer_of, entry_of, still_calling, call_state_of}
-use Rattle.cpu.specs.declared.cpus.Choice.TheVariants.{Polls}
-use Rattle.cpu.specs.declared.guests.Guest.{Guest}
-use Rattle.cpu.specs.declared.guests.GuestStage.{GuestStage}
+use Rattle.cpu.specs.{declared.cpus.Choice.TheVariants.Polls, declared.guests.Guest.Guest, declared.guests.GuestStage.GuestStage, declared.guests.Todo.Todo}
+use Rattle.cpu.specs.{declared.guests.Todo.TheVariants.Finish, declared.guests.Todo.TheVariants.Calls, Cpus.AllFollow, Cpus.AreOver, Cpus.IsCpu, Cpus.IsOfHome}
+use Rattle.cpu.specs.{Cpus.NamesBelow, Cpus.begins_at, Cpus.begun_count, Cpus.is_begun_guest, Cpus.chosen, Cpus.chosen_at, Cpus.chosen_by, Cpus.chosen_for}
+use Rattle.cpu.specs.{Cpus.chosen_idle, Cpus.chosen_todo, Cpus.under_way_of, Cpus.fresh_at, Cpus.guest_at, Cpus.of_cpu, Cpus.of_thread, Cpus.with_guest}
 use Rattle.cpu.specs.declared.guests.GuestStage.TheVariants.{Idle, Begun, Done, Ended}
-use Rattle.cpu.specs.declared.guests.Todo.{Todo}
-use Rattle.cpu.specs.declared.guests.Todo.TheVariants.{Finish, Calls}
 use Rattle.cpu.specs.Guests.{HasCome, HasComeIn, entries_of, fresh_effect, had, is_begun, is_calling, is_ended, polled, stage_after, todo_at, todo_of}
-use Rattle.cpu.specs.Cpus.{AllFollow, AreOver, IsCpu, IsOfHome, NamesBelow, begins_at, begun_count, is_begun_guest, chosen, chosen_at}
-use Rattle.cpu.specs.Cpus.{chosen_by, chosen_for, chosen_idle, chosen_todo, under_way_of, fresh_at, guest_at, of_cpu, of_thread, with_guest}
-use Rattle.cpu.proofs.CpuStates.{ValidCpu}
-use Rattle.cpu.proofs.Follow.{answered_by, followed, had_going, may_poll_call, stays_settled}
+use Rattle.cpu.proofs.{CpuStates.ValidCpu, Follow.answered_by, Follow.followed, Follow.had_going, Follow.may_poll_call, Follow.stays_settled}
 use Rattle.cpu.proofs.GuestLists.{at_other, at_same, count_with, cpu_grown, guest_within, reversed, room_kept, thread_other, thread_same}
+use Rattle.guest.specs.declared.instructions.Instruction.TheVariants as ins
 
 -- what a chosen poll tells: its thread runs, and its guest asks for the call
 pub record PollsAt (own : Threads) (guests : List (Option Guest)) (t : Tid) (c : Call) : Type 0 where

@@ -1,53 +1,29 @@
 -- The clauses of a CPU's calls on the table, from those of the layer: its part tells its threads and its call states.
-use Rattle.std.proofs.Common.{◌≡◌, ℕ, Bool, true, false, List, ◌++◌, slice_get, Option}
-use Rattle.std.proofs.Common.{Some, None, IsSome, is_some, option_map, if◌then◌else◌, refl, ap, sym, ◌∙◌, subst}
+use Rattle.std.proofs.Common.{◌≡◌, ℕ, Bool, true, false, List, ◌++◌, slice_get, Option, Some, None, IsSome, is_some, option_map, if◌then◌else◌, refl, ap, sym}
+use Rattle.std.proofs.Common.{◌∙◌, subst}
 use Rattle.std.proofs.lemmas.Bool.{lt-ltb}
-use Rattle.event_log.specs.declared.entries.Entry.{Entry}
-use Rattle.event_log.specs.declared.ids.CpuId.{CpuId}
-use Rattle.event_log.specs.declared.ids.LockId.{LockId}
-use Rattle.event_log.specs.declared.ids.Tid.{Tid}
-use Rattle.event_log.specs.Actions.{Action, phase}
+use Rattle.event_log.specs.{declared.entries.Entry.Entry, declared.ids.CpuId.CpuId, declared.ids.LockId.LockId, declared.ids.Tid.Tid, Actions.Action}
+use Rattle.event_log.specs.{Actions.phase, declared.ids.LockId.TheVariants.Pending, declared.ids.LockId.TheVariants.Buffer as AtBuffer}
 use Rattle.thread_blocks.proofs.Members.{same_tid_self}
-use Rattle.layer_traits.specs.declared.calls.Call.{Call}
-use Rattle.layer_traits.specs.declared.calls.Reply.{Reply}
-use Rattle.layer_traits.specs.declared.calls.Reply.TheVariants.{NoBuffer}
-use Rattle.layer_traits.specs.declared.passes.Pass.{Pass}
-use Rattle.layer_traits.specs.declared.steps.Reason.{Reason}
-use Rattle.layer_traits.specs.declared.steps.Step.TheVariants.{Stepped, Halted}
-use Rattle.layer_traits.specs.declared.call_states.CallState.{CallState}
-use Rattle.layer_traits.specs.Along.{IsStep}
-use Rattle.layer_traits.specs.Looks.{Tries}
-use Rattle.layer_traits.specs.Passes.{PassPolled, pass_after}
-use Rattle.layer_traits.specs.Places.{AreMoves, Hand, Stands, Step, Threads, Where}
-use Rattle.layer_traits.specs.Places.{home_of, is_hand, is_home, is_thread, pending_by, where_is}
-use Rattle.layer_traits.specs.Plans.{Follows, Now, is_in_section}
-use Rattle.layer_traits.specs.BufferLaw.{Buffering, UnderWay, buffer_of, buffering_at_start}
-use Rattle.layer_traits.specs.BufferLaw.{fifo_pass_plan, fifo_plan, still_calling, still_passing, call_state_of}
-use Rattle.event_log.specs.declared.ids.LockId.TheVariants.{Pending, Buffer as AtBuffer}
-use Rattle.layer_traits.specs.declared.queue_edits.QueueBlock.TheVariants.{Above}
-use Rattle.layer_traits.specs.BufferEffects.{fresh_lock}
-use Rattle.layer_traits.specs.IpcLaw.{OpensSo, ipc_plan}
+use Rattle.layer_traits.specs.{declared.calls.Call.Call, declared.calls.Reply.Reply, declared.calls.Reply.TheVariants.NoBuffer, declared.passes.Pass.Pass}
+use Rattle.layer_traits.specs.{declared.steps.Reason.Reason, declared.steps.Step.TheVariants.Stepped, declared.steps.Step.TheVariants.Halted}
+use Rattle.layer_traits.specs.{declared.call_states.CallState.CallState, Along.IsStep, Looks.Tries, Passes.PassPolled, Passes.pass_after, Plans.Follows}
+use Rattle.layer_traits.specs.{Plans.Now, Plans.is_in_section, BufferLaw.Buffering, BufferLaw.UnderWay, BufferLaw.buffer_of, BufferLaw.buffering_at_start}
+use Rattle.layer_traits.specs.{BufferLaw.fifo_pass_plan, BufferLaw.fifo_plan, BufferLaw.still_calling, BufferLaw.still_passing, BufferLaw.call_state_of}
+use Rattle.layer_traits.specs.{declared.queue_edits.QueueBlock.TheVariants.Above, BufferEffects.fresh_lock, IpcLaw.OpensSo, IpcLaw.ipc_plan}
+use Rattle.layer_traits.specs.Places.{AreMoves, Hand, Stands, Step, Threads, Where, home_of, is_hand, is_home, is_thread, pending_by, where_is}
 use Rattle.layer_traits.proofs.PlaceLemmas.{away_known}
-use Rattle.cpu.specs.declared.cpus.Choice.TheVariants.{Polls, Passes, Computes}
-use Rattle.cpu.specs.declared.guests.Guest.{Guest}
-use Rattle.cpu.specs.Guests.{computed, entries_of, is_ended, polled}
-use Rattle.cpu.specs.Cpus.{IsCpu, chosen, fresh_at, guest_at, halted_at, passed_by, reason_in, step_answer, with_guest}
-use Rattle.cpu.specs.Boots.{AreGuests}
-use Rattle.cpu.specs.Table.Setups.{Setup, opening_buffer}
-use Rattle.cpu.specs.Table.Steps.{cpu_step, halted_at as table_halted}
-use Rattle.cpu.specs.Tower.Views.{TowerBlock, TowerName, name_of, tower, view}
-use Rattle.cpu.specs.Tower.Privates.{threads_in}
-use Rattle.cpu.specs.Tower.Composed.{OpensAs, named}
-use Rattle.cpu.specs.Tables.{IsSetupOf, IsTabled, WentByTable, bare, private}
-use Rattle.cpu.proofs.CpuStates.{TabledCpu, Outset, ValidCpu, valid}
-use Rattle.cpu.proofs.Steps.{poll_buffer}
+use Rattle.cpu.specs.{declared.cpus.Choice.TheVariants.Polls, declared.cpus.Choice.TheVariants.Passes, declared.cpus.Choice.TheVariants.Computes}
+use Rattle.cpu.specs.{declared.guests.Guest.Guest, Guests.computed, Guests.entries_of, Guests.is_ended, Guests.polled, Cpus.IsCpu, Cpus.chosen, Cpus.fresh_at}
+use Rattle.cpu.specs.{Cpus.guest_at, Cpus.halted_at, Cpus.passed_by, Cpus.reason_in, Cpus.step_answer, Cpus.with_guest, Boots.AreGuests, Table.Setups.Setup}
+use Rattle.cpu.specs.{Table.Setups.opening_buffer, Table.Steps.cpu_step, Table.Steps.halted_at as table_halted, Tower.Views.TowerBlock, Tower.Views.TowerName}
+use Rattle.cpu.specs.{Tower.Views.name_of, Tower.Views.tower, Tower.Views.view, Tower.Privates.threads_in, Tower.Composed.OpensAs, Tower.Composed.named}
+use Rattle.cpu.specs.{Tables.IsSetupOf, Tables.IsTabled, Tables.WentByTable, Tables.bare, Tables.private}
+use Rattle.cpu.proofs.{CpuStates.TabledCpu, CpuStates.Outset, CpuStates.ValidCpu, CpuStates.valid, Steps.poll_buffer, TableRows.halted_same}
+use Rattle.cpu.proofs.{TableHalts.answers_so, TablePolls.TabledPoll, TablePolls.poll_steps, TablePolls.poll_tabled, TablePasses.TabledPass}
+use Rattle.cpu.proofs.{TablePasses.compute_steps, TablePasses.compute_tabled, TablePasses.halted_steps, TablePasses.pass_steps, TablePasses.pass_tabled}
+use Rattle.cpu.proofs.{TablePasses.passed_if, TablePasses.threads_if, Tower.Passed.boots_part, Tower.Polls.look_is_step}
 use Rattle.event_log.proofs.Renaming.{phase_renamed}
-use Rattle.cpu.proofs.TableRows.{halted_same}
-use Rattle.cpu.proofs.TableHalts.{answers_so}
-use Rattle.cpu.proofs.TablePolls.{TabledPoll, poll_steps, poll_tabled}
-use Rattle.cpu.proofs.TablePasses.{TabledPass, compute_steps, compute_tabled, halted_steps, pass_steps, pass_tabled, passed_if, threads_if}
-use Rattle.cpu.proofs.Tower.Passed.{boots_part}
-use Rattle.cpu.proofs.Tower.Polls.{look_is_step}
 
 hand_away : (c : CpuId) (w : Where) → is_hand c w ≡ true → is_home w ≡ false
 hand_away c (Hand d) is = refl

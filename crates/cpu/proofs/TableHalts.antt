@@ -1,20 +1,13 @@
 -- A CPU of a system that takes no step: the table's system takes none, and answers the same.
 use Rattle.std.proofs.Common.{◌≡◌, ◌<◌, ◌==◌, Bool, true, false, List, length, Option, Some, None, slice_get, if◌then◌else◌, refl, ap, sym, ◌∙◌}
-use Rattle.event_log.specs.declared.ids.CpuId.{CpuId}
-use Rattle.event_log.specs.Actions.{Action, phase}
-use Rattle.layer_traits.specs.declared.steps.Reason.{Reason}
-use Rattle.layer_traits.specs.declared.steps.Reason.TheVariants.{StepsUsed}
-use Rattle.layer_traits.specs.declared.steps.Step.TheVariants.{Halted}
-use Rattle.layer_traits.specs.Plans.{is_in_section}
-use Rattle.cpu.specs.Claims.{CpuShown, Shown}
-use Rattle.cpu.specs.Cpus.{reason_in, step_answer}
-use Rattle.cpu.specs.Systems.{HaltsByTable, SteppedByTable, halted_in, reason_of, reason_or, whole_of}
-use Rattle.cpu.specs.Table.Blocks.{Name}
-use Rattle.cpu.specs.Table.Setups.{Setup, Private}
-use Rattle.cpu.specs.Table.Steps.{Whole, answered_by, cpu_step, halted_at, roomy, step_at, system_step}
-use Rattle.cpu.specs.Tower.Composed.{answer_of}
-use Rattle.cpu.proofs.ListReads.{shows_at, there_is}
-use Rattle.cpu.proofs.Tower.Polls.{halts_exactly}
+use Rattle.event_log.specs.{declared.ids.CpuId.CpuId, Actions.Action, Actions.phase}
+use Rattle.layer_traits.specs.{declared.steps.Reason.Reason, declared.steps.Reason.TheVariants.StepsUsed, declared.steps.Step.TheVariants.Halted}
+use Rattle.layer_traits.specs.{Plans.is_in_section}
+use Rattle.cpu.specs.{Claims.CpuShown, Claims.Shown, Cpus.reason_in, Cpus.step_answer, Systems.HaltsByTable, Systems.SteppedByTable, Systems.halted_in}
+use Rattle.cpu.specs.{Systems.reason_of, Systems.reason_or, Systems.whole_of, Table.Blocks.Name, Table.Setups.Setup, Table.Setups.Private, Table.Steps.Whole}
+use Rattle.cpu.specs.{Table.Steps.answered_by, Table.Steps.cpu_step, Table.Steps.halted_at, Table.Steps.roomy, Table.Steps.step_at, Table.Steps.system_step}
+use Rattle.cpu.specs.{Tower.Composed.answer_of}
+use Rattle.cpu.proofs.{ListReads.shows_at, ListReads.there_is, Tower.Polls.halts_exactly}
 
 -- what a step of the table answers, by the CPU's own reason
 pub answers_so : (setup : Setup) (c : CpuId) (p : Private) (log : List (Action Name)) (inside : Bool) (halted : Option Reason)

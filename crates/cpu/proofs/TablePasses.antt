@@ -1,56 +1,37 @@
 -- A poll of a pass, and an instruction of a thread's own, are steps of the table, and the CPU stays as the table asks.
-use Rattle.std.proofs.Common.{◌≡◌, ℕ, ◌<◌, Bool, true, false, ◌||◌, List, [], ◌∷◌, ◌++◌, length}
-use Rattle.std.proofs.Common.{slice_get, slice_set, Option, Some, None, IsSome, option_map, refl, ap, sym, ◌∙◌, subst, arith}
-use Rattle.std.proofs.lemmas.List.{map-set}
-use Rattle.std.proofs.Math.Bool.{or-true}
-use Rattle.event_log.specs.declared.ids.CpuId.{CpuId}
-use Rattle.event_log.specs.declared.ids.Tid.{Tid}
-use Rattle.event_log.specs.Actions.{Action, phase}
-use Rattle.event_log.proofs.Renaming.{phase_renamed}
-use Rattle.event_log.proofs.BoolLemmas.{none_of}
-use Rattle.guest.specs.declared.instructions.Instruction.{Instruction}
-use Rattle.guest.specs.declared.instructions.Instruction.TheVariants as ins
-use Rattle.guest.specs.State.{State, after_local, after_yield, at_start, next_of}
+use Rattle.std.proofs.Common.{◌≡◌, ℕ, ◌<◌, Bool, true, false, ◌||◌, List, [], ◌∷◌, ◌++◌, length, slice_get, slice_set, Option, Some, None, IsSome, option_map}
+use Rattle.std.proofs.Common.{refl, ap, sym, ◌∙◌, subst, arith}
+use Rattle.std.proofs.{lemmas.List.map-set, Math.Bool.or-true}
+use Rattle.event_log.specs.{declared.ids.CpuId.CpuId, declared.ids.Tid.Tid, Actions.Action, Actions.phase}
+use Rattle.event_log.proofs.{Renaming.phase_renamed, BoolLemmas.none_of}
+use Rattle.guest.specs.{declared.instructions.Instruction.Instruction, State.State, State.after_local, State.after_yield, State.at_start, State.next_of}
 use Rattle.thread_blocks.specs.Queues.{is_in, same_tid}
-use Rattle.layer_traits.specs.declared.calls.Call.{Call}
-use Rattle.thread_blocks.proofs.Distinct.{pushed_in}
-use Rattle.thread_blocks.proofs.Members.{same_tid_self}
-use Rattle.layer_traits.specs.declared.passes.Pass.{Pass}
+use Rattle.layer_traits.specs.{declared.calls.Call.Call, declared.passes.Pass.Pass, declared.steps.Reason.Reason, declared.steps.Step.TheVariants.Stepped}
+use Rattle.layer_traits.specs.{declared.steps.Step.TheVariants.Halted, declared.call_states.CallState.CallState, Along.IsStep, Passes.IsLocalPass}
+use Rattle.layer_traits.specs.{Passes.as_list, Passes.pass_after, Passes.switched, Places.Threads, Plans.Left, Plans.Follows, Plans.is_in_section}
+use Rattle.thread_blocks.proofs.{Distinct.pushed_in, Members.same_tid_self}
 use Rattle.layer_traits.specs.declared.passes.Pass.TheVariants.{Switch, YieldNow, Drain, MakeReady, End}
-use Rattle.layer_traits.specs.declared.steps.Reason.{Reason}
-use Rattle.layer_traits.specs.declared.steps.Step.TheVariants.{Stepped, Halted}
-use Rattle.layer_traits.specs.declared.call_states.Stage.TheVariants as at_stage
-use Rattle.layer_traits.specs.declared.call_states.CallState.{CallState}
-use Rattle.layer_traits.specs.Along.{IsStep}
-use Rattle.layer_traits.specs.Passes.{IsLocalPass, as_list, pass_after, switched}
-use Rattle.layer_traits.specs.Places.{Threads}
-use Rattle.layer_traits.specs.Plans.{Left, Follows, is_in_section}
 use Rattle.layer_traits.specs.BufferLaw.{Buffering, UnderWay, Passing, begun_of, fifo_pass_plan, still_passing, call_state_of}
-use Rattle.cpu.specs.declared.cpus.Choice.TheVariants.{Passes, Computes}
-use Rattle.cpu.specs.declared.guests.Guest.{Guest}
-use Rattle.cpu.specs.declared.guests.Todo.{Todo}
-use Rattle.cpu.specs.declared.guests.Todo.TheVariants.{Finish, PassOn, Compute, Calls}
-use Rattle.cpu.specs.Guests.{after_pass, computed, ended, is_calling, passed, todo_at, todo_of}
-use Rattle.cpu.specs.Cpus.{chosen, chosen_at, chosen_by, chosen_for, chosen_todo, under_way_of, guest_at}
-use Rattle.cpu.specs.Cpus.{halted_at as cpu_halted, of_cpu, of_thread, passed_by, reason_in, with_guest}
-use Rattle.cpu.specs.Table.Setups.{Setup, Call as TableCall, Private, thread_at}
-use Rattle.cpu.specs.Table.Choice.{Alone, Goes, at_instruction, at_ready, choice, ends, with_guest as with_state}
-use Rattle.cpu.specs.Table.Steps.{cpu_step, halted_at as table_halted}
-use Rattle.cpu.specs.Tower.Views.{TowerName, name_of, tower}
-use Rattle.cpu.specs.Tower.Privates.{guests_passed, private_of, private_passed, threads_in}
-use Rattle.cpu.specs.Tower.Composed.{HandIsKnown, IsLine, OpensAs, named}
-use Rattle.cpu.specs.Tower.Positions.{IsPart}
-use Rattle.cpu.specs.Tables.{IsSetupOf, IsTabled, private, state_of, states}
-use Rattle.cpu.proofs.CpuStates.{TabledCpu, Outset, valid}
-use Rattle.cpu.proofs.GuestLists.{guest_within}
-use Rattle.cpu.proofs.Schedules.{PassCase, computes_at, finish_exit, in_no_call, pass_case, switches, drains, sends_idle, sends_on, passes_on, finishes}
-use Rattle.cpu.proofs.TableRows.{call_is, call_of, guest_there, halted_same, stands_there, states_at, states_long}
-use Rattle.cpu.proofs.TablePolls.{not_halted_so, opens_as, tabled_same, tabled_with}
-use Rattle.cpu.proofs.Tower.Chains.{put_same}
-use Rattle.cpu.proofs.Tower.Numbered.{own_at}
-use Rattle.cpu.proofs.Tower.Passed.{ComesTo, at_rest, deferred_none, pass_rest, passed_part, with_threads}
-use Rattle.cpu.proofs.Tower.Passing.{computed_now, drain_line, ended_now, make_ready_line, switched_now, yield_line}
+use Rattle.cpu.specs.{declared.cpus.Choice.TheVariants.Passes, declared.cpus.Choice.TheVariants.Computes, declared.guests.Guest.Guest, Guests.after_pass}
+use Rattle.cpu.specs.{Guests.computed, Guests.ended, Guests.is_calling, Guests.passed, Guests.todo_at, Guests.todo_of, Cpus.chosen, Cpus.chosen_at}
+use Rattle.cpu.specs.{Cpus.chosen_by, Cpus.chosen_for, Cpus.chosen_todo, Cpus.under_way_of, Cpus.guest_at, Cpus.halted_at as cpu_halted, Cpus.of_cpu}
+use Rattle.cpu.specs.{Cpus.of_thread, Cpus.passed_by, Cpus.reason_in, Cpus.with_guest, Table.Setups.Setup, Table.Setups.Call as TableCall, Table.Setups.Private}
+use Rattle.cpu.specs.{Table.Setups.thread_at, Table.Choice.Alone, Table.Choice.Goes, Table.Choice.at_instruction, Table.Choice.at_ready, Table.Choice.choice}
+use Rattle.cpu.specs.{Table.Choice.ends, Table.Choice.with_guest as with_state, Table.Steps.cpu_step, Table.Steps.halted_at as table_halted}
+use Rattle.cpu.specs.{Tower.Views.TowerName, Tower.Views.name_of, Tower.Views.tower, Tower.Privates.guests_passed, Tower.Privates.private_of}
+use Rattle.cpu.specs.{Tower.Privates.private_passed, Tower.Privates.threads_in, Tower.Composed.HandIsKnown, Tower.Composed.IsLine, Tower.Composed.OpensAs}
+use Rattle.cpu.specs.{Tower.Composed.named, Tower.Positions.IsPart, Tables.IsSetupOf, Tables.IsTabled, Tables.private, Tables.state_of, Tables.states}
+use Rattle.cpu.specs.declared.guests.Todo.{Todo, TheVariants.Finish, TheVariants.PassOn, TheVariants.Compute, TheVariants.Calls}
+use Rattle.cpu.proofs.{CpuStates.TabledCpu, CpuStates.Outset, CpuStates.valid, GuestLists.guest_within, Schedules.PassCase, Schedules.computes_at}
+use Rattle.cpu.proofs.{Schedules.finish_exit, Schedules.in_no_call, Schedules.pass_case, Schedules.switches, Schedules.drains, Schedules.sends_idle}
+use Rattle.cpu.proofs.{Schedules.sends_on, Schedules.passes_on, Schedules.finishes, TableRows.call_is, TableRows.call_of, TableRows.guest_there}
+use Rattle.cpu.proofs.{TableRows.halted_same, TableRows.stands_there, TableRows.states_at, TableRows.states_long, TablePolls.not_halted_so, TablePolls.opens_as}
+use Rattle.cpu.proofs.{TablePolls.tabled_same, TablePolls.tabled_with, Tower.Chains.put_same, Tower.Numbered.own_at, Tower.Passed.ComesTo, Tower.Passed.at_rest}
+use Rattle.cpu.proofs.{Tower.Passed.deferred_none, Tower.Passed.pass_rest, Tower.Passed.passed_part, Tower.Passed.with_threads, Tower.Passing.computed_now}
+use Rattle.cpu.proofs.{Tower.Passing.drain_line, Tower.Passing.ended_now, Tower.Passing.make_ready_line, Tower.Passing.switched_now, Tower.Passing.yield_line}
 use Rattle.cpu.proofs.Tower.Polls.{alone_is_step, choice_current, choice_hand, choice_idle, halted_is_step, line_is_step, step_goes}
+use Rattle.guest.specs.declared.instructions.Instruction.TheVariants as ins
+use Rattle.layer_traits.specs.declared.call_states.Stage.TheVariants as at_stage
 
 yield_line_is : (s : State) (i : Instruction) → todo_at s i ≡ PassOn → i ≡ ins.Yield
 yield_line_is s ins.Yield is = refl

@@ -1,58 +1,33 @@
 -- A poll of a call is a step of the table, and the CPU stays as the table asks.
-use Rattle.std.proofs.Common.{◌≡◌, ◌≢◌, ◌⊎◌, inl, inr, ℕ, ◌<◌, Bool, true, false, List, ◌++◌, length, slice_get}
-use Rattle.std.proofs.Common.{slice_set, Option, Some, None, IsSome, is_some, option_map, refl, ap, sym, ◌∙◌, subst}
-use Rattle.std.proofs.lemmas.Bool.{cases_eq}
-use Rattle.std.proofs.lemmas.List.{append-nil, length-set, map-set}
-use Rattle.event_log.specs.declared.entries.Entry.{Entry}
-use Rattle.event_log.specs.declared.ids.BufId.{BufId}
-use Rattle.event_log.specs.declared.ids.CpuId.{CpuId}
-use Rattle.event_log.specs.declared.ids.LockId.{LockId}
-use Rattle.event_log.specs.declared.ids.LockId.TheVariants.{Pending, Buffer}
-use Rattle.event_log.specs.declared.ids.Tid.{Tid}
-use Rattle.event_log.specs.declared.ids.TheConstants.{THREADS}
-use Rattle.event_log.specs.Actions.{Action, phase}
-use Rattle.guest.specs.declared.instructions.Instruction.{Instruction}
-use Rattle.guest.specs.declared.instructions.Instruction.TheVariants as ins
-use Rattle.guest.specs.State.{State, at_start, next_of}
+use Rattle.std.proofs.Common.{◌≡◌, ◌≢◌, ◌⊎◌, inl, inr, ℕ, ◌<◌, Bool, true, false, List, ◌++◌, length, slice_get, slice_set, Option, Some, None, IsSome, is_some}
+use Rattle.std.proofs.Common.{option_map, refl, ap, sym, ◌∙◌, subst}
+use Rattle.std.proofs.lemmas.{Bool.cases_eq, List.append-nil, List.length-set, List.map-set}
+use Rattle.event_log.specs.{declared.entries.Entry.Entry, declared.ids.BufId.BufId, declared.ids.CpuId.CpuId, declared.ids.LockId.LockId}
+use Rattle.event_log.specs.{declared.ids.LockId.TheVariants.Pending, declared.ids.LockId.TheVariants.Buffer, declared.ids.Tid.Tid}
+use Rattle.event_log.specs.{declared.ids.TheConstants.THREADS, Actions.Action, Actions.phase}
+use Rattle.guest.specs.{declared.instructions.Instruction.Instruction, State.State, State.at_start, State.next_of}
 use Rattle.thread_blocks.specs.Queues.{is_in}
-use Rattle.layer_traits.specs.declared.calls.Call.{Call}
-use Rattle.layer_traits.specs.declared.calls.Effect.{Effect}
-use Rattle.layer_traits.specs.declared.calls.Reply.{Reply}
-use Rattle.layer_traits.specs.declared.passes.Pass.{Pass}
-use Rattle.layer_traits.specs.declared.steps.Reason.{Reason}
-use Rattle.layer_traits.specs.declared.steps.Step.TheVariants.{Stepped}
-use Rattle.layer_traits.specs.declared.call_states.Stage.{Stage}
-use Rattle.layer_traits.specs.declared.call_states.Stage.TheVariants as at_stage
-use Rattle.layer_traits.specs.declared.call_states.CallState.{CallState}
-use Rattle.layer_traits.specs.Along.{IsStep}
-use Rattle.layer_traits.specs.Passes.{IsLocalPass}
-use Rattle.layer_traits.specs.Places.{home_of}
-use Rattle.layer_traits.specs.Plans.{Follows, is_in_section}
+use Rattle.layer_traits.specs.{declared.calls.Call.Call, declared.calls.Effect.Effect, declared.calls.Reply.Reply, declared.passes.Pass.Pass}
+use Rattle.layer_traits.specs.{declared.steps.Reason.Reason, declared.steps.Step.TheVariants.Stepped, declared.call_states.Stage.Stage}
+use Rattle.layer_traits.specs.{declared.call_states.CallState.CallState, Along.IsStep, Passes.IsLocalPass, Places.home_of, Plans.Follows, Plans.is_in_section}
 use Rattle.layer_traits.specs.BufferLaw.{Buffering, Calling, UnderWay, Passing, begun_of, buffer_of, fifo_plan, going, going_at, still_calling, call_state_of}
-use Rattle.cpu.specs.declared.cpus.Choice.TheVariants.{Polls}
-use Rattle.cpu.specs.declared.guests.Guest.{Guest}
-use Rattle.cpu.specs.declared.guests.GuestStage.{GuestStage}
+use Rattle.cpu.specs.{declared.cpus.Choice.TheVariants.Polls, declared.guests.Guest.Guest, declared.guests.GuestStage.GuestStage}
+use Rattle.cpu.specs.{declared.guests.Todo.TheVariants.Calls, Guests.HasComeIn, Guests.after_answer, Guests.entries_of, Guests.fresh_effect, Guests.had}
+use Rattle.cpu.specs.{Guests.is_calling, Guests.is_ended, Guests.polled, Guests.stage_after, Guests.todo_at, Cpus.chosen, Cpus.under_way_of, Cpus.fresh_at}
+use Rattle.cpu.specs.{Cpus.guest_at, Cpus.halted_at as cpu_halted, Cpus.of_cpu, Cpus.of_thread, Cpus.reason_in, Cpus.with_guest, Table.Setups.Setup}
+use Rattle.cpu.specs.{Table.Setups.opening as table_opening, Table.Setups.opening_buffer, Table.Steps.cpu_step, Table.Steps.halted_at as table_halted}
+use Rattle.cpu.specs.{Tower.Views.TowerBlock, Tower.Views.TowerName, Tower.Views.tower, Tower.Privates.guests_after, Tower.Privates.private_after}
+use Rattle.cpu.specs.{Tower.Privates.private_of, Tower.Privates.threads_in, Tower.Privates.trace_after, Tower.Composed.AsksFor, Tower.Composed.HandIsKnown}
+use Rattle.cpu.specs.{Tower.Composed.IsBeginning, Tower.Composed.IsGoing, Tower.Composed.IsUsed, Tower.Composed.OpensAs, Tower.Composed.named}
+use Rattle.cpu.specs.{Tower.Positions.IsPart, Tables.IsSetupOf, Tables.IsTabled, Tables.bare, Tables.private, Tables.state_of, Tables.states}
 use Rattle.cpu.specs.declared.guests.GuestStage.TheVariants.{Idle, Begun, Done, Ended}
-use Rattle.cpu.specs.declared.guests.Todo.TheVariants.{Calls}
-use Rattle.cpu.specs.Guests.{HasComeIn, after_answer, entries_of, fresh_effect, had, is_calling, is_ended, polled, stage_after, todo_at}
-use Rattle.cpu.specs.Cpus.{chosen, under_way_of, fresh_at, guest_at, halted_at as cpu_halted, of_cpu, of_thread, reason_in, with_guest}
-use Rattle.cpu.specs.Table.Setups.{Setup, opening as table_opening, opening_buffer}
-use Rattle.cpu.specs.Table.Steps.{cpu_step, halted_at as table_halted}
-use Rattle.cpu.specs.Tower.Views.{TowerBlock, TowerName, tower}
-use Rattle.cpu.specs.Tower.Privates.{guests_after, private_after, private_of, threads_in, trace_after}
-use Rattle.cpu.specs.Tower.Composed.{AsksFor, HandIsKnown, IsBeginning, IsGoing, IsUsed, OpensAs, named}
-use Rattle.cpu.specs.Tower.Positions.{IsPart}
-use Rattle.cpu.specs.Tables.{IsSetupOf, IsTabled, bare, private, state_of, states}
-use Rattle.cpu.proofs.CpuStates.{TabledCpu, Outset, valid}
-use Rattle.cpu.proofs.Follow.{had_going}
-use Rattle.cpu.proofs.GuestLists.{at_other, at_same, guest_within}
-use Rattle.cpu.proofs.Steps.{PollsAt, polls_at, poll_number, poll_call_states}
-use Rattle.cpu.proofs.TableRows.{call_is, halted_same, states_at, states_long}
-use Rattle.cpu.proofs.Tower.Begins.{first_polls_are_steps, polls_are_steps}
-use Rattle.cpu.proofs.Tower.Chains.{put_same}
-use Rattle.cpu.proofs.Tower.Preserved.{IsFree, begins_keep, preserved_by, plans_keep}
-use Rattle.cpu.proofs.Tower.Polled.{Polled}
-use Rattle.cpu.proofs.Tower.Passed.{at_rest, in_call}
+use Rattle.cpu.proofs.{CpuStates.TabledCpu, CpuStates.Outset, CpuStates.valid, Follow.had_going, GuestLists.at_other, GuestLists.at_same}
+use Rattle.cpu.proofs.{GuestLists.guest_within, Steps.PollsAt, Steps.polls_at, Steps.poll_number, Steps.poll_call_states, TableRows.call_is}
+use Rattle.cpu.proofs.{TableRows.halted_same, TableRows.states_at, TableRows.states_long, Tower.Begins.first_polls_are_steps, Tower.Begins.polls_are_steps}
+use Rattle.cpu.proofs.{Tower.Chains.put_same, Tower.Preserved.IsFree, Tower.Preserved.begins_keep, Tower.Preserved.preserved_by, Tower.Preserved.plans_keep}
+use Rattle.cpu.proofs.{Tower.Polled.Polled, Tower.Passed.at_rest, Tower.Passed.in_call}
+use Rattle.guest.specs.declared.instructions.Instruction.TheVariants as ins
+use Rattle.layer_traits.specs.declared.call_states.Stage.TheVariants as at_stage
 
 -- the opening blocks are the table's, of whatever programs
 pub opens_as : (setup : Setup) (homes : List CpuId) (caps : List ℕ) (number : CpuId) (opening : LockId → Option TowerBlock) → setup.homes ≡ homes

@@ -1,34 +1,23 @@
 -- A system is quiet exactly where the step table has it quiet; and where it is quiet it is still.
-use Rattle.std.proofs.Common.{◌≡◌, ℕ, zero, suc, ◌+◌, ◌<◌, Bool, true, false, not, ◌&&◌, List, [], ◌∷◌, length, map, Option, Some, None}
-use Rattle.std.proofs.Common.{is_some, refl, ap, sym, ◌∙◌, subst, arith}
+use Rattle.std.proofs.Common.{◌≡◌, ℕ, zero, suc, ◌+◌, ◌<◌, Bool, true, false, not, ◌&&◌, List, [], ◌∷◌, length, map, Option, Some, None, is_some, refl, ap, sym}
+use Rattle.std.proofs.Common.{◌∙◌, subst, arith}
 use Rattle.std.specs.Prelude.{slice_get, if◌then◌else◌}
-use Rattle.std.proofs.lemmas.Bool.{and_parts}
-use Rattle.std.proofs.lemmas.Option.{slice_get_within}
-use Rattle.event_log.specs.declared.ids.CpuId.{CpuId}
-use Rattle.event_log.specs.declared.ids.Tid.{Tid}
-use Rattle.event_log.specs.History.{same_cpu}
+use Rattle.std.proofs.lemmas.{Bool.and_parts, Option.slice_get_within}
+use Rattle.event_log.specs.{declared.ids.CpuId.CpuId, declared.ids.Tid.Tid, History.same_cpu}
 use Rattle.event_log.proofs.Same.{same_cpu_self, same_cpu_true}
 use Rattle.guest.specs.declared.instructions.Instruction.{Instruction}
-use Rattle.guest.specs.declared.instructions.Instruction.TheVariants as ins
 use Rattle.thread_blocks.specs.Queues.{is_in}
-use Rattle.layer_traits.specs.declared.calls.Place.TheVariants as place
-use Rattle.layer_traits.specs.declared.steps.Reason.{Reason}
-use Rattle.layer_traits.specs.declared.steps.Reason.TheVariants.{AllEnded, StepsUsed, TraceFull}
-use Rattle.layer_traits.specs.Places.{Threads}
-use Rattle.layer_traits.specs.Passes.{or_else}
-use Rattle.cpu.specs.Calm.{IsQuiet, calm_by, is_calm, is_nobody}
-use Rattle.cpu.specs.Claims.{CpuShown, MovesAgree, Shown, buffer_at}
-use Rattle.cpu.specs.Cpus.{reason_in, halted_at as own_halted_at}
-use Rattle.cpu.specs.Sound.{IsReachedByTable, IsSetupFor}
-use Rattle.cpu.specs.Systems.{own_reason, whole_of}
-use Rattle.cpu.specs.Table.Blocks.{OfPending}
-use Rattle.cpu.specs.Table.Choice.{Goes, Halts, at_call, at_current, at_hand, at_instruction, at_ready}
+use Rattle.layer_traits.specs.{declared.steps.Reason.Reason, declared.steps.Reason.TheVariants.AllEnded, declared.steps.Reason.TheVariants.StepsUsed}
+use Rattle.layer_traits.specs.{declared.steps.Reason.TheVariants.TraceFull, Places.Threads, Passes.or_else}
+use Rattle.cpu.specs.{Calm.IsQuiet, Calm.calm_by, Calm.is_calm, Calm.is_nobody, Claims.CpuShown, Claims.MovesAgree, Claims.Shown, Claims.buffer_at}
+use Rattle.cpu.specs.{Cpus.reason_in, Cpus.halted_at as own_halted_at, Sound.IsReachedByTable, Sound.IsSetupFor, Systems.own_reason, Systems.whole_of}
+use Rattle.cpu.specs.{Table.Blocks.OfPending, Table.Choice.Goes, Table.Choice.Halts, Table.Choice.at_call, Table.Choice.at_current, Table.Choice.at_hand}
+use Rattle.cpu.specs.{Table.Choice.at_instruction, Table.Choice.at_ready, Table.Steps.cpu_numbered, Table.Steps.halted_at, Table.Steps.halted_by}
+use Rattle.cpu.specs.{Observed.IsStill, Observed.ObservedByTable, Wakeups.Quiet.IsQuiet as IsQuietTable, Wakeups.Quiet.IsQuietBy, Wakeups.Quiet.IsStuck}
 use Rattle.cpu.specs.Table.Setups.{Call, Private, Setup, have_ended, home_of, home_threads, home_threads_from, stands_at, thread_at}
-use Rattle.cpu.specs.Table.Steps.{cpu_numbered, halted_at, halted_by}
-use Rattle.cpu.specs.Observed.{IsStill, ObservedByTable}
-use Rattle.cpu.specs.Wakeups.Quiet.{IsQuiet as IsQuietTable, IsQuietBy, IsStuck}
-use Rattle.cpu.proofs.ListReads.{shown_at, shows_at, there_is}
-use Rattle.cpu.proofs.Wakeups.Stuck.{quiet_is_stuck}
+use Rattle.cpu.proofs.{ListReads.shown_at, ListReads.shows_at, ListReads.there_is, Wakeups.Stuck.quiet_is_stuck}
+use Rattle.guest.specs.declared.instructions.Instruction.TheVariants as ins
+use Rattle.layer_traits.specs.declared.calls.Place.TheVariants as place
 
 -- Whether all home threads of a CPU have ended.
 

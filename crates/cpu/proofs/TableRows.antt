@@ -1,41 +1,28 @@
 -- A CPU and the table's private state agree on each thread, and on why the CPU is halted.
-use Rattle.std.proofs.Common.{◌≡◌, ℕ, zero, suc, ◌+◌, ◌<◌, ◌==◌, Bool, true, false, not, ◌&&◌, List, [], ◌∷◌, length}
-use Rattle.std.proofs.Common.{cond, get_or, Option, Some, None, is_some, option_map, slice_get, if◌then◌else◌, refl, ap, sym, ◌∙◌, subst, arith}
+use Rattle.std.proofs.Common.{◌≡◌, ℕ, zero, suc, ◌+◌, ◌<◌, ◌==◌, Bool, true, false, not, ◌&&◌, List, [], ◌∷◌, length, cond, get_or, Option, Some, None, is_some}
+use Rattle.std.proofs.Common.{option_map, slice_get, if◌then◌else◌, refl, ap, sym, ◌∙◌, subst, arith}
 use Rattle.std.proofs.lemmas.List.Sums.{sum_by-cons}
 use Rattle.std.specs.List.{list_all}
-use Rattle.event_log.specs.declared.entries.Entry.{Entry}
-use Rattle.event_log.specs.declared.ids.CpuId.{CpuId}
-use Rattle.event_log.specs.declared.ids.Tid.{Tid}
-use Rattle.event_log.specs.History.{same_cpu}
+use Rattle.event_log.specs.{declared.entries.Entry.Entry, declared.ids.CpuId.CpuId, declared.ids.Tid.Tid, History.same_cpu}
 use Rattle.event_log.proofs.Same.{same_cpu_self, same_cpu_true}
-use Rattle.guest.specs.declared.instructions.Instruction.{Instruction}
-use Rattle.guest.specs.declared.instructions.Instruction.TheVariants as ins
-use Rattle.guest.specs.State.{State, next_of}
+use Rattle.guest.specs.{declared.instructions.Instruction.Instruction, State.State, State.next_of}
 use Rattle.thread_blocks.specs.Queues.{is_in}
-use Rattle.layer_traits.specs.declared.calls.Call.{Call}
-use Rattle.layer_traits.specs.declared.calls.Effect.{Effect}
-use Rattle.layer_traits.specs.declared.steps.Reason.{Reason}
-use Rattle.layer_traits.specs.declared.steps.Reason.TheVariants.{AllEnded, TraceFull}
-use Rattle.layer_traits.specs.LockLaw.{slept_for}
-use Rattle.layer_traits.specs.Places.{home_of}
-use Rattle.layer_traits.specs.BufferLaw.{Buffering, begun_of, call_state_of}
-use Rattle.cpu.specs.declared.guests.Guest.{Guest}
-use Rattle.cpu.specs.declared.guests.GuestStage.{GuestStage}
-use Rattle.cpu.specs.declared.guests.GuestStage.TheVariants.{Idle, Begun, Done, Ended}
-use Rattle.cpu.specs.declared.guests.Todo.{Todo}
-use Rattle.cpu.specs.declared.guests.Todo.TheVariants.{Calls}
-use Rattle.cpu.specs.Guests.{HasComeIn, is_begun, is_calling, is_ended, todo_at, todo_of}
-use Rattle.cpu.specs.Cpus.{begins, begins_at, begun_count, chosen_at, chosen_by, chosen_for}
-use Rattle.cpu.specs.Cpus.{chosen_todo, guest_at, halted_at as cpu_halted, is_begun_guest, is_over, of_cpu, of_thread}
-use Rattle.cpu.specs.Table.Setups.{Setup, Call as TableCall, Private, Thread, have_ended, home_threads, has_none}
-use Rattle.cpu.specs.Table.Setups.{home_threads_from, is_open_call, open_calls, stands_at, thread_at}
-use Rattle.cpu.specs.Table.Choice.{Choice, Halts, Goes, at_call, at_current, at_hand, at_instruction, at_ready}
-use Rattle.cpu.specs.Table.Steps.{halted_at as table_halted, halted_by}
-use Rattle.cpu.specs.Tower.Privates.{call_from, is_deferred, stage_from, thread_of, threads_in, tid}
-use Rattle.cpu.specs.Tables.{IsSetupOf, private, state_of, states}
-use Rattle.cpu.proofs.CpuStates.{TabledCpu}
-use Rattle.cpu.proofs.Tower.Begins.{thread_here}
-use Rattle.cpu.proofs.GuestLists.{guest_within}
+use Rattle.layer_traits.specs.{declared.calls.Call.Call, declared.calls.Effect.Effect, declared.steps.Reason.Reason, declared.steps.Reason.TheVariants.AllEnded}
+use Rattle.layer_traits.specs.{declared.steps.Reason.TheVariants.TraceFull, LockLaw.slept_for, Places.home_of, BufferLaw.Buffering, BufferLaw.begun_of}
+use Rattle.layer_traits.specs.{BufferLaw.call_state_of}
+use Rattle.cpu.specs.{declared.guests.Guest.Guest, declared.guests.GuestStage.GuestStage, declared.guests.GuestStage.TheVariants.Idle}
+use Rattle.cpu.specs.{declared.guests.GuestStage.TheVariants.Begun, declared.guests.GuestStage.TheVariants.Done, declared.guests.GuestStage.TheVariants.Ended}
+use Rattle.cpu.specs.{declared.guests.Todo.Todo, declared.guests.Todo.TheVariants.Calls, Guests.HasComeIn, Guests.is_begun, Guests.is_calling, Guests.is_ended}
+use Rattle.cpu.specs.{Guests.todo_at, Guests.todo_of, Cpus.begins, Cpus.begins_at, Cpus.begun_count, Cpus.chosen_at, Cpus.chosen_by, Cpus.chosen_for}
+use Rattle.cpu.specs.{Cpus.chosen_todo, Cpus.guest_at, Cpus.halted_at as cpu_halted, Cpus.is_begun_guest, Cpus.is_over, Cpus.of_cpu, Cpus.of_thread}
+use Rattle.cpu.specs.{Table.Setups.Setup, Table.Setups.Call as TableCall, Table.Setups.Private, Table.Setups.Thread, Table.Setups.have_ended}
+use Rattle.cpu.specs.{Table.Setups.home_threads, Table.Setups.has_none, Table.Setups.home_threads_from, Table.Setups.is_open_call, Table.Setups.open_calls}
+use Rattle.cpu.specs.{Table.Setups.stands_at, Table.Setups.thread_at, Table.Choice.Choice, Table.Choice.Halts, Table.Choice.Goes, Table.Choice.at_call}
+use Rattle.cpu.specs.{Table.Choice.at_current, Table.Choice.at_hand, Table.Choice.at_instruction, Table.Choice.at_ready, Table.Steps.halted_at as table_halted}
+use Rattle.cpu.specs.{Table.Steps.halted_by, Tower.Privates.call_from, Tower.Privates.is_deferred, Tower.Privates.stage_from, Tower.Privates.thread_of}
+use Rattle.cpu.specs.{Tower.Privates.threads_in, Tower.Privates.tid, Tables.IsSetupOf, Tables.private, Tables.state_of, Tables.states}
+use Rattle.cpu.proofs.{CpuStates.TabledCpu, Tower.Begins.thread_here, GuestLists.guest_within}
+use Rattle.guest.specs.declared.instructions.Instruction.TheVariants as ins
 
 -- the states of the guests
 pub states_at : (guests : List (Option Guest)) (k : ℕ) (g : Guest) → guest_at guests k ≡ Some g → (s : State) → get_or (states guests) k s ≡ g.thread

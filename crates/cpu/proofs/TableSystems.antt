@@ -1,28 +1,18 @@
 -- A step of a system that is taken is the step table's.
-use Rattle.std.proofs.Common.{◌≡◌, ◌≢◌, ℕ, ◌+◌, ◌<◌, Bool, true, List, [], ◌∷◌, ◌++◌, length, map}
-use Rattle.std.proofs.Common.{take, Option, Some, None, refl, ap, sym, ◌∙◌, subst, slice_set}
+use Rattle.std.proofs.Common.{◌≡◌, ◌≢◌, ℕ, ◌+◌, ◌<◌, Bool, true, List, [], ◌∷◌, ◌++◌, length, map, take, Option, Some, None, refl, ap, sym, ◌∙◌, subst}
+use Rattle.std.proofs.Common.{slice_set}
 use Rattle.std.specs.Prelude.{slice_get, slice_index_or}
 use Rattle.std.specs.List.{AllByRecursion}
-use Rattle.std.proofs.lemmas.Bool.{ne_eqb}
-use Rattle.std.proofs.lemmas.List.{map-set, take_more}
-use Rattle.event_log.specs.declared.ids.CpuId.{CpuId}
-use Rattle.event_log.specs.declared.ids.TheConstants.{CPUS}
-use Rattle.event_log.specs.Actions.{Action, Take, Try, Give, AreLegal, cpu_of_action}
-use Rattle.event_log.specs.History.{AreForeign, IsLawful, same_cpu}
-use Rattle.event_log.proofs.Foreign.{cpus_of_actions_known}
-use Rattle.event_log.proofs.Same.{same_cpu_self}
-use Rattle.layer_traits.specs.declared.steps.Reason.{Reason}
-use Rattle.layer_traits.specs.declared.steps.Step.{Step}
-use Rattle.layer_traits.specs.declared.steps.Step.TheVariants.{Stepped, Halted}
-use Rattle.layer_traits.specs.Along.{IsStep}
-use Rattle.cpu.specs.Table.Blocks.{Name}
-use Rattle.cpu.specs.Table.Setups.{Setup, Private}
-use Rattle.cpu.specs.Table.Steps.{Stepping, Whole, answered_by, cpu_step, roomy, step_at, system_step}
-use Rattle.cpu.specs.Tower.Composed.{named}
-use Rattle.cpu.specs.Tower.Views.{TowerName}
-use Rattle.cpu.specs.Claims.{CpuShown, Shown}
-use Rattle.cpu.specs.Cpus.{step_answer}
-use Rattle.cpu.specs.Systems.{Ran, SamePlan, SteppedByTable, WentOn, goes, reason_of, reason_or, stayed, took}
+use Rattle.std.proofs.lemmas.{Bool.ne_eqb, List.map-set, List.take_more}
+use Rattle.event_log.specs.{declared.ids.CpuId.CpuId, declared.ids.TheConstants.CPUS, Actions.Action, Actions.Take, Actions.Try, Actions.Give, Actions.AreLegal}
+use Rattle.event_log.specs.{Actions.cpu_of_action, History.AreForeign, History.IsLawful, History.same_cpu}
+use Rattle.event_log.proofs.{Foreign.cpus_of_actions_known, Same.same_cpu_self}
+use Rattle.layer_traits.specs.{declared.steps.Reason.Reason, declared.steps.Step.Step, declared.steps.Step.TheVariants.Stepped}
+use Rattle.layer_traits.specs.{declared.steps.Step.TheVariants.Halted, Along.IsStep}
+use Rattle.cpu.specs.{Table.Blocks.Name, Table.Setups.Setup, Table.Setups.Private, Table.Steps.Stepping, Table.Steps.Whole, Table.Steps.answered_by}
+use Rattle.cpu.specs.{Table.Steps.cpu_step, Table.Steps.roomy, Table.Steps.step_at, Table.Steps.system_step, Tower.Composed.named, Tower.Views.TowerName}
+use Rattle.cpu.specs.{Claims.CpuShown, Claims.Shown, Cpus.step_answer, Systems.Ran, Systems.SamePlan, Systems.SteppedByTable, Systems.WentOn, Systems.goes}
+use Rattle.cpu.specs.{Systems.reason_of, Systems.reason_or, Systems.stayed, Systems.took}
 use Rattle.cpu.proofs.ListReads.{all_left, all_right, shows_at}
 
 -- where the holder acts for each CPU that there may be, no action is foreign

@@ -1,17 +1,10 @@
 -- CPUs and systems at boot: their guests, and that nothing has happened.
 use Rattle.std.specs.Prelude.{◌≡◌, ℕ, ◌≤◌, ◌==◌, List, [], length, map, replicate, Option, Some, None, slice_get, if◌then◌else◌}
-use Rattle.event_log.specs.declared.entries.Entry.{Entry}
-use Rattle.event_log.specs.declared.ids.CpuId.{CpuId}
-use Rattle.event_log.specs.declared.ids.Tid.{Tid}
-use Rattle.event_log.specs.declared.ids.TheConstants.{THREADS}
-use Rattle.layer_traits.specs.declared.call_states.CallState.{CallState}
-use Rattle.layer_traits.specs.Places.{Threads, at_boot, home_of}
-use Rattle.layer_traits.specs.BufferLaw.{Buffering, UnderWay, buffering_at_start, no_call}
-use Rattle.cpu.specs.declared.guests.Guest.{Guest}
-use Rattle.cpu.specs.Guests.{new_guest}
+use Rattle.event_log.specs.declared.{entries.Entry.Entry, ids.CpuId.CpuId, ids.Tid.Tid, ids.TheConstants.THREADS}
+use Rattle.layer_traits.specs.{declared.call_states.CallState.CallState, Places.Threads, Places.at_boot, Places.home_of, BufferLaw.Buffering}
+use Rattle.layer_traits.specs.{BufferLaw.UnderWay, BufferLaw.buffering_at_start, BufferLaw.no_call}
+use Rattle.cpu.specs.{declared.guests.Guest.Guest, Guests.new_guest, Claims.listed, Cpus.NamesBelow, Cpus.guest_at}
 use Rattle.boot.specs.Plan.{BootPlan, Task}
-use Rattle.cpu.specs.Claims.{listed}
-use Rattle.cpu.specs.Cpus.{NamesBelow, guest_at}
 
 -- a CPU's guests at boot: a place for each thread; at the number of each thread at home with it, and there alone, a new guest, whose
 -- program names the machine's buffers alone

@@ -1,37 +1,17 @@
 -- What a system shows, and what holds of it after every list of steps.
-use Rattle.std.specs.Prelude.{◌≡◌, ◌⊎◌, ℕ, zero, suc, ◌+◌, ◌<◌, Bool, true, false}
-use Rattle.std.specs.Prelude.{List, [], ◌∷◌, map, length, reverse, Option, Some, None, slice_get, slice_index_or}
+use Rattle.std.specs.Prelude.{◌≡◌, ◌⊎◌, ℕ, zero, suc, ◌+◌, ◌<◌, Bool, true, false, List, [], ◌∷◌, map, length, reverse, Option, Some, None, slice_get}
+use Rattle.std.specs.Prelude.{slice_index_or}
 use Rattle.std.specs.List.{AllByRecursion}
-use Rattle.event_log.specs.declared.entries.Entry.{Entry}
-use Rattle.event_log.specs.declared.ids.BufId.{BufId}
-use Rattle.event_log.specs.declared.ids.CpuId.{CpuId}
-use Rattle.event_log.specs.declared.ids.Tid.{Tid}
-use Rattle.event_log.specs.Actions.{Action}
-use Rattle.event_log.specs.Messages.{Message}
-use Rattle.event_log.specs.Runs.{IsRun, is_closed}
-use Rattle.event_log.specs.Streams.{IsFirstInFirstOut}
-use Rattle.event_log.specs.Traces.{IsInterleaving}
-use Rattle.guest.specs.declared.instructions.Instruction.{Instruction}
-use Rattle.guest.specs.Calls.{AreProgramsCalls, HasEnded}
-use Rattle.layer_traits.specs.declared.calls.Call.{Call}
-use Rattle.layer_traits.specs.declared.calls.Effect.{Effect}
-use Rattle.layer_traits.specs.declared.calls.Place.{Place}
-use Rattle.layer_traits.specs.declared.moves.WaitList.{WaitList}
-use Rattle.layer_traits.specs.declared.moves.WaitList.TheVariants.{Sleepers, Receivers, Senders}
+use Rattle.event_log.specs.{declared.entries.Entry.Entry, declared.ids.BufId.BufId, declared.ids.CpuId.CpuId, declared.ids.Tid.Tid, Actions.Action}
+use Rattle.event_log.specs.{Messages.Message, Runs.IsRun, Runs.is_closed, Streams.IsFirstInFirstOut, Traces.IsInterleaving}
+use Rattle.guest.specs.{declared.instructions.Instruction.Instruction, Calls.AreProgramsCalls, Calls.HasEnded}
+use Rattle.layer_traits.specs.{declared.calls.Call.Call, declared.calls.Effect.Effect, declared.calls.Place.Place, BufferEffects.contents_of}
+use Rattle.layer_traits.specs.{BufferLaw.Buffering, OnePlace.StandsOnce as InOnePlace, OnePlace.total, Places.AreMoves, Places.Stands, Places.Step}
+use Rattle.layer_traits.specs.{Places.Threads, Places.count_in, Places.home_of, Places.where_is, Observed.IsOwnPlace, Observed.queue_place}
+use Rattle.layer_traits.specs.declared.moves.WaitList.{WaitList, TheVariants.Sleepers, TheVariants.Receivers, TheVariants.Senders}
 use Rattle.thread_blocks.specs.Queues.{is_in}
-use Rattle.layer_traits.specs.BufferEffects.{contents_of}
-use Rattle.layer_traits.specs.BufferLaw.{Buffering}
-use Rattle.layer_traits.specs.OnePlace.{StandsOnce as InOnePlace, total}
-use Rattle.layer_traits.specs.Places.{AreMoves, Stands, Step, Threads, count_in, home_of, where_is}
-use Rattle.layer_traits.specs.Observed.{IsOwnPlace, queue_place}
-use Rattle.cpu.specs.declared.guests.Guest.{Guest}
-use Rattle.cpu.specs.Guests.{HasComeIn, is_ended}
-use Rattle.cpu.specs.Table.Blocks.{Name}
-use Rattle.cpu.specs.Table.Setups.{Private}
-use Rattle.cpu.specs.Tables.{private}
-use Rattle.cpu.specs.Tower.Composed.{named}
-use Rattle.cpu.specs.Tower.Views.{TowerName}
-use Rattle.cpu.specs.Cpus.{IsOfHome, guest_at, of_thread, programs_of}
+use Rattle.cpu.specs.{declared.guests.Guest.Guest, Guests.HasComeIn, Guests.is_ended, Table.Blocks.Name, Table.Setups.Private, Tables.private}
+use Rattle.cpu.specs.{Tower.Composed.named, Tower.Views.TowerName, Cpus.IsOfHome, Cpus.guest_at, Cpus.of_thread, Cpus.programs_of}
 
 -- who sleeps at a buffer: for its lock, for a message, for room
 pub record WaitersAgree : Type 0 where

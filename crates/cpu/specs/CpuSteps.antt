@@ -1,13 +1,9 @@
 -- One CPU over a layer of message calls and its machine: what always holds of it, and what each of its steps leaves.
 use Rattle.std.specs.Prelude.{◌≡◌, ◌≢◌, ◌+◌, ◌≤◌, length, Option, vec_capacity}
 use Rattle.event_log.specs.declared.ids.CpuId.{CpuId}
-use Rattle.layer_traits.specs.declared.call_layers.CallLayer.{Ghosts}
-use Rattle.layer_traits.specs.declared.steps.Reason.{Reason}
-use Rattle.layer_traits.specs.declared.steps.Step.{Step}
-use Rattle.layer_traits.specs.BufferLaw.{MovesGrow}
-use Rattle.cpu.specs.declared.cpus.Cpu.{Cpu}
-use Rattle.cpu.specs.Cpus.{ActsGrow, IsCpu, SeenGrows, halted_at, programs_of, reason_in}
-use Rattle.cpu.specs.Tables.{IsTabled, WentByTable}
+use Rattle.layer_traits.specs.{declared.call_layers.CallLayer.Ghosts, declared.steps.Reason.Reason, declared.steps.Step.Step, BufferLaw.MovesGrow}
+use Rattle.cpu.specs.{declared.cpus.Cpu.Cpu, Cpus.ActsGrow, Cpus.IsCpu, Cpus.SeenGrows, Cpus.halted_at, Cpus.programs_of, Cpus.reason_in, Tables.IsTabled}
+use Rattle.cpu.specs.{Tables.WentByTable}
 
 -- what always holds of the CPU
 abbrev pub IsCpuAt : {P L M : Type 0} → Ghosts P L M → M → Cpu P M → Type 0

@@ -1,20 +1,11 @@
 -- A system is one that the step table reaches from boot, whichever setup of the table is its. So it has lost no wake-up, and a call of a
 -- CPU that runs alone returns.
 use Rattle.std.specs.Prelude.{◌≡◌, ℕ, ◌+◌, ◌<◌, ◌≤◌, List, [], ◌∷◌, length, map, replicate, Some}
-use Rattle.event_log.specs.declared.entries.Kind.TheVariants.{Close}
-use Rattle.event_log.specs.declared.ids.BufId.{BufId}
-use Rattle.event_log.specs.declared.ids.CpuId.{CpuId}
-use Rattle.event_log.specs.declared.ids.LockId.TheVariants.{Buffer as AtBuffer}
-use Rattle.event_log.specs.declared.ids.Tid.{Tid}
+use Rattle.event_log.specs.declared.{entries.Kind.TheVariants.Close, ids.BufId.BufId, ids.CpuId.CpuId, ids.LockId.TheVariants.Buffer as AtBuffer, ids.Tid.Tid}
 use Rattle.boot.specs.Plan.{BootPlan}
-use Rattle.cpu.specs.Boots.{homes_for}
-use Rattle.cpu.specs.Claims.{Shown}
-use Rattle.cpu.specs.Systems.{GoesBy, whole_of}
-use Rattle.cpu.specs.Table.Blocks.{Buffer, OfBuffer}
-use Rattle.cpu.specs.Table.Setups.{Setup, Private}
-use Rattle.cpu.specs.Table.Steps.{IsReached, Whole, block_at, system_step, whole_at_boot}
-use Rattle.cpu.specs.Wakeups.Alone.{HasReturned, IsInCall, IsReady, steps_to_return}
-use Rattle.cpu.specs.Wakeups.Lost.{NoWakeUpIsLost}
+use Rattle.cpu.specs.{Boots.homes_for, Claims.Shown, Systems.GoesBy, Systems.whole_of, Table.Blocks.Buffer, Table.Blocks.OfBuffer, Table.Setups.Setup}
+use Rattle.cpu.specs.{Table.Setups.Private, Table.Steps.IsReached, Table.Steps.Whole, Table.Steps.block_at, Table.Steps.system_step, Table.Steps.whole_at_boot}
+use Rattle.cpu.specs.{Wakeups.Alone.HasReturned, Wakeups.Alone.IsInCall, Wakeups.Alone.IsReady, Wakeups.Alone.steps_to_return, Wakeups.Lost.NoWakeUpIsLost}
 
 -- a setup of the step table is this system's: it agrees with each of its CPUs, and has as many
 pub record IsSetupFor (setup : Setup) (s : Shown) : Type 0 where

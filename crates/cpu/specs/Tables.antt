@@ -1,27 +1,13 @@
 -- A CPU's step is the step table's.
 use Rattle.std.specs.Prelude.{◌≡◌, ℕ, true, List, [], length, map, Option, Some, None}
-use Rattle.event_log.specs.declared.entries.Entry.{Entry}
-use Rattle.event_log.specs.declared.ids.CpuId.{CpuId}
-use Rattle.event_log.specs.declared.ids.LockId.{LockId}
-use Rattle.event_log.specs.declared.ids.Tid.{Tid}
-use Rattle.event_log.specs.Actions.{Action}
+use Rattle.event_log.specs.{declared.entries.Entry.Entry, declared.ids.CpuId.CpuId, declared.ids.LockId.LockId, declared.ids.Tid.Tid, Actions.Action}
 use Rattle.guest.specs.State.{State, at_start}
 use Rattle.thread_blocks.specs.Queues.{is_in}
-use Rattle.layer_traits.specs.declared.passes.Pass.{Pass}
-use Rattle.layer_traits.specs.declared.steps.Step.{Step}
-use Rattle.layer_traits.specs.Along.{IsStep}
-use Rattle.layer_traits.specs.Passes.{IsLocalPass}
-use Rattle.layer_traits.specs.Places.{home_of}
-use Rattle.layer_traits.specs.BufferLaw.{Buffering, UnderWay, Passing}
-use Rattle.cpu.specs.declared.guests.Guest.{Guest}
-use Rattle.cpu.specs.Guests.{is_ended}
-use Rattle.cpu.specs.Cpus.{guest_at}
-use Rattle.cpu.specs.Table.Setups.{Setup, Private, program_of}
-use Rattle.cpu.specs.Table.Steps.{cpu_step}
-use Rattle.cpu.specs.Tower.Views.{TowerBlock, TowerName}
-use Rattle.cpu.specs.Tower.Privates.{private_of, threads_in}
-use Rattle.cpu.specs.Tower.Composed.{OpensAs, named}
-use Rattle.cpu.specs.Tower.Positions.{IsPart}
+use Rattle.layer_traits.specs.{declared.passes.Pass.Pass, declared.steps.Step.Step, Along.IsStep, Passes.IsLocalPass, Places.home_of, BufferLaw.Buffering}
+use Rattle.layer_traits.specs.{BufferLaw.UnderWay, BufferLaw.Passing}
+use Rattle.cpu.specs.{declared.guests.Guest.Guest, Guests.is_ended, Cpus.guest_at, Table.Setups.Setup, Table.Setups.Private, Table.Setups.program_of}
+use Rattle.cpu.specs.{Table.Steps.cpu_step, Tower.Views.TowerBlock, Tower.Views.TowerName, Tower.Privates.private_of, Tower.Privates.threads_in}
+use Rattle.cpu.specs.{Tower.Composed.OpensAs, Tower.Composed.named, Tower.Positions.IsPart}
 
 -- the guests' states; a thread of another home stays at its start
 abbrev pub state_of : Option Guest → State

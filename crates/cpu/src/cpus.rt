@@ -1,10 +1,8 @@
 //! One CPU over a layer of message calls. No call takes memory or waits.
 
 ghost use Rattle.std.specs.Prelude.{◌≡◌, ◌+◌, ◌<◌, true, false, ◌≤◌, [], ◌∷◌, ◌++◌, Some, None, if◌then◌else◌, length, vec_capacity};
-ghost use Rattle.layer_traits.specs.BufferLaw.{entry_of};
-ghost use Rattle.cpu.specs.Guests.{entries_of};
-ghost use Rattle.layer_traits.specs.declared.calls.Call.{Call};
-ghost use Rattle.cpu.specs.Cpus.{begins_at, begun_count, chosen_for, guest_at};
+ghost use Rattle.layer_traits.specs.{BufferLaw.entry_of, declared.calls.Call.Call};
+ghost use Rattle.cpu.specs.{Guests.entries_of, Cpus.begins_at, Cpus.begun_count, Cpus.chosen_for, Cpus.guest_at};
 
 use crate::guest_tables::Guests;
 use crate::guests::{Guest, Todo};
@@ -39,11 +37,10 @@ pub struct Cpu<I: CallLayer<IpcLaw>> {
 }
 
 impl<I: CallLayer<IpcLaw>> Cpu<I> {
-    ghost use Rattle.layer_traits.specs.declared.steps.Reason.{Reason};
-    ghost use Rattle.layer_traits.specs.declared.steps.Step.TheVariants.{Halted, Stepped};
-    ghost use Rattle.cpu.specs.declared.cpus.Choice.TheVariants.{Polls, Passes, Computes};
-    ghost use Rattle.cpu.specs.CpuSteps.{IsCpuAt, IsTabledAt, Leaves, WentAt, stops_at};
-    ghost use Rattle.cpu.specs.Cpus.{chosen, halted_at, step_answer};
+    ghost use Rattle.layer_traits.specs.declared.steps.{Reason.Reason, Step.TheVariants.Halted, Step.TheVariants.Stepped};
+    ghost use Rattle.cpu.specs.{declared.cpus.Choice.TheVariants.Polls, declared.cpus.Choice.TheVariants.Passes, declared.cpus.Choice.TheVariants.Computes};
+    ghost use Rattle.cpu.specs.{CpuSteps.IsCpuAt, CpuSteps.IsTabledAt, CpuSteps.Leaves, CpuSteps.WentAt, CpuSteps.stops_at, Cpus.chosen, Cpus.halted_at};
+    ghost use Rattle.cpu.specs.{Cpus.step_answer};
 
     /// What the CPU does next, where it is not halted.
     #[inline(always)]

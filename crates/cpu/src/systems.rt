@@ -39,11 +39,7 @@ where
     I::Machine: Drop,
 {
     ghost use Rattle.std.specs.Prelude.{◌≡◌, length, map, vec_capacity};
-    ghost use Rattle.cpu.specs.Cpus.{IsCpu};
-    ghost use Rattle.cpu.specs.Claims.{Shown, cpu_shown, shown_of};
-    ghost use Rattle.cpu.specs.Tables.{IsTabled};
-    ghost use Rattle.cpu.specs.Sound.{IsReachedByTable};
-    ghost use Rattle.cpu.specs.Systems.{IsSystem};
+    ghost use Rattle.cpu.specs.{Cpus.IsCpu, Claims.Shown, Claims.cpu_shown, Claims.shown_of, Tables.IsTabled, Sound.IsReachedByTable, Systems.IsSystem};
 
     ghost Value = { Shown };
 
@@ -67,15 +63,11 @@ impl<I: Owned + Drop> System<I>
 where
     I::Machine: Drop,
 {
-    ghost use Rattle.layer_traits.specs.declared.steps.Reason.{Reason};
-    ghost use Rattle.layer_traits.specs.declared.steps.Step.TheVariants.{Halted, Stepped};
-    ghost use Rattle.event_log.specs.declared.ids.TheConstants.{CPUS, THREADS};
-    ghost use Rattle.event_log.specs.Buffers.{items_of};
-    ghost use Rattle.cpu.specs.Cpus.{step_answer};
+    ghost use Rattle.layer_traits.specs.declared.steps.{Reason.Reason, Step.TheVariants.Halted, Step.TheVariants.Stepped};
+    ghost use Rattle.event_log.specs.{declared.ids.TheConstants.CPUS, declared.ids.TheConstants.THREADS, Buffers.items_of};
+    ghost use Rattle.cpu.specs.{Cpus.step_answer, Sound.RanByTable, Sound.ReturnsAlone, Sound.SoundByTable, Observed.ObservedByTable, Systems.HaltsByTable};
+    ghost use Rattle.cpu.specs.{Systems.Ran, Systems.SamePlan, Systems.SteppedByTable, Systems.halted_in, Systems.reason_of};
     ghost use Rattle.cpu.specs.Claims.{FollowPrograms, HasOneOrder, IsPlaceOf, MovesAgree, StandsOnce, StayHome, shown_of, traces_of};
-    ghost use Rattle.cpu.specs.Sound.{RanByTable, ReturnsAlone, SoundByTable};
-    ghost use Rattle.cpu.specs.Observed.{ObservedByTable};
-    ghost use Rattle.cpu.specs.Systems.{HaltsByTable, Ran, SamePlan, SteppedByTable, halted_in, reason_of};
 
     /// Takes one step of `cpu`: one local action or one atomic action.
     ///

@@ -1,12 +1,9 @@
 -- For which CPUs a seat of the tower's table acts.
 use Rattle.std.proofs.Common.{◌≡◌}
-use Rattle.event_log.specs.declared.ids.CpuId.{CpuId}
-use Rattle.event_log.specs.History.{IsLawful}
-use Rattle.layer_traits.specs.OneLock.{opened}
-use Rattle.layer_traits.specs.WordsProtocol.{MayCome}
+use Rattle.event_log.specs.{declared.ids.CpuId.CpuId, History.IsLawful}
+use Rattle.layer_traits.specs.{OneLock.opened, WordsProtocol.MayCome}
 use Rattle.table_machine.specs.SeatViews.{SeatView}
-use Rattle.cpu_workers.specs.Closing.{tower_rules}
-use Rattle.cpu_workers.specs.Seating.{Block, Edit}
+use Rattle.cpu_workers.specs.{Closing.tower_rules, Seating.Block, Seating.Edit}
 
 -- it acts for its own, and what it has seen is lawful
 abbrev pub Acts : SeatView Edit Block → CpuId → Type 0

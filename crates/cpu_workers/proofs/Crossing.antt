@@ -6,6 +6,9 @@ use denote.Hole.{as_row}
 use denote.Param.SendFields.{declared_send}
 use denote.Param.Send.{IsSend, IsSync, sendable, enum_send, enum_sync, recorded_send, recorded_sync, view_send}
 use Rattle.std.proofs.Crossing.{crosses}
+use Rattle.layer_traits.specs.Payloads.{buffer_meant, buffer_told, cv_meant, cv_told, lock_told, queue_meant, queue_told}
+use Rattle.queuing_lock.specs.Nested.{section_meant}
+use Rattle.sleep_wakeup.specs.Nested.{nested_meant, nested_told}
 use Rattle.thread_blocks.specs.contracts.queues.ThreadQueue as queue
 use Rattle.thread_blocks.proofs.queues.ThreadQueue.TheSendSync as queue_crosses
 use Rattle.layer_traits.proofs.block_box.BlockBox.TheSendSync as box_crosses
@@ -53,9 +56,6 @@ use Rattle.layer_traits.specs.contracts.buffer_edits.BareBufferOut as bare_out
 use Rattle.sleep_wakeup.specs.contracts.deferred.DeferredOutcome as deferred
 use Rattle.sleep_wakeup.specs.contracts.sleeper.Sleeper as sleeper
 use Rattle.fifo_buffer.specs.contracts.fifo.Fifo as fifo
-use Rattle.layer_traits.specs.Payloads.{buffer_meant, buffer_told, cv_meant, cv_told, lock_told, queue_meant, queue_told}
-use Rattle.queuing_lock.specs.Nested.{section_meant}
-use Rattle.sleep_wakeup.specs.Nested.{nested_meant, nested_told}
 use Rattle.cpu_workers.specs.contracts.seats.TowerSeat as seat
 use Rattle.cpu_workers.specs.contracts.seats.TowerSeat.TheInside as inside
 

@@ -1,20 +1,14 @@
 -- How a call of native code goes on, poll by poll.
-use Rattle.std.proofs.Common.{◌≡◌, List, [], ◌∷◌, ◌++◌, Option, Some, None, option_map, option_to_list, is_some, true, false, refl, ap, sym, ◌∙◌, subst, inl, inr, ◌⊎◌, append_assoc}
-use Rattle.event_log.specs.declared.entries.Entry.{Entry}
-use Rattle.event_log.specs.declared.ids.CpuId.{CpuId}
-use Rattle.event_log.specs.declared.ids.Tid.{Tid}
+use Rattle.std.proofs.Common.{◌≡◌, List, [], ◌∷◌, ◌++◌, Option, Some, None, option_map, option_to_list, is_some, true, false, refl, ap, sym, ◌∙◌, subst, inl}
+use Rattle.std.proofs.Common.{inr, ◌⊎◌, append_assoc}
+use Rattle.event_log.specs.declared.{entries.Entry.Entry, ids.CpuId.CpuId, ids.Tid.Tid}
 use Rattle.event_log.proofs.Same.{same_cpu_self}
-use Rattle.layer_traits.specs.declared.calls.Call.{Call}
-use Rattle.layer_traits.specs.declared.calls.Effect.{Effect}
-use Rattle.layer_traits.specs.declared.calls.Reply.{Reply}
-use Rattle.layer_traits.specs.declared.call_states.CallState.{CallState}
-use Rattle.layer_traits.specs.declared.call_states.Stage.{Stage}
+use Rattle.layer_traits.specs.{declared.calls.Call.Call, declared.calls.Effect.Effect, declared.calls.Reply.Reply, declared.call_states.CallState.CallState}
+use Rattle.layer_traits.specs.{declared.call_states.Stage.Stage, BufferLaw.Answered, BufferLaw.Called, BufferLaw.IsEffectOf, BufferLaw.OthersSeen}
+use Rattle.layer_traits.specs.{BufferLaw.RunsOn, BufferLaw.buffer_of, BufferLaw.call_state_of, BufferLaw.entry_of, BufferLaw.Calling, BufferLaw.begun}
+use Rattle.layer_traits.specs.{BufferLaw.begun_at, BufferLaw.going, BufferLaw.going_at, BufferLaw.still_calling, Places.Threads}
 use Rattle.layer_traits.specs.declared.call_states.Stage.TheVariants.{Idle, Acquires, Enters, Tries, Waits, AcquiresAgain, Signals, SignalsOwn, Releases}
-use Rattle.layer_traits.specs.BufferLaw.{Answered, Called, IsEffectOf, OthersSeen, RunsOn, buffer_of, call_state_of, entry_of}
-use Rattle.layer_traits.specs.BufferLaw.{Calling, begun, begun_at, going, going_at, still_calling}
-use Rattle.layer_traits.specs.Places.{Threads}
-use Rattle.cpu.specs.Cpus.{of_cpu}
-use Rattle.cpu.specs.Guests.{entries_of}
+use Rattle.cpu.specs.{Cpus.of_cpu, Guests.entries_of}
 use Rattle.cpu.proofs.GuestLists.{cpu_same}
 use Rattle.cpu_workers.specs.Calls.{IsOn, IsOne, Returned, Went}
 

@@ -1,13 +1,9 @@
 -- Lists whose elements belong together, and loops over them.
-use Rattle.std.proofs.Common.{◌≡◌, ℕ, suc, ◌+◌, ◌<◌, ◌≤◌, List, [], ◌∷◌, ◌++◌, length, All, refl, ap}
-use Rattle.std.proofs.Common.{sym, ◌∙◌, subst, length-append, arith}
+use Rattle.std.proofs.Common.{◌≡◌, ℕ, suc, ◌+◌, ◌<◌, ◌≤◌, List, [], ◌∷◌, ◌++◌, length, All, refl, ap, sym, ◌∙◌, subst, length-append, arith}
 use Rattle.std.specs.Prelude.{Option, MatchOption}
-pub use Rattle.table_machine.proofs.Returning.{all_tail, no_more, yield_more}
 use Rattle.event_log.specs.declared.ids.CpuId.{CpuId}
-use Rattle.cpu_workers.specs.declared.gates.Go.{Go}
-use Rattle.cpu_workers.specs.declared.stops.Stop.{Stop}
-use Rattle.cpu_workers.specs.Working.{Working}
-use Rattle.cpu_workers.specs.Reports.{Both, HasRun}
+use Rattle.cpu_workers.specs.{declared.gates.Go.Go, declared.stops.Stop.Stop, Working.Working, Reports.Both, Reports.HasRun}
+pub use Rattle.table_machine.proofs.Returning.{all_tail, no_more, yield_more}
 
 module _ {A B : Type 0} (Fits : A → B → Type 0) where
   pub both_more : (xs : List A) (ys : List B) (x : A) (y : B) → Both Fits xs ys → Fits x y → Both Fits (xs ++ x ∷ []) (ys ++ y ∷ [])

@@ -1,31 +1,19 @@
 -- Natives at one table of words: what each leaves there, and that the table may be closed.
 use Rattle.std.proofs.Common.{◌≡◌, ℕ, ◌<◌, All, List, [], length, map, Option, Some, slice_get, refl, ap, sym, ◌∙◌, subst}
-use Rattle.std.proofs.lemmas.List.{length-map}
-use Rattle.std.proofs.lemmas.Option.{get_or_from_slice_get}
-use Rattle.event_log.specs.declared.ids.CpuId.{CpuId}
-use Rattle.event_log.specs.declared.ids.LockId.{LockId}
-use Rattle.event_log.specs.Actions.{Action, acts_of, phase, renamed}
-use Rattle.event_log.specs.History.{IsLawful}
-use Rattle.event_log.specs.Sections.{sections_in}
-use Rattle.event_log.specs.WordsLog.{Idle, lock_phase}
+use Rattle.std.proofs.lemmas.{List.length-map, Option.get_or_from_slice_get}
+use Rattle.event_log.specs.{declared.ids.CpuId.CpuId, declared.ids.LockId.LockId, Actions.Action, Actions.acts_of, Actions.phase, Actions.renamed}
+use Rattle.event_log.specs.{History.IsLawful, Sections.sections_in, WordsLog.Idle, WordsLog.lock_phase}
 use Rattle.event_log.proofs.Renaming.{phase_renamed}
-use Rattle.layer_traits.specs.OneLock.{opened}
-use Rattle.layer_traits.specs.OnePlace.{cpu_at}
-use Rattle.layer_traits.specs.Plans.{is_in_section}
-use Rattle.layer_traits.specs.Renaming.{renamed_edit}
-use Rattle.layer_traits.specs.WordsProtocol.{MayCome, edit_of}
+use Rattle.layer_traits.specs.{OneLock.opened, OnePlace.cpu_at, Plans.is_in_section, Renaming.renamed_edit, WordsProtocol.MayCome, WordsProtocol.edit_of}
 use Rattle.queuing_lock.specs.Nested.{edit_in as lock_call}
 use Rattle.sleep_wakeup.specs.Nested.{edit_in as slept_edit}
 use Rattle.spinlock.specs.Laws.LineLaws.{rests_outside}
 use Rattle.table_machine.specs.SeatViews.{Covers, IsOver, TableView, new_seat_view, new_seat_views, site_of}
 use Rattle.table_machine.proofs.Fresh.{length_new}
 use Rattle.cpu.proofs.ListReads.{shows_at, there_is}
-use Rattle.cpu_workers.specs.Callers.{CallerView}
-use Rattle.cpu_workers.specs.Closing.{Key, tower_rules}
-use Rattle.cpu_workers.specs.Natives.{HasLeftCalls, HaveLeftKeys}
-use Rattle.cpu_workers.specs.Seating.{Block, Edit, IsReady, tower_acts}
-use Rattle.cpu_workers.proofs.Seated.{found_within}
-use Rattle.cpu_workers.proofs.SeatViews.{one_site, rests_so, seat_views_at}
+use Rattle.cpu_workers.specs.{Callers.CallerView, Closing.Key, Closing.tower_rules, Natives.HasLeftCalls, Natives.HaveLeftKeys, Seating.Block, Seating.Edit}
+use Rattle.cpu_workers.specs.{Seating.IsReady, Seating.tower_acts}
+use Rattle.cpu_workers.proofs.{Seated.found_within, SeatViews.one_site, SeatViews.rests_so, SeatViews.seat_views_at}
 
 -- a new key is one for a native before its first call, however the machine tells its actions and that a CPU is outside
 pub ready_for : (Opens : (LockId → Option Block) → Type 0) (table_view : TableView Block) (k : ℕ) (key : Key) (IsOutside : Key → Type 0)

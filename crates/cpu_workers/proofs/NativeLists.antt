@@ -3,20 +3,13 @@ use Rattle.std.proofs.Common.{◌≡◌, ℕ, zero, suc, ◌+◌, ◌<◌, ◌�
 use Rattle.std.specs.List.{AllByRecursion}
 use Rattle.std.specs.Prelude.{IfOk, Result, Ok, Err}
 use Rattle.std.proofs.lemmas.Option.{get_or_from_slice_get}
-use Rattle.event_log.specs.declared.ids.CpuId.{CpuId}
-use Rattle.event_log.specs.declared.ids.TheConstants.{BUFFERS, CPUS}
-use Rattle.event_log.specs.Actions.{Action, phase}
-use Rattle.event_log.specs.Buffers.{IsCapacity}
-use Rattle.layer_traits.specs.OnePlace.{cpu_at}
-use Rattle.layer_traits.specs.Openings.{AreOpenable}
-use Rattle.layer_traits.specs.Plans.{is_in_section}
-use Rattle.cpu.specs.Claims.{listed}
-use Rattle.cpu.specs.Tower.Views.{TowerName}
-use Rattle.cpu.proofs.ListReads.{listed_length, there_is}
-use Rattle.cpu.proofs.PlanGuests.{listed_more}
-use Rattle.cpu_workers.specs.Callers.{CallerView}
-use Rattle.cpu_workers.specs.Natives.{HasKept, HasLeftCalls, HasLeftMachine, IsNewCaller, own_homes}
-use Rattle.cpu_workers.specs.Orders.{IsTraceOf}
+use Rattle.event_log.specs.{declared.ids.CpuId.CpuId, declared.ids.TheConstants.BUFFERS, declared.ids.TheConstants.CPUS, Actions.Action, Actions.phase}
+use Rattle.event_log.specs.{Buffers.IsCapacity}
+use Rattle.layer_traits.specs.{OnePlace.cpu_at, Openings.AreOpenable, Plans.is_in_section}
+use Rattle.cpu.specs.{Claims.listed, Tower.Views.TowerName}
+use Rattle.cpu.proofs.{ListReads.listed_length, ListReads.there_is, PlanGuests.listed_more}
+use Rattle.cpu_workers.specs.{Callers.CallerView, Natives.HasKept, Natives.HasLeftCalls, Natives.HasLeftMachine, Natives.IsNewCaller, Natives.own_homes}
+use Rattle.cpu_workers.specs.{Orders.IsTraceOf}
 use Rattle.cpu_workers.proofs.Seated.{found_within}
 
 -- what holds of all holds of the one at this place

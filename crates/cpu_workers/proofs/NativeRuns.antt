@@ -1,23 +1,15 @@
 -- Natives that came back from one table have run.
 use Rattle.std.proofs.Common.{◌≡◌, ℕ, zero, suc, ◌*◌, ◌^◌, ◌<◌, ◌≤◌, List, [], ◌∷◌, length, map, Some, slice_get, refl, ap, ◌∙◌, subst, arith}
-use Rattle.std.proofs.lemmas.List.{length-map}
-use Rattle.std.proofs.lemmas.Nat.{mul-le}
-use Rattle.event_log.specs.declared.entries.Entry.{Entry}
-use Rattle.event_log.specs.declared.ids.CpuId.{CpuId}
-use Rattle.event_log.specs.declared.ids.LockId.{LockId}
-use Rattle.event_log.specs.declared.ids.TheConstants.{BUFFERS, CPUS}
+use Rattle.std.proofs.lemmas.{List.length-map, Nat.mul-le}
+use Rattle.event_log.specs.declared.{entries.Entry.Entry, ids.CpuId.CpuId, ids.LockId.LockId, ids.TheConstants.BUFFERS, ids.TheConstants.CPUS}
 use Rattle.event_log.proofs.Streams.{taken_put}
-use Rattle.layer_traits.specs.OneLock.{opened}
-use Rattle.layer_traits.specs.OnePlace.{cpu_at}
+use Rattle.layer_traits.specs.{OneLock.opened, OnePlace.cpu_at}
 use Rattle.table_machine.specs.SeatViews.{Closes, TableView}
 use Rattle.cpu.specs.Table.Setups.{Setup}
 use Rattle.cpu.proofs.ListReads.{shows_at, there_is}
-use Rattle.cpu_workers.specs.declared.callers.TheConstants.{MOST_CALLS}
-use Rattle.cpu_workers.specs.Callers.{CallerView}
-use Rattle.cpu_workers.specs.Closing.{Key, StartsSo, acts_in, tower_rules}
-use Rattle.cpu_workers.specs.Natives.{HasLeftKey, HaveLeftKeys, HaveRun, OpensWith, left_of, own_homes}
-use Rattle.cpu_workers.specs.Orders.{IsTraceOf}
-use Rattle.cpu_workers.specs.Seating.{Block}
+use Rattle.cpu_workers.specs.{declared.callers.TheConstants.MOST_CALLS, Callers.CallerView, Closing.Key, Closing.StartsSo, Closing.acts_in, Closing.tower_rules}
+use Rattle.cpu_workers.specs.{Natives.HasLeftKey, Natives.HaveLeftKeys, Natives.HaveRun, Natives.OpensWith, Natives.left_of, Natives.own_homes}
+use Rattle.cpu_workers.specs.{Orders.IsTraceOf, Seating.Block}
 use Rattle.cpu_workers.proofs.NativeOrder.{HasCome, calls_ordered}
 
 -- One of each.

@@ -2,18 +2,11 @@
 use Rattle.std.proofs.Common.{ℕ, ◌*◌, ◌^◌, ◌<◌, ◌≤◌, List, refl, sym, subst, arith}
 use Rattle.std.proofs.lemmas.Nat.{mul-le}
 use Rattle.boot.specs.Plan.{BootPlan, IsPlan}
-use Rattle.event_log.specs.declared.entries.Entry.{Entry}
-use Rattle.event_log.specs.declared.ids.CpuId.{CpuId}
-use Rattle.event_log.specs.declared.ids.LockId.{LockId}
-use Rattle.event_log.specs.declared.ids.TheConstants.{CPUS, ENTRIES, TRACE}
-use Rattle.event_log.specs.Actions.{Action}
-use Rattle.cpu.specs.Sound.{setup_for}
-use Rattle.cpu.specs.Tower.Views.{TowerName}
-use Rattle.cpu_workers.specs.declared.gates.Go.{Go}
-use Rattle.cpu_workers.specs.declared.stops.Stop.{Stop}
-use Rattle.cpu_workers.specs.Closing.{HasSeen, acts_in, shown}
-use Rattle.cpu_workers.specs.Lawful.{IsLawfulReport, CpuReport}
-use Rattle.cpu_workers.specs.Seating.{Block, HasLeft, IsReportOf}
+use Rattle.event_log.specs.{declared.entries.Entry.Entry, declared.ids.CpuId.CpuId, declared.ids.LockId.LockId, declared.ids.TheConstants.CPUS}
+use Rattle.event_log.specs.{declared.ids.TheConstants.ENTRIES, declared.ids.TheConstants.TRACE, Actions.Action}
+use Rattle.cpu.specs.{Sound.setup_for, Tower.Views.TowerName}
+use Rattle.cpu_workers.specs.{declared.gates.Go.Go, declared.stops.Stop.Stop, Closing.HasSeen, Closing.acts_in, Closing.shown, Lawful.IsLawfulReport}
+use Rattle.cpu_workers.specs.{Lawful.CpuReport, Seating.Block, Seating.HasLeft, Seating.IsReportOf}
 use Rattle.cpu_workers.proofs.Reporting.{has_seen, report_is_lawful}
 
 -- a worker that left this did it along what it has seen

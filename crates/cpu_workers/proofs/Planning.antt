@@ -1,38 +1,20 @@
 -- A worker's plan is its CPU's, and its threads follow their programs.
-use Rattle.std.proofs.Common.{◌≡◌, ◌≢◌, ℕ, zero, suc, ◌+◌, Bool, true, false, not, ◌&&◌, ◌==◌, List, [], ◌∷◌, length, reverse, Option}
-use Rattle.std.proofs.Common.{Some, None, is_some, option_map, slice_index_or, if◌then◌else◌, refl, ap, sym, ◌∙◌, subst, arith}
+use Rattle.std.proofs.Common.{◌≡◌, ◌≢◌, ℕ, zero, suc, ◌+◌, Bool, true, false, not, ◌&&◌, ◌==◌, List, [], ◌∷◌, length, reverse, Option, Some, None, is_some}
+use Rattle.std.proofs.Common.{option_map, slice_index_or, if◌then◌else◌, refl, ap, sym, ◌∙◌, subst, arith}
 use Rattle.std.specs.List.{AllByRecursion, list_all}
 use Rattle.std.proofs.lemmas.List.{reverse-reverse}
-use Rattle.event_log.specs.declared.entries.Entry.{Entry}
-use Rattle.event_log.specs.declared.ids.CpuId.{CpuId}
-use Rattle.event_log.specs.declared.ids.Tid.{Tid}
-use Rattle.event_log.specs.Actions.{Action}
-use Rattle.guest.specs.declared.instructions.Instruction.{Instruction}
-use Rattle.guest.specs.Calls.{IsProgramsCalls, HasEnded}
-use Rattle.guest.specs.State.{State, next_of}
-use Rattle.layer_traits.specs.declared.calls.Call.{Call}
-use Rattle.layer_traits.specs.declared.calls.Effect.{Effect}
-use Rattle.layer_traits.specs.declared.steps.Reason.TheVariants.{AllEnded, TraceFull, StepsUsed}
-use Rattle.layer_traits.specs.declared.steps.Step.{Step}
-use Rattle.layer_traits.specs.Along.{Outcome, IsStep}
-use Rattle.layer_traits.specs.BufferLaw.{begun_of, call_state_of}
-use Rattle.layer_traits.specs.Places.{Threads}
-use Rattle.cpu.specs.declared.guests.Guest.{Guest}
-use Rattle.cpu.specs.declared.guests.GuestStage.{GuestStage}
-use Rattle.cpu.specs.declared.guests.GuestStage.TheVariants.{Idle, Begun, Done, Ended}
-use Rattle.cpu.specs.Guests.{HasComeIn, after_effect, is_ended}
-use Rattle.cpu.specs.Cpus.{IsCpu, IsOfHome, begins, begun_count, chosen, guest_at, halted_at, is_over, of_cpu, of_thread, programs_of}
-use Rattle.cpu.specs.Table.Setups.{Setup, Thread, thread_at}
-use Rattle.cpu.specs.Tables.{IsSetupOf, private}
-use Rattle.cpu.specs.Tower.Privates.{threads_in}
-use Rattle.cpu.specs.Tower.Views.{TowerName}
-use Rattle.cpu.proofs.ListReads.{all_reversed}
-use Rattle.cpu.proofs.Orders.{filter_reversed}
-use Rattle.cpu.proofs.TableCalls.{ObservedCpu}
-use Rattle.cpu.proofs.TableRows.{guest_there}
-use Rattle.cpu.proofs.GuestLists.{guest_with}
-use Rattle.cpu_workers.specs.Orders.{FollowsProgram, HasFollowed}
-use Rattle.cpu_workers.specs.Working.{IsPlanned}
+use Rattle.event_log.specs.{declared.entries.Entry.Entry, declared.ids.CpuId.CpuId, declared.ids.Tid.Tid, Actions.Action}
+use Rattle.guest.specs.{declared.instructions.Instruction.Instruction, Calls.IsProgramsCalls, Calls.HasEnded, State.State, State.next_of}
+use Rattle.layer_traits.specs.{declared.calls.Call.Call, declared.calls.Effect.Effect, declared.steps.Reason.TheVariants.AllEnded}
+use Rattle.layer_traits.specs.{declared.steps.Reason.TheVariants.TraceFull, declared.steps.Reason.TheVariants.StepsUsed, declared.steps.Step.Step}
+use Rattle.layer_traits.specs.{Along.Outcome, Along.IsStep, BufferLaw.begun_of, BufferLaw.call_state_of, Places.Threads}
+use Rattle.cpu.specs.{declared.guests.Guest.Guest, declared.guests.GuestStage.GuestStage, declared.guests.GuestStage.TheVariants.Idle}
+use Rattle.cpu.specs.{declared.guests.GuestStage.TheVariants.Begun, declared.guests.GuestStage.TheVariants.Done, declared.guests.GuestStage.TheVariants.Ended}
+use Rattle.cpu.specs.{Guests.HasComeIn, Guests.after_effect, Guests.is_ended, Cpus.IsCpu, Cpus.IsOfHome, Cpus.begins, Cpus.begun_count, Cpus.chosen}
+use Rattle.cpu.specs.{Cpus.guest_at, Cpus.halted_at, Cpus.is_over, Cpus.of_cpu, Cpus.of_thread, Cpus.programs_of, Table.Setups.Setup, Table.Setups.Thread}
+use Rattle.cpu.specs.{Table.Setups.thread_at, Tables.IsSetupOf, Tables.private, Tower.Privates.threads_in, Tower.Views.TowerName}
+use Rattle.cpu.proofs.{ListReads.all_reversed, Orders.filter_reversed, TableCalls.ObservedCpu, TableRows.guest_there, GuestLists.guest_with}
+use Rattle.cpu_workers.specs.{Orders.FollowsProgram, Orders.HasFollowed, Working.IsPlanned}
 
 program_there : (guests : List (Option Guest)) (t : ℕ) (g : Guest) → guest_at guests t ≡ Some g → slice_index_or (programs_of guests) t None ≡ Some g.program
 program_there [] t g at = absurd (cc at)

@@ -1,39 +1,23 @@
 -- The workers of a plan at one table of words: what each leaves there, and that the table may be closed.
-use Rattle.std.proofs.Common.{◌≡◌, ℕ, zero, suc, ◌+◌, ◌<◌, ◌≤◌, true, false, All, List, [], length, map, drop, get_or}
-use Rattle.std.proofs.Common.{Some, None, refl, ap, sym, ◌∙◌, subst}
+use Rattle.std.proofs.Common.{◌≡◌, ℕ, zero, suc, ◌+◌, ◌<◌, ◌≤◌, true, false, All, List, [], length, map, drop, get_or, Some, None, refl, ap, sym, ◌∙◌, subst}
 use Rattle.std.specs.Prelude.{IfOk, Result, Ok, Err, slice_get, if◌then◌else◌}
-use Rattle.std.proofs.lemmas.List.{length-map, drop_all}
-use Rattle.std.proofs.lemmas.Option.{get_or_from_slice_get}
+use Rattle.std.proofs.lemmas.{List.length-map, List.drop_all, Option.get_or_from_slice_get}
 use Rattle.atomic_table.specs.Seated.{TableId}
 use Rattle.boot.specs.Plan.{BootPlan}
-use Rattle.event_log.specs.declared.entries.Entry.{Entry}
-use Rattle.event_log.specs.declared.ids.CpuId.{CpuId}
-use Rattle.event_log.specs.declared.ids.LockId.{LockId}
-use Rattle.event_log.specs.Actions.{Action, Phase, Rests, Waits, Holds, acts_of, phase, renamed}
-use Rattle.event_log.specs.History.{IsLawful, same_lock}
-use Rattle.event_log.specs.Sections.{sections_in}
-use Rattle.event_log.specs.WordsLog.{Idle, lock_phase}
-use Rattle.event_log.proofs.Renaming.{phase_renamed}
-use Rattle.event_log.proofs.ListLemmas.{from_index}
-use Rattle.layer_traits.specs.OneLock.{opened}
-use Rattle.layer_traits.specs.OnePlace.{cpu_at}
-use Rattle.layer_traits.specs.Plans.{is_in_section}
-use Rattle.layer_traits.specs.Renaming.{renamed_edit}
-use Rattle.layer_traits.specs.WordsProtocol.{MayCome, edit_of}
+use Rattle.event_log.specs.{declared.entries.Entry.Entry, declared.ids.CpuId.CpuId, declared.ids.LockId.LockId, Actions.Action, Actions.Phase, Actions.Rests}
+use Rattle.event_log.specs.{Actions.Waits, Actions.Holds, Actions.acts_of, Actions.phase, Actions.renamed, History.IsLawful, History.same_lock}
+use Rattle.event_log.specs.{Sections.sections_in, WordsLog.Idle, WordsLog.lock_phase}
+use Rattle.event_log.proofs.{Renaming.phase_renamed, ListLemmas.from_index}
+use Rattle.layer_traits.specs.{OneLock.opened, OnePlace.cpu_at, Plans.is_in_section, Renaming.renamed_edit, WordsProtocol.MayCome, WordsProtocol.edit_of}
 use Rattle.queuing_lock.specs.Nested.{edit_in as lock_call}
 use Rattle.sleep_wakeup.specs.Nested.{edit_in as slept_edit}
 use Rattle.spinlock.specs.Laws.LineLaws.{rests_outside}
 use Rattle.table_machine.specs.SeatViews.{TableView, Covers, SeatView, IsOf, IsOver, new_seat_view, new_seat_views, site_of}
 use Rattle.table_machine.proofs.Fresh.{length_new}
-use Rattle.cpu.specs.Tower.Composed.{named}
-use Rattle.cpu.specs.Tower.Views.{TowerName, name_of}
-use Rattle.cpu.proofs.Booting.{at_end}
-use Rattle.cpu.proofs.ListReads.{shows_at, there_is}
-use Rattle.cpu_workers.specs.declared.seating.Left.{Left}
-use Rattle.cpu_workers.specs.declared.gates.Go.{Go}
-use Rattle.cpu_workers.specs.declared.stops.Stop.{Stop}
-use Rattle.cpu_workers.specs.Closing.{Key, tower_rules}
-use Rattle.cpu_workers.specs.Seating.{Block, Edit, HasLeft, HaveLeft, IsReady, OpensPlan, tower_acts}
+use Rattle.cpu.specs.Tower.{Composed.named, Views.TowerName, Views.name_of}
+use Rattle.cpu.proofs.{Booting.at_end, ListReads.shows_at, ListReads.there_is}
+use Rattle.cpu_workers.specs.{declared.seating.Left.Left, declared.gates.Go.Go, declared.stops.Stop.Stop, Closing.Key, Closing.tower_rules, Seating.Block}
+use Rattle.cpu_workers.specs.{Seating.Edit, Seating.HasLeft, Seating.HaveLeft, Seating.IsReady, Seating.OpensPlan, Seating.tower_acts}
 
 -- The keys of a new table.
 

@@ -1,36 +1,19 @@
 -- A CPU that was made with its guests is one before its first step, over a machine in which nothing was done.
 use Rattle.std.proofs.Common.{◌≡◌, ℕ, zero, suc, ◌<◌, ◌≤◌, List, [], ◌∷◌, length, replicate, drop, Option, Some, None, refl, ap, sym, ◌∙◌, subst, arith}
 use Rattle.std.specs.Prelude.{All, IfOk, Result, Ok, Err, slice_get, slice_index_or}
-use Rattle.std.proofs.lemmas.List.{length-drop}
-use Rattle.std.proofs.lemmas.Option.{get_or_from_slice_get}
+use Rattle.std.proofs.lemmas.{List.length-drop, Option.get_or_from_slice_get}
 use Rattle.boot.specs.Plan.{BootPlan, IsPlan, Task}
-use Rattle.event_log.specs.declared.entries.Entry.{Entry}
-use Rattle.event_log.specs.declared.ids.CpuId.{CpuId}
-use Rattle.event_log.specs.declared.ids.LockId.{LockId}
-use Rattle.event_log.specs.declared.ids.TheConstants.{THREADS}
-use Rattle.event_log.specs.Actions.{Action}
-use Rattle.layer_traits.specs.declared.call_states.CallState.{CallState}
-use Rattle.layer_traits.specs.BufferLaw.{Buffering, UnderWay, buffering_at_start, no_call}
-use Rattle.layer_traits.specs.IpcLaw.{OpensSo}
-use Rattle.layer_traits.specs.Places.{Threads, at_boot}
-use Rattle.cpu.specs.declared.guests.Guest.{Guest}
-use Rattle.cpu.specs.Boots.{AreGuests, IsBooted, guests_for, homes_for}
-use Rattle.cpu.specs.Cpus.{IsCpu, guest_at, programs_of}
-use Rattle.cpu.specs.Sound.{setup_for}
-use Rattle.cpu.specs.Table.Setups.{Setup, Private, at_boot as boot_of, program_or}
-use Rattle.cpu.specs.Tables.{IsTabled, private}
-use Rattle.cpu.specs.Tower.Views.{TowerBlock, TowerName}
-use Rattle.cpu.proofs.Booting.{boots}
-use Rattle.cpu.proofs.ListReads.{shows_at, there_is}
-use Rattle.cpu.proofs.PlanGuests.{by_task}
-use Rattle.cpu.proofs.Started.{private_boots}
-use Rattle.cpu.proofs.TableCalls.{boots_tabled}
-use Rattle.cpu.proofs.GuestLists.{guest_with}
-use Rattle.cpu_workers.specs.declared.gates.Go.{Go}
-use Rattle.cpu_workers.specs.declared.turns.Did.{Did}
-use Rattle.cpu_workers.specs.Reports.{Both, HasRun}
-use Rattle.cpu_workers.specs.Seating.{HasLeft, IsApart, IsAtBoot}
-use Rattle.cpu_workers.specs.Working.{Charge, IsPlanned, Working}
+use Rattle.event_log.specs.{declared.entries.Entry.Entry, declared.ids.CpuId.CpuId, declared.ids.LockId.LockId, declared.ids.TheConstants.THREADS}
+use Rattle.event_log.specs.{Actions.Action}
+use Rattle.layer_traits.specs.{declared.call_states.CallState.CallState, BufferLaw.Buffering, BufferLaw.UnderWay, BufferLaw.buffering_at_start}
+use Rattle.layer_traits.specs.{BufferLaw.no_call, IpcLaw.OpensSo, Places.Threads, Places.at_boot}
+use Rattle.cpu.specs.{declared.guests.Guest.Guest, Boots.AreGuests, Boots.IsBooted, Boots.guests_for, Boots.homes_for, Cpus.IsCpu, Cpus.guest_at}
+use Rattle.cpu.specs.{Cpus.programs_of, Sound.setup_for, Table.Setups.Setup, Table.Setups.Private, Table.Setups.at_boot as boot_of, Table.Setups.program_or}
+use Rattle.cpu.specs.{Tables.IsTabled, Tables.private, Tower.Views.TowerBlock, Tower.Views.TowerName}
+use Rattle.cpu.proofs.{Booting.boots, ListReads.shows_at, ListReads.there_is, PlanGuests.by_task, Started.private_boots, TableCalls.boots_tabled}
+use Rattle.cpu.proofs.{GuestLists.guest_with}
+use Rattle.cpu_workers.specs.{declared.gates.Go.Go, declared.turns.Did.Did, Reports.Both, Reports.HasRun, Seating.HasLeft, Seating.IsApart, Seating.IsAtBoot}
+use Rattle.cpu_workers.specs.{Working.Charge, Working.IsPlanned, Working.Working}
 
 -- what a CPU was made with, and what it is
 pub record Made : Type 0 where

@@ -1,29 +1,18 @@
 -- A worker's turns along one list of actions.
-use Rattle.std.proofs.Common.{◌≡◌, ◌⊎◌, inl, inr, ℕ, ◌+◌, ◌<◌, ◌≤◌, ◌==◌, Bool, true, false}
-use Rattle.std.proofs.Common.{List, [], ◌∷◌, ◌++◌, Option, if◌then◌else◌, refl, ap, sym, ◌∙◌, subst, arith}
-use Rattle.std.proofs.Common.{ltb-true, ltb-false}
+use Rattle.std.proofs.Common.{◌≡◌, ◌⊎◌, inl, inr, ℕ, ◌+◌, ◌<◌, ◌≤◌, ◌==◌, Bool, true, false, List, [], ◌∷◌, ◌++◌, Option, if◌then◌else◌, refl, ap, sym, ◌∙◌}
+use Rattle.std.proofs.Common.{subst, arith, ltb-true, ltb-false}
 use Rattle.std.specs.Prelude.{nat_lt}
-use Rattle.event_log.specs.declared.ids.CpuId.{CpuId}
-use Rattle.event_log.specs.History.{AreOthers}
-use Rattle.event_log.specs.Actions.{Action, cpu_of_action, phase}
+use Rattle.event_log.specs.{declared.ids.CpuId.CpuId, History.AreOthers, Actions.Action, Actions.cpu_of_action, Actions.phase}
 use Rattle.event_log.proofs.Foreign.{phase_others}
-use Rattle.layer_traits.specs.declared.steps.Reason.{Reason}
-use Rattle.layer_traits.specs.declared.steps.Step.{Step}
-use Rattle.layer_traits.specs.declared.steps.Step.TheVariants.{Stepped}
-use Rattle.layer_traits.specs.Along.{Outcome, Along, starts, others, steps, IsStep}
-use Rattle.layer_traits.specs.Plans.{is_in_section}
-use Rattle.cpu.specs.Table.Blocks.{Name}
-use Rattle.cpu.specs.Table.Setups.{Setup, Private}
-use Rattle.cpu.specs.Table.Steps.{cpu_step, halted_at}
-use Rattle.cpu.specs.Tower.Composed.{answer_of}
+use Rattle.layer_traits.specs.{declared.steps.Reason.Reason, declared.steps.Step.Step, declared.steps.Step.TheVariants.Stepped, Along.Outcome, Along.Along}
+use Rattle.layer_traits.specs.{Along.starts, Along.others, Along.steps, Along.IsStep, Plans.is_in_section}
+use Rattle.cpu.specs.{Table.Blocks.Name, Table.Setups.Setup, Table.Setups.Private, Table.Steps.cpu_step, Table.Steps.halted_at, Tower.Composed.answer_of}
 use Rattle.cpu.proofs.Tower.Polls.{halts_exactly}
-use Rattle.cpu_workers.specs.declared.gates.Go.{Go}
-use Rattle.cpu_workers.specs.declared.gates.Go.TheVariants.{Limit, Pass}
-use Rattle.cpu_workers.specs.declared.stops.Stop.{Stop}
-use Rattle.cpu_workers.specs.declared.stops.Stop.TheVariants.{AllEnded, TurnsUsed, TraceFull, Held}
-use Rattle.cpu_workers.specs.Working.{IsPlanned, IsSame, MayStep, Charge, Turned, Working, is_inside, log}
-use Rattle.cpu_workers.specs.Reports.{Counts, HasRun, IsTrueStop, MayHold, Took, TookWithin, Within, another, below, counted_on, most}
-use Rattle.cpu_workers.specs.Reports.{MayTake, none_taken, one_taken}
+use Rattle.cpu_workers.specs.{declared.gates.Go.Go, declared.gates.Go.TheVariants.Limit, declared.gates.Go.TheVariants.Pass, Working.IsPlanned, Working.IsSame}
+use Rattle.cpu_workers.specs.{Working.MayStep, Working.Charge, Working.Turned, Working.Working, Working.is_inside, Working.log, Reports.Counts, Reports.HasRun}
+use Rattle.cpu_workers.specs.{Reports.IsTrueStop, Reports.MayHold, Reports.Took, Reports.TookWithin, Reports.Within, Reports.another, Reports.below}
+use Rattle.cpu_workers.specs.{Reports.counted_on, Reports.most, Reports.MayTake, Reports.none_taken, Reports.one_taken}
+use Rattle.cpu_workers.specs.declared.stops.Stop.{Stop, TheVariants.AllEnded, TheVariants.TurnsUsed, TheVariants.TraceFull, TheVariants.Held}
 
 module _ {P N : Type 0} (table : P → List (Action N) → Outcome P N) (cpu : CpuId) (first : P) where
   -- other CPUs act

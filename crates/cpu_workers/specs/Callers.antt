@@ -1,17 +1,10 @@
 -- Callers: native threads that send to buffers and receive from them, each at a CPU of its own.
 use Rattle.std.specs.Prelude.{◌≡◌, ℕ, ◌≤◌, List, ◌++◌, [], ◌∷◌, length}
-use Rattle.event_log.specs.declared.entries.Entry.{Entry}
-use Rattle.event_log.specs.declared.entries.Kind.{Kind}
+use Rattle.event_log.specs.{declared.entries.Entry.Entry, declared.entries.Kind.Kind, declared.ids.BufId.BufId, declared.ids.CpuId.CpuId, declared.ids.Tid.Tid}
+use Rattle.event_log.specs.{Messages.Message, Messages.no_message}
 use Rattle.event_log.specs.declared.entries.Kind.TheVariants.{Send, Recv, Close, SendClosed, RecvClosed}
-use Rattle.event_log.specs.declared.ids.BufId.{BufId}
-use Rattle.event_log.specs.declared.ids.CpuId.{CpuId}
-use Rattle.event_log.specs.declared.ids.Tid.{Tid}
-use Rattle.event_log.specs.Messages.{Message, no_message}
-use Rattle.layer_traits.specs.declared.calls.Call.{Call}
-use Rattle.layer_traits.specs.declared.calls.Effect.{Effect}
-use Rattle.layer_traits.specs.declared.calls.Reply.{Reply}
-use Rattle.layer_traits.specs.BufferEffects.{entry}
-use Rattle.layer_traits.specs.BufferLaw.{IsEffectOf, buffer_of, entry_of, reply_of}
+use Rattle.layer_traits.specs.{declared.calls.Call.Call, declared.calls.Effect.Effect, declared.calls.Reply.Reply, BufferEffects.entry, BufferLaw.IsEffectOf}
+use Rattle.layer_traits.specs.{BufferLaw.buffer_of, BufferLaw.entry_of, BufferLaw.reply_of}
 use Rattle.cpu.specs.Cpus.{of_cpu}
 use Rattle.cpu_workers.specs.declared.callers.TheConstants.{MOST_CALLS}
 

@@ -1,59 +1,27 @@
 -- The workers of one table of the tower's locks, once they have come back and the table is closed.
 use Rattle.std.specs.Prelude.{◌≡◌, ℕ, ◌*◌, ◌^◌, ◌<◌, ◌≤◌, false, List, length, map, Option, Some, IsSome, option_map, slice_get}
 use Rattle.std.specs.List.{AllByRecursion}
-use Rattle.event_log.specs.declared.entries.Entry.{Entry}
-use Rattle.event_log.specs.declared.events.Event.{Event}
-use Rattle.event_log.specs.declared.ids.CpuId.{CpuId}
-use Rattle.event_log.specs.declared.ids.LockId.{LockId}
-use Rattle.event_log.specs.declared.ids.LockId.TheVariants.{Pending}
-use Rattle.event_log.specs.declared.ids.TheConstants.{BUFFERS}
-use Rattle.event_log.specs.declared.ids.Tid.{Tid}
-use Rattle.event_log.specs.Actions.{Action, AreLegal, acts_of, phase, renamed}
-use Rattle.layer_traits.specs.declared.buffer_edits.BufferEdit.{BufferEdit}
-use Rattle.layer_traits.specs.declared.buffer_edits.BufferOut.{BufferOut}
-use Rattle.layer_traits.specs.declared.conditions.CvEdit.{CvEdit}
-use Rattle.layer_traits.specs.declared.conditions.CvLeave.{CvLeave}
-use Rattle.layer_traits.specs.declared.conditions.CvOut.{CvOut}
-use Rattle.layer_traits.specs.declared.edits.Mark.{Mark}
-use Rattle.layer_traits.specs.declared.locked.QOut.{QOut}
-use Rattle.layer_traits.specs.declared.queue_edits.QueueBlock.{QueueBlock}
-use Rattle.layer_traits.specs.declared.queue_edits.QueueEdit.{QueueEdit}
-use Rattle.layer_traits.specs.declared.queues.QueueAnswer.{QueueAnswer}
-use Rattle.layer_traits.specs.declared.sleeps.Outcome.{Outcome}
-use Rattle.layer_traits.specs.BufferBlocks.{BufferState}
-use Rattle.layer_traits.specs.BufferEffects.{opening_locks}
-use Rattle.layer_traits.specs.BufferProtocol.{buffer_monitor_rules}
-use Rattle.layer_traits.specs.Conditions.{cv_rules}
-use Rattle.layer_traits.specs.OneLock.{opened}
-use Rattle.layer_traits.specs.Places.{home_of}
-use Rattle.layer_traits.specs.Plans.{is_in_section}
-use Rattle.layer_traits.specs.Protocol.{Rules}
-use Rattle.layer_traits.specs.QueueBlocks.{StartsWell, homes_in, inner}
-use Rattle.layer_traits.specs.QueueRules.{queue_rules}
-use Rattle.layer_traits.specs.Renaming.{renamed_edit, viewed, viewed_block}
-use Rattle.layer_traits.specs.WordsProtocol.{edit_of}
-use Rattle.sleep_wakeup.specs.declared.edits.SleepBlock.{SleepBlock}
-use Rattle.sleep_wakeup.specs.declared.edits.SleepEdit.{SleepEdit}
-use Rattle.sleep_wakeup.specs.Nested.{nested_moves, nested_rules, state_of}
-use Rattle.sleep_wakeup.specs.Nested as sleep
-use Rattle.queuing_lock.specs.declared.edits.QBlock.{QBlock}
-use Rattle.queuing_lock.specs.declared.edits.QLockEdit.{QLockEdit}
-use Rattle.queuing_lock.specs.Nested.{busy_rules, nested_lock_of}
-use Rattle.queuing_lock.specs.Nested as lock
+use Rattle.event_log.specs.{declared.entries.Entry.Entry, declared.events.Event.Event, declared.ids.CpuId.CpuId, declared.ids.LockId.LockId}
+use Rattle.event_log.specs.{declared.ids.LockId.TheVariants.Pending, declared.ids.TheConstants.BUFFERS, declared.ids.Tid.Tid, Actions.Action, Actions.AreLegal}
+use Rattle.event_log.specs.{Actions.acts_of, Actions.phase, Actions.renamed}
+use Rattle.layer_traits.specs.{declared.buffer_edits.BufferEdit.BufferEdit, declared.buffer_edits.BufferOut.BufferOut, declared.conditions.CvEdit.CvEdit}
+use Rattle.layer_traits.specs.{declared.conditions.CvLeave.CvLeave, declared.conditions.CvOut.CvOut, declared.edits.Mark.Mark, declared.locked.QOut.QOut}
+use Rattle.layer_traits.specs.{declared.queue_edits.QueueBlock.QueueBlock, declared.queue_edits.QueueEdit.QueueEdit, declared.queues.QueueAnswer.QueueAnswer}
+use Rattle.layer_traits.specs.{declared.sleeps.Outcome.Outcome, BufferBlocks.BufferState, BufferEffects.opening_locks, BufferProtocol.buffer_monitor_rules}
+use Rattle.layer_traits.specs.{Conditions.cv_rules, OneLock.opened, Places.home_of, Plans.is_in_section, Protocol.Rules, QueueBlocks.StartsWell}
+use Rattle.layer_traits.specs.{QueueBlocks.homes_in, QueueBlocks.inner, QueueRules.queue_rules, Renaming.renamed_edit, Renaming.viewed, Renaming.viewed_block}
+use Rattle.layer_traits.specs.{WordsProtocol.edit_of}
+use Rattle.sleep_wakeup.specs.{declared.edits.SleepBlock.SleepBlock, declared.edits.SleepEdit.SleepEdit, Nested.nested_moves, Nested.nested_rules}
+use Rattle.sleep_wakeup.specs.{Nested.state_of}
+use Rattle.queuing_lock.specs.{declared.edits.QBlock.QBlock, declared.edits.QLockEdit.QLockEdit, Nested.busy_rules, Nested.nested_lock_of}
 use Rattle.table_machine.specs.SeatViews.{TableView, Closes, SeatView}
-use Rattle.cpu.specs.Table.Blocks.{Block}
-use Rattle.cpu.specs.Cpus.{IsOfHome, of_thread}
-use Rattle.cpu.specs.Table.Setups.{Setup, Private, at_boot, program_of, thread_at}
-use Rattle.cpu.specs.Table.Steps.{cpu_step, halted_at}
-use Rattle.cpu.specs.Tower.Composed.{named}
-use Rattle.cpu.specs.Tower.Views.{TowerBlock, TowerName, view}
-use Rattle.cpu_workers.specs.declared.gates.Go.{Go}
-use Rattle.cpu_workers.specs.declared.gates.Go.TheVariants.{Limit, Pass}
-use Rattle.cpu_workers.specs.declared.stops.Stop.{Stop}
-use Rattle.cpu_workers.specs.Lawful.{IsLawfulReport, IsCpuReportOf, CpuReport, Shown}
-use Rattle.cpu_workers.specs.Orders.{FollowsProgram, IsTraceOf}
-use Rattle.cpu_workers.specs.declared.stops.Stop.TheVariants.{Held}
-use Rattle.cpu_workers.specs.Reports.{IsTrueStop, MayTake, Took, TookWithin, WasHeld}
+use Rattle.cpu.specs.Table.{Blocks.Block, Setups.Setup, Setups.Private, Setups.at_boot, Setups.program_of, Setups.thread_at, Steps.cpu_step, Steps.halted_at}
+use Rattle.cpu.specs.{Cpus.IsOfHome, Cpus.of_thread, Tower.Composed.named, Tower.Views.TowerBlock, Tower.Views.TowerName, Tower.Views.view}
+use Rattle.cpu_workers.specs.{declared.gates.Go.Go, declared.gates.Go.TheVariants.Limit, declared.gates.Go.TheVariants.Pass, declared.stops.Stop.Stop}
+use Rattle.cpu_workers.specs.{Lawful.IsLawfulReport, Lawful.IsCpuReportOf, Lawful.CpuReport, Lawful.Shown, Orders.FollowsProgram, Orders.IsTraceOf}
+use Rattle.cpu_workers.specs.{declared.stops.Stop.TheVariants.Held, Reports.IsTrueStop, Reports.MayTake, Reports.Took, Reports.TookWithin, Reports.WasHeld}
+use Rattle.sleep_wakeup.specs.Nested as sleep
+use Rattle.queuing_lock.specs.Nested as lock
 
 -- the tower's edit of the block of a lock, the block, and what an edit answers
 abbrev pub LockEdit : Type 0

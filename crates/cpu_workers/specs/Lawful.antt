@@ -1,33 +1,17 @@
 -- What the report of workers tells: one order of their traces, and the run of each by the step table along one list of actions.
 use Rattle.std.specs.Prelude.{◌≡◌, ℕ, ◌<◌, ◌≤◌, false, List, [], length, reverse, Option, Some, None, slice_get}
 use Rattle.std.specs.List.{AllByRecursion}
-use Rattle.event_log.specs.declared.entries.Entry.{Entry}
-use Rattle.event_log.specs.declared.ids.BufId.{BufId}
-use Rattle.event_log.specs.declared.ids.CpuId.{CpuId}
-use Rattle.event_log.specs.declared.ids.LockId.{LockId}
-use Rattle.event_log.specs.declared.ids.LockId.TheVariants.{Pending, Buffer as AtBuffer}
-use Rattle.event_log.specs.declared.ids.Tid.{Tid}
-use Rattle.event_log.specs.Actions.{Action, AreLegal, cpu_of_action, phase}
-use Rattle.event_log.specs.History.{own_events}
-use Rattle.event_log.specs.Messages.{Message}
-use Rattle.event_log.specs.Runs.{IsRun}
-use Rattle.event_log.specs.Streams.{IsFirstInFirstOut}
-use Rattle.event_log.specs.Traces.{IsInterleaving}
-use Rattle.guest.specs.Calls.{AreProgramsCalls, IsProgramsCalls, HasEnded}
-use Rattle.guest.specs.State.{State}
-use Rattle.layer_traits.specs.Places.{home_of}
-use Rattle.layer_traits.specs.Plans.{is_in_section}
-use Rattle.cpu.specs.Claims.{buffer_at, listed}
-use Rattle.cpu.specs.Cpus.{IsOfHome, of_thread}
-use Rattle.cpu.specs.Table.Blocks.{Block, Buffer, Name, OfBuffer, OfPending}
-use Rattle.cpu.specs.Table.Setups.{Setup, Private, at_boot, program_of}
-use Rattle.cpu.specs.Table.Steps.{block_at, cpu_step, halted_at}
-use Rattle.cpu.specs.Wakeups.Lost.{NoWakeUpIsLost}
-use Rattle.cpu_workers.specs.declared.gates.Go.{Go}
-use Rattle.cpu_workers.specs.declared.gates.Go.TheVariants.{Limit, Pass}
-use Rattle.cpu_workers.specs.declared.stops.Stop.{Stop}
-use Rattle.cpu_workers.specs.declared.stops.Stop.TheVariants.{AllEnded, TurnsUsed, Held}
-use Rattle.cpu_workers.specs.Reports.{IsTrueStop, MayHold, MayTake, Took, TookWithin, WasHeld}
+use Rattle.event_log.specs.{declared.entries.Entry.Entry, Actions.Action, Actions.AreLegal, Actions.cpu_of_action, Actions.phase, History.own_events}
+use Rattle.event_log.specs.{Messages.Message, Runs.IsRun, Streams.IsFirstInFirstOut, Traces.IsInterleaving}
+use Rattle.event_log.specs.declared.ids.{BufId.BufId, CpuId.CpuId, LockId.LockId, LockId.TheVariants.Pending, LockId.TheVariants.Buffer as AtBuffer, Tid.Tid}
+use Rattle.guest.specs.{Calls.AreProgramsCalls, Calls.IsProgramsCalls, Calls.HasEnded, State.State}
+use Rattle.layer_traits.specs.{Places.home_of, Plans.is_in_section}
+use Rattle.cpu.specs.{Claims.buffer_at, Claims.listed, Cpus.IsOfHome, Cpus.of_thread, Table.Blocks.Block, Table.Blocks.Buffer, Table.Blocks.Name}
+use Rattle.cpu.specs.{Table.Blocks.OfBuffer, Table.Blocks.OfPending, Table.Setups.Setup, Table.Setups.Private, Table.Setups.at_boot, Table.Setups.program_of}
+use Rattle.cpu.specs.{Table.Steps.block_at, Table.Steps.cpu_step, Table.Steps.halted_at, Wakeups.Lost.NoWakeUpIsLost}
+use Rattle.cpu_workers.specs.{declared.gates.Go.Go, declared.gates.Go.TheVariants.Limit, declared.gates.Go.TheVariants.Pass, declared.stops.Stop.Stop}
+use Rattle.cpu_workers.specs.{declared.stops.Stop.TheVariants.AllEnded, declared.stops.Stop.TheVariants.TurnsUsed, declared.stops.Stop.TheVariants.Held}
+use Rattle.cpu_workers.specs.{Reports.IsTrueStop, Reports.MayHold, Reports.MayTake, Reports.Took, Reports.TookWithin, Reports.WasHeld}
 
 -- what a report tells of one CPU: its trace, oldest first, how many turns it took, and why it stopped
 pub record CpuReport : Type 0 where

@@ -1,20 +1,10 @@
 -- The effects of a list of actions, and a CPU's trace among them.
 use Rattle.std.specs.Prelude.{◌≡◌, ℕ, ◌≤◌, Bool, true, List, length, map, reverse, Some, None, slice_index_or}
 use Rattle.std.specs.List.{AllByRecursion}
-use Rattle.event_log.specs.declared.entries.Entry.{Entry}
-use Rattle.event_log.specs.declared.ids.CpuId.{CpuId}
-use Rattle.event_log.specs.declared.ids.Tid.{Tid}
-use Rattle.event_log.specs.Actions.{Action}
-use Rattle.event_log.specs.Sections.{sections_in}
-use Rattle.guest.specs.declared.instructions.Instruction.{Instruction}
-use Rattle.guest.specs.Calls.{IsProgramsCalls, HasEnded}
-use Rattle.guest.specs.State.{State}
-use Rattle.layer_traits.specs.Queues.{buffer_sections, event_of}
-use Rattle.layer_traits.specs.BufferEffects.{effects_in, opening_locks}
-use Rattle.layer_traits.specs.Places.{home_of}
-use Rattle.cpu.specs.Cpus.{IsOfHome, of_cpu, of_thread}
-use Rattle.cpu.specs.Table.Setups.{thread_at}
-use Rattle.cpu.specs.Tower.Views.{TowerName}
+use Rattle.event_log.specs.{declared.entries.Entry.Entry, declared.ids.CpuId.CpuId, declared.ids.Tid.Tid, Actions.Action, Sections.sections_in}
+use Rattle.guest.specs.{declared.instructions.Instruction.Instruction, Calls.IsProgramsCalls, Calls.HasEnded, State.State}
+use Rattle.layer_traits.specs.{Queues.buffer_sections, Queues.event_of, BufferEffects.effects_in, BufferEffects.opening_locks, Places.home_of}
+use Rattle.cpu.specs.{Cpus.IsOfHome, Cpus.of_cpu, Cpus.of_thread, Table.Setups.thread_at, Tower.Views.TowerName}
 use Rattle.cpu_workers.specs.Working.{Working}
 
 -- the effects of the sections of these actions on buffers of these capacities, which were empty; newest first

@@ -1,20 +1,12 @@
 -- What a worker did: so many turns, and why it stopped.
 use Rattle.std.specs.Prelude.{◌≡◌, ◌⊎◌, ℕ, ◌+◌, ◌-◌, ◌^◌, ◌<◌, ◌≤◌, ◌==◌, List, [], ◌∷◌, ◌++◌, Option, Some, None, false, true, if◌then◌else◌}
-use Rattle.event_log.specs.declared.ids.CpuId.{CpuId}
-use Rattle.event_log.specs.Actions.{Action, cpu_of_action, phase}
-use Rattle.event_log.specs.History.{same_cpu}
-use Rattle.layer_traits.specs.declared.steps.Reason.{Reason}
+use Rattle.event_log.specs.{declared.ids.CpuId.CpuId, Actions.Action, Actions.cpu_of_action, Actions.phase, History.same_cpu}
+use Rattle.layer_traits.specs.{declared.steps.Reason.Reason, declared.steps.Step.TheVariants.Stepped, Along.Outcome, Along.Along, Plans.is_in_section}
+use Rattle.cpu.specs.Table.{Setups.Setup, Steps.cpu_step, Steps.halted_at}
+use Rattle.cpu_workers.specs.{declared.gates.Go.Go, declared.gates.Go.TheVariants.Limit, declared.gates.Go.TheVariants.Pass, declared.stops.Stop.Stop}
+use Rattle.cpu_workers.specs.{declared.stops.Stop.TheVariants.AllEnded, declared.stops.Stop.TheVariants.TurnsUsed, declared.stops.Stop.TheVariants.TraceFull}
+use Rattle.cpu_workers.specs.{declared.stops.Stop.TheVariants.Held, Working.IsPlanned, Working.IsSame, Working.Working, Working.is_inside, Working.log}
 use Rattle.layer_traits.specs.declared.steps.Reason.TheVariants as reason
-use Rattle.layer_traits.specs.declared.steps.Step.TheVariants.{Stepped}
-use Rattle.layer_traits.specs.Along.{Outcome, Along}
-use Rattle.layer_traits.specs.Plans.{is_in_section}
-use Rattle.cpu.specs.Table.Setups.{Setup}
-use Rattle.cpu.specs.Table.Steps.{cpu_step, halted_at}
-use Rattle.cpu_workers.specs.declared.gates.Go.{Go}
-use Rattle.cpu_workers.specs.declared.gates.Go.TheVariants.{Limit, Pass}
-use Rattle.cpu_workers.specs.declared.stops.Stop.{Stop}
-use Rattle.cpu_workers.specs.declared.stops.Stop.TheVariants.{AllEnded, TurnsUsed, TraceFull, Held}
-use Rattle.cpu_workers.specs.Working.{IsPlanned, IsSame, Working, is_inside, log}
 
 -- the most that a number of turns shows
 abbrev pub most : ℕ

@@ -1,34 +1,17 @@
 -- The workers of a plan at one table: their actions by the layers' names, what each has done, and the blocks that they leave.
 use Rattle.std.specs.Prelude.{◌≡◌, ℕ, List, [], map, length, slice_get, Option, Some, IsSome, ◌<◌}
 use Rattle.boot.specs.Plan.{BootPlan}
-use Rattle.event_log.specs.declared.entries.Entry.{Entry}
-use Rattle.event_log.specs.declared.ids.BufId.{BufId}
-use Rattle.event_log.specs.declared.ids.CpuId.{CpuId}
-use Rattle.event_log.specs.declared.ids.LockId.{LockId}
-use Rattle.event_log.specs.declared.ids.LockId.TheVariants.{Pending}
-use Rattle.event_log.specs.Actions.{Action, AreLegal, acts_of, renamed}
-use Rattle.event_log.specs.Messages.{Message}
-use Rattle.layer_traits.specs.declared.queue_edits.QueueBlock.{QueueBlock}
-use Rattle.layer_traits.specs.declared.queue_edits.QueueEdit.{QueueEdit}
-use Rattle.layer_traits.specs.BufferEffects.{opening_locks}
-use Rattle.layer_traits.specs.OneLock.{AreDistinct, opened}
-use Rattle.layer_traits.specs.QueueBlocks.{StartsWell, homes_in, inner}
-use Rattle.layer_traits.specs.Renaming.{renamed_edit, viewed}
-use Rattle.layer_traits.specs.WordsProtocol.{edit_of}
+use Rattle.event_log.specs.{declared.entries.Entry.Entry, declared.ids.BufId.BufId, declared.ids.CpuId.CpuId, declared.ids.LockId.LockId}
+use Rattle.event_log.specs.{declared.ids.LockId.TheVariants.Pending, Actions.Action, Actions.AreLegal, Actions.acts_of, Actions.renamed, Messages.Message}
+use Rattle.layer_traits.specs.{declared.queue_edits.QueueBlock.QueueBlock, declared.queue_edits.QueueEdit.QueueEdit, BufferEffects.opening_locks}
+use Rattle.layer_traits.specs.{OneLock.AreDistinct, OneLock.opened, QueueBlocks.StartsWell, QueueBlocks.homes_in, QueueBlocks.inner, Renaming.renamed_edit}
+use Rattle.layer_traits.specs.{Renaming.viewed, WordsProtocol.edit_of}
 use Rattle.queuing_lock.specs.Nested.{edit_in as lock_call, nested_lock_of}
 use Rattle.sleep_wakeup.specs.Nested.{edit_in as slept_edit, state_of}
-use Rattle.cpu.specs.Boots.{homes_for}
-use Rattle.cpu.specs.Sound.{setup_for}
+use Rattle.cpu.specs.{Boots.homes_for, Sound.setup_for, Table.Setups.at_boot, Tower.Views.TowerName}
 use Rattle.table_machine.specs.SeatViews.{TableView, Closes, IsOver, site_of}
-use Rattle.cpu.specs.Table.Setups.{at_boot}
-use Rattle.cpu.specs.Tower.Views.{TowerName}
-use Rattle.cpu_workers.specs.declared.gates.Go.{Go}
-use Rattle.cpu_workers.specs.declared.stops.Stop.{Stop}
-use Rattle.cpu_workers.specs.Closing.{Key, LockBlock, LockEdit, blocks_read, tower_rules}
-use Rattle.cpu_workers.specs.Lawful.{held_at}
-use Rattle.cpu_workers.specs.Orders.{HasFollowed, IsTraceOf}
-use Rattle.cpu_workers.specs.Reports.{HasRun}
-use Rattle.cpu_workers.specs.Working.{IsPlanned, Working}
+use Rattle.cpu_workers.specs.{declared.gates.Go.Go, declared.stops.Stop.Stop, Closing.Key, Closing.LockBlock, Closing.LockEdit, Closing.blocks_read}
+use Rattle.cpu_workers.specs.{Closing.tower_rules, Lawful.held_at, Orders.HasFollowed, Orders.IsTraceOf, Reports.HasRun, Working.IsPlanned, Working.Working}
 
 -- what a section of the tower's locks does, and what such a lock guards
 abbrev pub Edit : Type 0

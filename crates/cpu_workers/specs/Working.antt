@@ -1,18 +1,10 @@
 -- A worker: one CPU with its machine, and one turn of it.
 use Rattle.std.specs.Prelude.{◌≡◌, ℕ, Bool, List, Option, Some, None, slice_index_or}
-use Rattle.event_log.specs.declared.ids.CpuId.{CpuId}
-use Rattle.event_log.specs.declared.ids.Tid.{Tid}
-use Rattle.event_log.specs.Actions.{Action, phase}
+use Rattle.event_log.specs.{declared.ids.CpuId.CpuId, declared.ids.Tid.Tid, Actions.Action, Actions.phase}
 use Rattle.guest.specs.declared.instructions.Instruction.{Instruction}
-use Rattle.layer_traits.specs.declared.steps.Step.{Step}
-use Rattle.layer_traits.specs.declared.steps.Step.TheVariants.{Stepped}
-use Rattle.layer_traits.specs.Along.{IsStep}
-use Rattle.layer_traits.specs.Plans.{is_in_section}
-use Rattle.cpu.specs.Table.Blocks.{Name}
-use Rattle.cpu.specs.Table.Setups.{Setup, Private, program_of}
-use Rattle.cpu.specs.Table.Steps.{cpu_step, halted_at}
-use Rattle.cpu.specs.Tower.Composed.{answer_of, named}
-use Rattle.cpu.specs.Tower.Views.{TowerName}
+use Rattle.layer_traits.specs.{declared.steps.Step.Step, declared.steps.Step.TheVariants.Stepped, Along.IsStep, Plans.is_in_section}
+use Rattle.cpu.specs.{Table.Blocks.Name, Table.Setups.Setup, Table.Setups.Private, Table.Setups.program_of, Table.Steps.cpu_step, Table.Steps.halted_at}
+use Rattle.cpu.specs.{Tower.Composed.answer_of, Tower.Composed.named, Tower.Views.TowerName}
 
 -- what no turn changes: the home of each thread, the capacity of each buffer, the programs of the threads at home, and for how many
 -- entries the trace has room

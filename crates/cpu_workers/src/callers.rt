@@ -43,10 +43,7 @@ where
     I::Machine: Drop,
 {
     ghost use Rattle.std.specs.Prelude.{◌≡◌, ◌<◌, None, reverse};
-    ghost use Rattle.layer_traits.specs.declared.call_states.Stage.TheVariants.{Idle};
-    ghost use Rattle.layer_traits.specs.BufferEffects.{opening_locks};
-    ghost use Rattle.layer_traits.specs.BufferLaw.{call_state_of};
-    ghost use Rattle.layer_traits.specs.QueueBlocks.{inner};
+    ghost use Rattle.layer_traits.specs.{declared.call_states.Stage.TheVariants.Idle, BufferEffects.opening_locks, BufferLaw.call_state_of, QueueBlocks.inner};
     ghost use Rattle.cpu.specs.Cpus.{of_cpu};
     ghost use Rattle.cpu_workers.specs.Callers.{CallerView, IsCaller};
 
@@ -69,13 +66,9 @@ impl<I: CallLayer<IpcLaw> + Drop> Caller<I>
 where
     I::Machine: Drop,
 {
-    ghost use Rattle.event_log.specs.declared.ids.TheConstants.{THREADS};
-    ghost use Rattle.layer_traits.specs.BufferEffects.{opening_locks};
-    ghost use Rattle.layer_traits.specs.QueueBlocks.{inner};
-    ghost use Rattle.cpu_workers.specs.declared.callers.TheConstants.{MOST_CALLS};
-    ghost use Rattle.event_log.specs.Actions.{phase};
-    ghost use Rattle.layer_traits.specs.Plans.{is_in_section};
-    ghost use Rattle.cpu_workers.specs.Orders.{IsTraceOf};
+    ghost use Rattle.event_log.specs.{declared.ids.TheConstants.THREADS, Actions.phase};
+    ghost use Rattle.layer_traits.specs.{BufferEffects.opening_locks, QueueBlocks.inner, Plans.is_in_section};
+    ghost use Rattle.cpu_workers.specs.{declared.callers.TheConstants.MOST_CALLS, Orders.IsTraceOf};
 
     /// The caller of a thread of this CPU before its first call, over a machine of its own side in which
     /// nothing was done, with threads of these homes and so many buffers.

@@ -1,11 +1,10 @@
 //! One message call of a native thread, polled until it answers.
 
 ghost use Rattle.std.specs.Prelude.{◌≡◌, ◌<◌, None, Some, IfOk, IfErr, length};
-ghost use Rattle.layer_traits.specs.declared.call_states.Stage.TheVariants.{Idle};
-ghost use Rattle.layer_traits.specs.BufferLaw.{Calling, MayGoOn, MayPollCall, Passing, buffer_of, call_state_of};
-ghost use Rattle.layer_traits.specs.Passes.{MayPass};
-ghost use Rattle.cpu_workers.specs.declared.calling.Begun.TheVariants.{Calls};
-ghost use Rattle.cpu_workers.specs.Calls.{Ends, KeepsOn, MayBegin, MayPoll, Returned, under_way_of};
+ghost use Rattle.layer_traits.specs.{declared.call_states.Stage.TheVariants.Idle, BufferLaw.Calling, BufferLaw.MayGoOn, BufferLaw.MayPollCall};
+ghost use Rattle.layer_traits.specs.{BufferLaw.Passing, BufferLaw.buffer_of, BufferLaw.call_state_of, Passes.MayPass};
+ghost use Rattle.cpu_workers.specs.{declared.calling.Begun.TheVariants.Calls, Calls.Ends, Calls.KeepsOn, Calls.MayBegin, Calls.MayPoll, Calls.Returned};
+ghost use Rattle.cpu_workers.specs.{Calls.under_way_of};
 
 use crate::turns::{SPINS, pause};
 use event_log::Tid;

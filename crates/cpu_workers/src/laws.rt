@@ -1,8 +1,7 @@
 //! What holds of workers that run at one table. Each law is the contract of a function that does
 //! nothing, so that the law is proved with the crate.
 
-ghost use Rattle.cpu_workers.specs.Closing.{ReportsAreLawful};
-ghost use Rattle.cpu_workers.specs.Laws.{StopsAreTrue, WorkersLoseNoWakeUp};
+ghost use Rattle.cpu_workers.specs.{Closing.ReportsAreLawful, Laws.StopsAreTrue, Laws.WorkersLoseNoWakeUp};
 
 use crate::gates::Gate;
 

@@ -1,13 +1,10 @@
 //! Natives at one table of shared words.
 
 ghost use Rattle.std.specs.Prelude.{◌≡◌, ◌<◌, ◌≤◌, [], All, IfOk, length, map, vec_capacity};
-ghost use Rattle.event_log.specs.declared.ids.TheConstants.{BUFFERS, CPUS, THREADS};
-ghost use Rattle.event_log.specs.Buffers.{IsCapacity};
-ghost use Rattle.layer_traits.specs.OneLock.{opened};
-ghost use Rattle.layer_traits.specs.Openings.{AreOpenable};
+ghost use Rattle.event_log.specs.{declared.ids.TheConstants.BUFFERS, declared.ids.TheConstants.CPUS, declared.ids.TheConstants.THREADS, Buffers.IsCapacity};
+ghost use Rattle.layer_traits.specs.{OneLock.opened, Openings.AreOpenable};
 ghost use Rattle.table_machine.specs.SeatViews.{Closes, Covers, IsOver, new_seat_views};
-ghost use Rattle.cpu_workers.specs.Closing.{tower_rules};
-ghost use Rattle.cpu_workers.specs.Natives.{HaveLeftKeys, HaveRun, OpensWith, left_of, own_homes};
+ghost use Rattle.cpu_workers.specs.{Closing.tower_rules, Natives.HaveLeftKeys, Natives.HaveRun, Natives.OpensWith, Natives.left_of, Natives.own_homes};
 
 use crate::native_seats::{LeftNative, call_over};
 use crate::natives::Native;

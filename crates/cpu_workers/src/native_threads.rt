@@ -1,8 +1,7 @@
 //! A thread for each native.
 
 ghost use Rattle.std.specs.Prelude.{◌≡◌, ◌≤◌, [], All, IfOk, MatchOption, length, vec_capacity};
-ghost use Rattle.cpu_workers.specs.Natives.{HasKept};
-ghost use Rattle.cpu_workers.specs.Reports.{Both};
+ghost use Rattle.cpu_workers.specs.{Natives.HasKept, Reports.Both};
 
 use crate::callers::Caller;
 use crate::natives::Native;

@@ -2,8 +2,7 @@
 
 ghost use Rattle.std.specs.Prelude.{◌≡◌, Some};
 ghost use Rattle.layer_traits.specs.OneLock.{opened};
-ghost use Rattle.cpu_workers.specs.Closing.{block_shown};
-ghost use Rattle.cpu_workers.specs.Lawful.{messages_in};
+ghost use Rattle.cpu_workers.specs.{Closing.block_shown, Lawful.messages_in};
 
 use crate::stops::Stop;
 use arrayvec::ArrayVec;

@@ -6,9 +6,7 @@ ghost use Rattle.table_machine.specs.SeatViews.{Closes, Covers, IsOf, IsOver, ne
 ghost use Rattle.boot.specs.declared.locks.LockKind.TheVariants as kind;
 ghost use Rattle.boot.specs.Plan.{IsPlan};
 ghost use Rattle.cpu.specs.Sound.{setup_for};
-ghost use Rattle.cpu_workers.specs.Closing.{shown, tower_rules};
-ghost use Rattle.cpu_workers.specs.Lawful.{IsLawfulReport};
-ghost use Rattle.cpu_workers.specs.Seating.{HaveLeft, OpensPlan};
+ghost use Rattle.cpu_workers.specs.{Closing.shown, Closing.tower_rules, Lawful.IsLawfulReport, Seating.HaveLeft, Seating.OpensPlan};
 
 use crate::gates::Gate;
 use crate::plan_words::PlanWords;

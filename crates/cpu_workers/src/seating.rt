@@ -5,11 +5,9 @@ ghost use Rattle.std.specs.Prelude.{◌≡◌, ℕ, ◌<◌, ◌≤◌, Some, []
 ghost use Rattle.event_log.specs.declared.ids.TheConstants.{CPUS};
 ghost use Rattle.boot.specs.Plan.{IsPlan};
 ghost use Rattle.cpu.specs.Boots.{homes_for};
-ghost use Rattle.layer_traits.specs.BufferEffects.{opening_locks};
-ghost use Rattle.layer_traits.specs.OnePlace.{cpu_at};
-ghost use Rattle.layer_traits.specs.QueueBlocks.{inner};
-ghost use Rattle.cpu_workers.specs.Reports.{Both};
-ghost use Rattle.cpu_workers.specs.Seating.{HasLeft, IsApart, IsAtBoot, IsReady, IsUnused, OpensPlan, tower_acts};
+ghost use Rattle.layer_traits.specs.{BufferEffects.opening_locks, OnePlace.cpu_at, QueueBlocks.inner};
+ghost use Rattle.cpu_workers.specs.{Reports.Both, Seating.HasLeft, Seating.IsApart, Seating.IsAtBoot, Seating.IsReady, Seating.IsUnused, Seating.OpensPlan};
+ghost use Rattle.cpu_workers.specs.{Seating.tower_acts};
 
 use crate::gates::Gate;
 use crate::starting::{Came, WorkerError, work_all};

@@ -48,8 +48,7 @@ impl<'a, K: TableWords> TowerSeat<'a, K> {
 impl<'a, K: TableWords> Words for TowerSeat<'a, K> {
     ghost use Rattle.std.specs.Prelude.{◌≡◌, ℕ};
     ghost use Rattle.event_log.specs.History.{IsLawful};
-    ghost use Rattle.layer_traits.specs.WordsProtocol.{MayCome, edit_of};
-    ghost use Rattle.layer_traits.specs.OneLock.{opened};
+    ghost use Rattle.layer_traits.specs.{WordsProtocol.MayCome, WordsProtocol.edit_of, OneLock.opened};
     ghost use Rattle.table_machine.specs.SeatViews.{site_of};
     ghost use Rattle.cpu_workers.specs.Closing.{tower_rules};
 

@@ -1,8 +1,7 @@
 //! A thread for each worker.
 
 ghost use Rattle.std.specs.Prelude.{◌≡◌, ◌≤◌, [], All, IfOk, MatchOption, length, vec_capacity};
-ghost use Rattle.cpu_workers.specs.Reports.{Both, HasRun};
-ghost use Rattle.cpu_workers.specs.declared.starting.WorkerError.TheVariants.{NoMemory as LacksMemory};
+ghost use Rattle.cpu_workers.specs.{Reports.Both, Reports.HasRun, declared.starting.WorkerError.TheVariants.NoMemory as LacksMemory};
 
 use crate::gates::Gate;
 use crate::turns::{Did, work};

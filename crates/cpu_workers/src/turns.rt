@@ -2,11 +2,9 @@
 
 ghost use Rattle.std.specs.Prelude.{◌≡◌, ◌≢◌, ◌<◌, ◌⊎◌, true, false, [], None, Some, MatchOption};
 ghost use Rattle.layer_traits.specs.declared.steps.Reason.TheVariants.{StepsUsed};
-ghost use Rattle.cpu.specs.Table.Setups.{Setup};
-ghost use Rattle.cpu.specs.Table.Steps.{halted_at};
-ghost use Rattle.cpu_workers.specs.Working.{IsPlanned, MayStep, is_inside};
-ghost use Rattle.cpu_workers.specs.declared.gates.Go.TheVariants.{Limit, Pass};
-ghost use Rattle.cpu_workers.specs.Reports.{HasRun, IsTrueStop, counted_on};
+ghost use Rattle.cpu.specs.Table.{Setups.Setup, Steps.halted_at};
+ghost use Rattle.cpu_workers.specs.{Working.IsPlanned, Working.MayStep, Working.is_inside, declared.gates.Go.TheVariants.Limit};
+ghost use Rattle.cpu_workers.specs.{declared.gates.Go.TheVariants.Pass, Reports.HasRun, Reports.IsTrueStop, Reports.counted_on};
 
 use crate::gates::{Gate, Go};
 use crate::stops::Stop;

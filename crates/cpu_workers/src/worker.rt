@@ -24,12 +24,9 @@ where
     I::Machine: Drop,
 {
     ghost use Rattle.std.specs.Prelude.{◌≡◌, ◌<◌, length, vec_capacity};
-    ghost use Rattle.cpu.specs.Cpus.{IsCpu, programs_of};
-    ghost use Rattle.cpu.specs.Tables.{IsTabled, private};
-    ghost use Rattle.cpu_workers.specs.Working.{Working};
-    ghost use Rattle.layer_traits.specs.BufferEffects.{opening_locks};
-    ghost use Rattle.layer_traits.specs.QueueBlocks.{inner};
-    ghost use Rattle.cpu_workers.specs.Seats.{IsWorker};
+    ghost use Rattle.cpu.specs.{Cpus.IsCpu, Cpus.programs_of, Tables.IsTabled, Tables.private};
+    ghost use Rattle.cpu_workers.specs.{Working.Working, Seats.IsWorker};
+    ghost use Rattle.layer_traits.specs.{BufferEffects.opening_locks, QueueBlocks.inner};
 
     ghost Value = { Working };
 
@@ -52,18 +49,11 @@ impl<I: CallLayer<IpcLaw> + Drop> Worker<I>
 where
     I::Machine: Drop,
 {
-    ghost use Rattle.layer_traits.specs.declared.steps.Reason.TheVariants.{StepsUsed};
-    ghost use Rattle.event_log.specs.Actions.{AreLegal};
-    ghost use Rattle.layer_traits.specs.BufferEffects.{opening_locks};
-    ghost use Rattle.layer_traits.specs.QueueBlocks.{inner};
-    ghost use Rattle.cpu.specs.Cpus.{IsCpu, programs_of};
-    ghost use Rattle.cpu.specs.Tables.{IsTabled, private};
-    ghost use Rattle.event_log.specs.declared.ids.TheConstants.{THREADS};
-    ghost use Rattle.cpu.specs.Boots.{AreGuests};
-    ghost use Rattle.cpu.specs.Table.Setups.{Setup, at_boot as boot_of};
-    ghost use Rattle.cpu.specs.Table.Steps.{halted_at};
-    ghost use Rattle.cpu_workers.specs.Working.{IsPlanned, IsSame, Turned, is_inside};
-    ghost use Rattle.cpu_workers.specs.Orders.{HasFollowed, IsTraceOf};
+    ghost use Rattle.layer_traits.specs.{declared.steps.Reason.TheVariants.StepsUsed, BufferEffects.opening_locks, QueueBlocks.inner};
+    ghost use Rattle.event_log.specs.{Actions.AreLegal, declared.ids.TheConstants.THREADS};
+    ghost use Rattle.cpu.specs.{Cpus.IsCpu, Cpus.programs_of, Tables.IsTabled, Tables.private, Boots.AreGuests, Table.Setups.Setup};
+    ghost use Rattle.cpu.specs.{Table.Setups.at_boot as boot_of, Table.Steps.halted_at};
+    ghost use Rattle.cpu_workers.specs.{Working.IsPlanned, Working.IsSame, Working.Turned, Working.is_inside, Orders.HasFollowed, Orders.IsTraceOf};
 
     /// The worker of a CPU and its machine, which agree. The machine does one action a step and has
     /// room for one at any time, and each of its buffers opened empty.

@@ -1,17 +1,11 @@
 -- A CPU alone: at a lock that is free its next three actions are one section, and then the lock is free again.
 use Rattle.std.proofs.Common.{◌≡◌, ℕ, ◌+◌, ◌<◌, Bool, true, false, List, ◌∷◌, ◌==◌, if◌then◌else◌, refl, ap, sym, subst, ◌∙◌, arith}
 use Rattle.std.proofs.lemmas.Bool.{eq-eqb}
-use Rattle.event_log.specs.declared.ids.CpuId.{CpuId}
-use Rattle.event_log.specs.declared.ids.LockId.{LockId}
-use Rattle.event_log.specs.declared.ids.TheConstants.{CPUS}
-use Rattle.event_log.specs.History.{same_lock}
-use Rattle.event_log.specs.Actions.{Action, Take, Try, Give, Phase, Rests, Waits, Holds, phase, spot_of, takes, gives, AreLegal, action_in, next_action, IsFree}
-use Rattle.event_log.specs.Actions.{AreFree}
-use Rattle.event_log.specs.Sections.{sections_in}
-use Rattle.event_log.specs.Laws.{IsOneSection}
-use Rattle.event_log.proofs.Same.{same_cpu_self, same_lock_self}
-use Rattle.event_log.proofs.Line.{crowd, crowd_absent}
-use Rattle.event_log.proofs.Exclusion.{is_at, phase_own, line_at}
+use Rattle.event_log.specs.{declared.ids.CpuId.CpuId, declared.ids.LockId.LockId, declared.ids.TheConstants.CPUS, History.same_lock, Actions.Action}
+use Rattle.event_log.specs.{Actions.Take, Actions.Try, Actions.Give, Actions.Phase, Actions.Rests, Actions.Waits, Actions.Holds, Actions.phase, Actions.spot_of}
+use Rattle.event_log.specs.{Actions.takes, Actions.gives, Actions.AreLegal, Actions.action_in, Actions.next_action, Actions.IsFree, Actions.AreFree}
+use Rattle.event_log.specs.{Sections.sections_in, Laws.IsOneSection}
+use Rattle.event_log.proofs.{Same.same_cpu_self, Same.same_lock_self, Line.crowd, Line.crowd_absent, Exclusion.is_at, Exclusion.phase_own, Exclusion.line_at}
 
 -- a CPU that rests takes a spot
 pub first_action : {N : Type 0} (cpu : CpuId) (lock : LockId) (name : N) (past : List (Action N)) → phase cpu past ≡ Rests

@@ -1,17 +1,11 @@
 -- Numbers in digits: what `number_to` reads, and the one text that spells a number.
 use Rattle.std.proofs.Common.{ne_eqb, ◌≢◌, ◌==◌, zero, ap₂, lit<, ◌≡◌, ℕ, suc, ◌+◌, ◌*◌, ◌^◌, ◌<◌, ◌≤◌, ◌-◌, Bool, true, false, ◌&&◌, List, [], ◌∷◌, length}
 use Rattle.std.proofs.Common.{get_or, take, nat_le, Some, None, if◌then◌else◌, decimal, refl, sym, ◌∙◌, ap, arith, take_all}
-use Rattle.std.specs.Int.{IsInRange}
-use Rattle.std.specs.List.{list_all}
-use Rattle.std.specs.Str.{all_ascii_digits}
-use Rattle.std.specs.Char.{is_ascii_digit, digit_value}
-use Rattle.std.specs.Str.Parse.{digits_value, AllDigits}
-use Rattle.std.proofs.lemmas.Bool.Decides.{nat_tests}
-use Rattle.std.proofs.lemmas.Str.Parse.{IsNumeralModel, numerals_by_value, tells_all_ascii_digits, digits_value-take-le, digit_at}
-use Rattle.std.proofs.lemmas.Str.{digit_value_digit}
-use Rattle.std.proofs.lemmas.Int.Digits.{digits_value_more, digits_more}
-use Rattle.std.proofs.lemmas.Fmt.{decimal-digits_value, digits_decimal, digits_value-decimal, decimal_nonempty, first_decimal, decimal_digit}
-use Rattle.std.proofs.lemmas.Bool.{and_parts}
+use Rattle.std.specs.{Int.IsInRange, List.list_all, Str.all_ascii_digits, Char.is_ascii_digit, Char.digit_value, Str.Parse.digits_value, Str.Parse.AllDigits}
+use Rattle.std.proofs.lemmas.{Bool.Decides.nat_tests, Str.Parse.IsNumeralModel, Str.Parse.numerals_by_value, Str.Parse.tells_all_ascii_digits}
+use Rattle.std.proofs.lemmas.{Str.Parse.digits_value-take-le, Str.Parse.digit_at, Str.digit_value_digit, Int.Digits.digits_value_more, Int.Digits.digits_more}
+use Rattle.std.proofs.lemmas.{Fmt.decimal-digits_value, Fmt.digits_decimal, Fmt.digits_value-decimal, Fmt.decimal_nonempty, Fmt.first_decimal}
+use Rattle.std.proofs.lemmas.{Fmt.decimal_digit, Bool.and_parts}
 use Rattle.event_log.specs.Digits.{is_number, number_to}
 
 -- the digits of the library, in the words of `is_number`

@@ -1,14 +1,10 @@
 -- A legal list of actions keeps the line at each lock, so two CPUs never hold one lock.
 use Rattle.std.proofs.Common.{◌≡◌, ◌+◌, ◌<◌, ◌≤◌, Bool, true, false, List, [], ◌∷◌, ◌==◌, if◌then◌else◌, refl, ap, sym, ◌∙◌, arith}
 use Rattle.std.proofs.lemmas.Bool.{eqb-true}
-use Rattle.event_log.specs.declared.ids.CpuId.{CpuId}
-use Rattle.event_log.specs.declared.ids.LockId.{LockId}
-use Rattle.event_log.specs.declared.ids.TheConstants.{CPUS}
-use Rattle.event_log.specs.History.{same_cpu, same_lock}
+use Rattle.event_log.specs.{declared.ids.CpuId.CpuId, declared.ids.LockId.LockId, declared.ids.TheConstants.CPUS, History.same_cpu, History.same_lock}
 use Rattle.event_log.specs.Actions.{Action, Take, Try, Give, Phase, Rests, Waits, Holds, phase, left_in, cpu_of_action, spot_of, takes, gives, MayAct, AreLegal}
-use Rattle.event_log.proofs.BoolLemmas.{refuted}
-use Rattle.event_log.proofs.Same.{same_cpu_self, same_lock_self, same_lock_true}
-use Rattle.event_log.proofs.Line.{Line, crowd_none, crowd_within, by_cpu, line_stays, line_joined, line_left}
+use Rattle.event_log.proofs.{BoolLemmas.refuted, Same.same_cpu_self, Same.same_lock_self, Same.same_lock_true, Line.Line, Line.crowd_none, Line.crowd_within}
+use Rattle.event_log.proofs.{Line.by_cpu, Line.line_stays, Line.line_joined, Line.line_left}
 
 -- whether a CPU in this phase stands at the lock
 abbrev pub is_at : LockId → Phase → Bool

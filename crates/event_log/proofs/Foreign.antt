@@ -1,16 +1,12 @@
 -- Events of other CPUs: they change nothing of a CPU's own, and where a holder acts for every CPU there are none.
 use Rattle.std.proofs.Common.{◌≡◌, ◌<◌, Bool, true, false, List, [], ◌∷◌, ◌++◌, if◌then◌else◌, refl, ap, sym, subst, ◌∙◌}
-use Rattle.event_log.specs.declared.ids.CpuId.{CpuId}
-use Rattle.event_log.specs.declared.ids.TheConstants.{CPUS}
-use Rattle.event_log.specs.declared.events.Event.{Event}
-use Rattle.event_log.specs.declared.events.Event.TheVariants.{Draw, Look, Free}
-use Rattle.event_log.specs.History.{same_cpu, own_events, IsLawful, AreOthers, AreForeign}
-use Rattle.event_log.specs.WordsLog.{cpu_of_event, lock_phase, IsLegalWords}
-use Rattle.event_log.specs.Actions.{Action, Take, Try, Give, phase, cpu_of_action, spot_of, MayAct, AreLegal, act_of, acts_of}
-use Rattle.event_log.specs.Sections.{cpu_of_section, sections_of, sections_in}
-use Rattle.event_log.proofs.Same.{same_cpu_self, same_lock_self}
-use Rattle.event_log.proofs.Exclusion.{is_at, phase_other, spot_other, knows}
-use Rattle.event_log.proofs.Tickets.{lock_phase_other, legal_acts, cpu_of_action_is}
+use Rattle.event_log.specs.{declared.ids.CpuId.CpuId, declared.ids.TheConstants.CPUS, declared.events.Event.Event, declared.events.Event.TheVariants.Draw}
+use Rattle.event_log.specs.{declared.events.Event.TheVariants.Look, declared.events.Event.TheVariants.Free, History.same_cpu, History.own_events}
+use Rattle.event_log.specs.{History.IsLawful, History.AreOthers, History.AreForeign, WordsLog.cpu_of_event, WordsLog.lock_phase, WordsLog.IsLegalWords}
+use Rattle.event_log.specs.{Actions.Action, Actions.Take, Actions.Try, Actions.Give, Actions.phase, Actions.cpu_of_action, Actions.spot_of, Actions.MayAct}
+use Rattle.event_log.specs.{Actions.AreLegal, Actions.act_of, Actions.acts_of, Sections.cpu_of_section, Sections.sections_of, Sections.sections_in}
+use Rattle.event_log.proofs.{Same.same_cpu_self, Same.same_lock_self, Exclusion.is_at, Exclusion.phase_other, Exclusion.spot_other, Exclusion.knows}
+use Rattle.event_log.proofs.{Tickets.lock_phase_other, Tickets.legal_acts, Tickets.cpu_of_action_is}
 
 -- Any relation and any event.
 

@@ -1,8 +1,7 @@
 -- The form to read aloud and the recursion on the history say the same, for every relation.
 use Rattle.std.proofs.Common.{◌≡◌, List, [], ◌∷◌, ◌++◌, reverse, refl, ap, sym, subst, ◌∙◌, append_assoc}
 use Rattle.std.proofs.lemmas.List.{reverse-append, reverse-reverse}
-use Rattle.event_log.specs.History.{IsLawful}
-use Rattle.event_log.specs.Forms.{IsLawfulLog}
+use Rattle.event_log.specs.{History.IsLawful, Forms.IsLawfulLog}
 
 -- in a lawful history each event may follow what was before it
 pub splits_from : {E : Type 0} (May : List E → E → Type 0) (history later : List E) (e : E) (past : List E)

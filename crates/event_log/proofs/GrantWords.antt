@@ -2,20 +2,15 @@
 use Rattle.std.proofs.Common.{◌≡◌, ℕ, ◌+◌, ◌%◌, ◌^◌, ◌<◌, ◌≤◌, ◌⊎◌, inl, inr, Bool, true, false, List, [], ◌∷◌, ◌==◌, if◌then◌else◌, refl, ap, sym, subst, ◌∙◌}
 use Rattle.std.proofs.Common.{arith}
 use Rattle.std.proofs.lemmas.Bool.{eqb-true, eqb-false}
-use Rattle.event_log.specs.declared.ids.CpuId.{CpuId}
-use Rattle.event_log.specs.declared.ids.LockId.{LockId}
-use Rattle.event_log.specs.declared.ids.TheConstants.{CPUS}
-use Rattle.event_log.specs.declared.grants.GrantEvent.{GrantEvent}
-use Rattle.event_log.specs.declared.grants.GrantEvent.TheVariants.{Take, Peek, Give}
-use Rattle.event_log.specs.History.{same_lock}
-use Rattle.event_log.specs.WordsLog.{Holding}
-use Rattle.event_log.specs.Grants.{cpu_of_grant, is_ticket, tickets, left_by_grant, grant_lock_phase, ticket_in, after_give, grant_word, MayFollowGrants}
-use Rattle.event_log.specs.Grants.{IsLegalGrants, act_of_grant, acts_of_grants}
-use Rattle.event_log.specs.Actions.{Waits, Holds, phase, left_in, cpu_of_action, spot_of, takes, gives, is_take, MayAct, AreLegal}
-use Rattle.event_log.specs.Grants.{WordFits}
-use Rattle.event_log.proofs.Same.{same_cpu_self, same_lock_self, same_lock_true}
-use Rattle.event_log.proofs.Exclusion.{is_at, is_holding, line_at, one_holds, near}
-use Rattle.event_log.proofs.Observed.{phase_of, phase_either, TicketOf, ticket_either, how_many-map, Simulates, phase_simulated, ticket_simulated, eqb_same}
+use Rattle.event_log.specs.{declared.ids.CpuId.CpuId, declared.ids.LockId.LockId, declared.ids.TheConstants.CPUS, History.same_lock, WordsLog.Holding}
+use Rattle.event_log.specs.{Grants.cpu_of_grant, Grants.is_ticket, Grants.tickets, Grants.left_by_grant, Grants.grant_lock_phase, Grants.ticket_in}
+use Rattle.event_log.specs.{Grants.after_give, Grants.grant_word, Grants.MayFollowGrants, Grants.IsLegalGrants, Grants.act_of_grant, Grants.acts_of_grants}
+use Rattle.event_log.specs.{Actions.Waits, Actions.Holds, Actions.phase, Actions.left_in, Actions.cpu_of_action, Actions.spot_of, Actions.takes, Actions.gives}
+use Rattle.event_log.specs.{Actions.is_take, Actions.MayAct, Actions.AreLegal, Grants.WordFits}
+use Rattle.event_log.specs.declared.grants.GrantEvent.{GrantEvent, TheVariants.Take, TheVariants.Peek, TheVariants.Give}
+use Rattle.event_log.proofs.{Same.same_cpu_self, Same.same_lock_self, Same.same_lock_true, Exclusion.is_at, Exclusion.is_holding, Exclusion.line_at}
+use Rattle.event_log.proofs.{Exclusion.one_holds, Exclusion.near, Observed.phase_of, Observed.phase_either, Observed.TicketOf, Observed.ticket_either}
+use Rattle.event_log.proofs.{Observed.how_many-map, Observed.Simulates, Observed.phase_simulated, Observed.ticket_simulated, Observed.eqb_same}
 
 cpu_of_grant_is : {M N : Type 0} (name : M → N) (e : GrantEvent M) → cpu_of_action (act_of_grant name e) ≡ cpu_of_grant e
 cpu_of_grant_is name (Take cpu lock ticket) = refl

@@ -1,9 +1,7 @@
 -- The line at one lock: who stands in it, in which spot, and why nobody enters out of turn.
 use Rattle.std.proofs.Common.{◌≡◌, ℕ, zero, suc, ◌+◌, ◌<◌, ◌≤◌, ◌⊎◌, inl, inr, Bool, true, false, if◌then◌else◌, refl, ap, sym, subst, ◌∙◌, arith}
 use Rattle.std.proofs.lemmas.Bool.{eqb-true}
-use Rattle.event_log.specs.declared.ids.CpuId.{CpuId}
-use Rattle.event_log.specs.declared.ids.TheConstants.{CPUS}
-use Rattle.event_log.specs.History.{same_cpu}
+use Rattle.event_log.specs.{declared.ids.CpuId.CpuId, declared.ids.TheConstants.CPUS, History.same_cpu}
 use Rattle.event_log.proofs.Same.{cpu_numbered, same_cpu_self, same_cpu_true}
 
 -- of the CPUs below n, how many stand there

@@ -1,10 +1,8 @@
 -- Messages that are compared with zeroes behind them.
 use Rattle.std.proofs.Common.{◌-◌, ◌≡◌, ◌==◌, Bool, true, false, ◌&&◌, length, take, replicate, refl, sym, ap, ◌∙◌, eq-eqb, eqb-true}
-use Rattle.std.proofs.Math.Seq.{take-append_seam}
+use Rattle.std.proofs.{Math.Seq.take-append_seam, lemmas.Slice.Eq.bytes_eq-Decides}
 use Rattle.std.specs.Str.{bytes_eq}
-use Rattle.std.proofs.lemmas.Slice.Eq.{bytes_eq-Decides}
-use Rattle.event_log.specs.declared.messages.TheConstants.{WORDS}
-use Rattle.event_log.specs.Messages.{Message, padded}
+use Rattle.event_log.specs.{declared.messages.TheConstants.WORDS, Messages.Message, Messages.padded}
 
 both_tests : (a b c : Bool) → (a ≡ true → b ≡ true → c ≡ true) → (c ≡ true → (a ≡ true) × (b ≡ true)) → (a && b) ≡ c
 both_tests true true c there back = sym (there refl refl)

@@ -1,14 +1,10 @@
 -- What a lock's log tells of its actions, whatever its events are: the phases, and that a ticket is the rest of a true spot.
 use Rattle.std.proofs.Common.{◌≡◌, ℕ, ◌+◌, ◌%◌, ◌^◌, Bool, true, false, List, [], ◌∷◌, ◌==◌, if◌then◌else◌, map, refl, ap, sym, subst, ◌∙◌}
 use Rattle.std.proofs.lemmas.Bool.{eqb-true, eq-eqb}
-use Rattle.event_log.specs.declared.ids.CpuId.{CpuId}
-use Rattle.event_log.specs.declared.ids.LockId.{LockId}
-use Rattle.event_log.specs.History.{same_cpu, how_many, IsLawful}
-use Rattle.event_log.specs.WordsLog.{LockPhase, Idle, Waiting, Holding}
-use Rattle.event_log.specs.Actions.{Action, Phase, Rests, Waits, Holds, phase, left_in, cpu_of_action, spot_of}
-use Rattle.event_log.proofs.Same.{same_cpu_self}
-use Rattle.event_log.proofs.Line.{by_cpu}
-use Rattle.event_log.proofs.Exclusion.{spot_other}
+use Rattle.event_log.specs.{declared.ids.CpuId.CpuId, declared.ids.LockId.LockId, History.same_cpu, History.how_many, History.IsLawful, WordsLog.LockPhase}
+use Rattle.event_log.specs.{WordsLog.Idle, WordsLog.Waiting, WordsLog.Holding, Actions.Action, Actions.Phase, Actions.Rests, Actions.Waits, Actions.Holds}
+use Rattle.event_log.specs.{Actions.phase, Actions.left_in, Actions.cpu_of_action, Actions.spot_of}
+use Rattle.event_log.proofs.{Same.same_cpu_self, Line.by_cpu, Exclusion.spot_other}
 
 -- what a CPU does that stands here
 abbrev pub phase_of : LockPhase → Phase

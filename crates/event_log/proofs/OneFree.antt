@@ -1,18 +1,13 @@
 -- While a CPU waits at a lock or holds it, no other CPU gives the lock on twice: to come back it would have to pass.
 use Rattle.std.proofs.Common.{◌≡◌, ℕ, ◌+◌, ◌<◌, ◌≤◌, Bool, true, false, List, [], ◌∷◌, ◌++◌, if◌then◌else◌, refl, ap, sym, subst, ◌∙◌, arith}
-use Rattle.event_log.specs.declared.ids.CpuId.{CpuId}
-use Rattle.event_log.specs.declared.ids.LockId.{LockId}
-use Rattle.event_log.specs.declared.events.Event.{Event}
-use Rattle.event_log.specs.declared.events.Event.TheVariants.{Draw, Look, Free}
-use Rattle.event_log.specs.History.{same_cpu, same_lock, own_events}
-use Rattle.event_log.specs.WordsLog.{cpu_of_event, frees, IsLegalWords}
-use Rattle.event_log.specs.Actions.{Action, Take, Try, Give, Waits, Holds, phase, left_in}
-use Rattle.event_log.specs.Actions.{cpu_of_action, spot_of, takes, gives, MayAct, AreLegal, act_of, acts_of}
-use Rattle.event_log.specs.Laws.{OnlyTries, OnlyLooks}
-use Rattle.event_log.proofs.Same.{same_cpu_self, same_cpu_true, same_lock_self, same_lock_true}
-use Rattle.event_log.proofs.Exclusion.{is_at, is_holding, at_either, phase_own, phase_other, spot_other, line_at}
-use Rattle.event_log.proofs.Tickets.{cpu_of_action_is, gives_acts, legal_acts}
-use Rattle.event_log.proofs.Foreign.{acts_of-append}
+use Rattle.event_log.specs.{declared.ids.CpuId.CpuId, declared.ids.LockId.LockId, declared.events.Event.Event, declared.events.Event.TheVariants.Draw}
+use Rattle.event_log.specs.{declared.events.Event.TheVariants.Look, declared.events.Event.TheVariants.Free, History.same_cpu, History.same_lock}
+use Rattle.event_log.specs.{History.own_events, WordsLog.cpu_of_event, WordsLog.frees, WordsLog.IsLegalWords, Actions.Action, Actions.Take, Actions.Try}
+use Rattle.event_log.specs.{Actions.Give, Actions.Waits, Actions.Holds, Actions.phase, Actions.left_in, Actions.cpu_of_action, Actions.spot_of, Actions.takes}
+use Rattle.event_log.specs.{Actions.gives, Actions.MayAct, Actions.AreLegal, Actions.act_of, Actions.acts_of, Laws.OnlyTries, Laws.OnlyLooks}
+use Rattle.event_log.proofs.{Same.same_cpu_self, Same.same_cpu_true, Same.same_lock_self, Same.same_lock_true, Exclusion.is_at, Exclusion.is_holding}
+use Rattle.event_log.proofs.{Exclusion.at_either, Exclusion.phase_own, Exclusion.phase_other, Exclusion.spot_other, Exclusion.line_at, Tickets.cpu_of_action_is}
+use Rattle.event_log.proofs.{Tickets.gives_acts, Tickets.legal_acts, Foreign.acts_of-append}
 
 pub own_yes : {E : Type 0} (by : E → CpuId) (c : CpuId) (e : E) (past : List E) → same_cpu (by e) c ≡ true
     → own_events by c (e ∷ past) ≡ e ∷ own_events by c past

@@ -1,14 +1,10 @@
 -- Actions under other names: nothing changes but the names of the sections.
 use Rattle.std.proofs.Common.{◌≡◌, ◌+◌, List, [], ◌∷◌, ◌==◌, if◌then◌else◌, map, refl, ap, sym, ◌∙◌}
-use Rattle.event_log.specs.declared.ids.CpuId.{CpuId}
-use Rattle.event_log.specs.declared.ids.LockId.{LockId}
-use Rattle.event_log.specs.declared.events.Event.{Event}
-use Rattle.event_log.specs.declared.events.Event.TheVariants.{Draw, Look, Free}
-use Rattle.event_log.specs.History.{same_cpu, AreOthers}
-use Rattle.event_log.specs.Actions.{Action, Take, Try, Give, Phase, Rests, Waits, Holds}
-use Rattle.event_log.specs.Actions.{phase, left_in, cpu_of_action, spot_of, takes, gives, is_take, is_give, MayAct}
-use Rattle.event_log.specs.Actions.{AreLegal, action_in, next_action, renamed, act_of, acts_of}
-use Rattle.event_log.specs.Sections.{renamed_section, sections_in}
+use Rattle.event_log.specs.{declared.ids.CpuId.CpuId, declared.ids.LockId.LockId, declared.events.Event.Event, declared.events.Event.TheVariants.Draw}
+use Rattle.event_log.specs.{declared.events.Event.TheVariants.Look, declared.events.Event.TheVariants.Free, History.same_cpu, History.AreOthers}
+use Rattle.event_log.specs.{Sections.renamed_section, Sections.sections_in}
+use Rattle.event_log.specs.Actions.{Action, Take, Try, Give, Phase, Rests, Waits, Holds, phase, left_in, cpu_of_action, spot_of, takes, gives, is_take, is_give}
+use Rattle.event_log.specs.Actions.{MayAct, AreLegal, action_in, next_action, renamed, act_of, acts_of}
 
 module _ {N L : Type 0} (f : N → L) where
   cpu_of_action_renamed : (a : Action N) → cpu_of_action (renamed f a) ≡ cpu_of_action a

@@ -1,11 +1,9 @@
 -- Lemmas on the part of a table that holds a queue.
 use Rattle.std.proofs.Common.{◌≡◌, ℕ, ◌+◌, ◌-◌, ◌%◌, ◌<◌, ◌≤◌, ◌⊎◌, List, [], ◌∷◌, ◌++◌, length, get_or, set, ap, ◌∙◌, ap₂, inl, inr, mod-eq_of_lt, arith}
 use Rattle.std.proofs.Common.{length-append, length-drop, length-set, length-take-le, get_or-drop, get_or-take}
-use native.Mathlib.Nat.{mod-eq-sub-mod, mod-add-mod}
-use Rattle.std.proofs.lemmas.List.{same_lists, drop_more, get_or_append_left, get_or-append_right}
-use Rattle.std.proofs.lemmas.Bool.{cases_lt}
-use Rattle.std.proofs.lemmas.Grind.{common_steps}
+use Rattle.std.proofs.lemmas.{List.same_lists, List.drop_more, List.get_or_append_left, List.get_or-append_right, Bool.cases_lt, Grind.common_steps}
 use Rattle.event_log.specs.Rings.{window}
+use native.Mathlib.Nat.{mod-eq-sub-mod, mod-add-mod}
 
 -- an index below 2 N wraps once at most
 mod_wraps_once : (N j : ℕ) → j < N + N → ((j < N) × (j % N ≡ j)) ⊎ ((N ≤ j) × (j % N ≡ j - N))

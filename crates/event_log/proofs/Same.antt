@@ -1,12 +1,8 @@
 -- Tests whether two CPUs or two locks are one.
 use Rattle.std.proofs.Common.{◌≡◌, ◌≢◌, ℕ, true, false, refl, ap, arith}
 use Rattle.std.proofs.lemmas.Bool.{eq-eqb, eqb-true}
-use Rattle.event_log.specs.declared.ids.BufId.{BufId}
-use Rattle.event_log.specs.declared.ids.CpuId.{CpuId}
-use Rattle.event_log.specs.declared.ids.LockId.{LockId}
-use Rattle.event_log.specs.declared.ids.LockId.TheVariants.{Pending, Buffer}
-use Rattle.event_log.specs.History.{same_cpu, same_lock}
-use Rattle.event_log.specs.Locks.{lock_number}
+use Rattle.event_log.specs.{declared.ids.BufId.BufId, declared.ids.CpuId.CpuId, declared.ids.LockId.LockId, declared.ids.LockId.TheVariants.Pending}
+use Rattle.event_log.specs.{declared.ids.LockId.TheVariants.Buffer, History.same_cpu, History.same_lock, Locks.lock_number}
 
 abbrev pub cpu_numbered : ℕ → CpuId
 cpu_numbered n = record { 0 = n }

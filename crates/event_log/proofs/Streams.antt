@@ -1,16 +1,12 @@
 -- What was put into a buffer is what was taken from it, and then what is left: one entry after the other.
-use Rattle.std.proofs.Common.{◌≡◌, ℕ, zero, suc, ◌<◌, ◌==◌, Bool, true, false, if◌then◌else◌}
-use Rattle.std.proofs.Common.{List, [], ◌∷◌, ◌++◌, length, drop, refl, sym, ap, ◌∙◌, append_assoc}
+use Rattle.std.proofs.Common.{◌≡◌, ℕ, zero, suc, ◌<◌, ◌==◌, Bool, true, false, if◌then◌else◌, List, [], ◌∷◌, ◌++◌, length, drop, refl, sym, ap, ◌∙◌}
+use Rattle.std.proofs.Common.{append_assoc}
 use Rattle.std.specs.Prelude.{slice_set}
-use Rattle.std.proofs.lemmas.Bool.{eqb-true, eqb-false}
-use Rattle.std.proofs.lemmas.List.{get_or-set_same, get_or-set_other}
-use Rattle.event_log.specs.Messages.{Message}
-use Rattle.event_log.specs.declared.entries.Entry.{Entry}
-use Rattle.event_log.specs.declared.entries.Kind.{Kind}
+use Rattle.std.proofs.lemmas.{Bool.eqb-true, Bool.eqb-false, List.get_or-set_same, List.get_or-set_other}
+use Rattle.event_log.specs.{Messages.Message, declared.entries.Entry.Entry, declared.entries.Kind.Kind, Buffers.empty_buffers, Buffers.items_of}
+use Rattle.event_log.specs.{Buffers.IsAllowedEffect, Buffers.after_effect, Runs.IsNext, Runs.IsRunFrom, Runs.IsRun, Runs.after_entry, Streams.put_by}
+use Rattle.event_log.specs.{Streams.taken_by, Streams.sent_to, Streams.taken_from, Streams.IsFirstInFirstOut}
 use Rattle.event_log.specs.declared.entries.Kind.TheVariants.{Send, Recv, Close, SendClosed, RecvClosed}
-use Rattle.event_log.specs.Buffers.{empty_buffers, items_of, IsAllowedEffect, after_effect}
-use Rattle.event_log.specs.Runs.{IsNext, IsRunFrom, IsRun, after_entry}
-use Rattle.event_log.specs.Streams.{put_by, taken_by, sent_to, taken_from, IsFirstInFirstOut}
 use Rattle.event_log.proofs.RunLemmas.{items_none}
 
 -- one effect at its buffer

@@ -1,17 +1,13 @@
 -- A legal words log is a legal list of actions: the rests modulo 2^64 tell the true counts, since at most CPUS spots wait.
 use Rattle.std.proofs.Common.{◌≡◌, ℕ, ◌+◌, ◌%◌, ◌^◌, ◌<◌, ◌≤◌, true, false, List, [], ◌∷◌, ◌==◌, if◌then◌else◌, refl, ap, sym, subst, ◌∙◌, arith}
-use Rattle.event_log.specs.declared.ids.CpuId.{CpuId}
-use Rattle.event_log.specs.declared.ids.LockId.{LockId}
-use Rattle.event_log.specs.declared.ids.TheConstants.{CPUS}
-use Rattle.event_log.specs.declared.events.Event.{Event}
-use Rattle.event_log.specs.declared.events.Event.TheVariants.{Draw, Look, Free}
-use Rattle.event_log.specs.History.{same_cpu}
-use Rattle.event_log.specs.WordsLog.{cpu_of_event, draws, frees, is_draw, is_free, Holding, left_by, lock_phase, MayFollow, IsLegalWords}
+use Rattle.event_log.specs.{declared.ids.CpuId.CpuId, declared.ids.LockId.LockId, declared.ids.TheConstants.CPUS, declared.events.Event.Event}
+use Rattle.event_log.specs.{declared.events.Event.TheVariants.Draw, declared.events.Event.TheVariants.Look, declared.events.Event.TheVariants.Free}
+use Rattle.event_log.specs.{History.same_cpu, WordsLog.cpu_of_event, WordsLog.draws, WordsLog.frees, WordsLog.is_draw, WordsLog.is_free, WordsLog.Holding}
+use Rattle.event_log.specs.{WordsLog.left_by, WordsLog.lock_phase, WordsLog.MayFollow, WordsLog.IsLegalWords}
 use Rattle.event_log.specs.Actions.{Waits, phase, left_in, cpu_of_action, spot_of, takes, gives, is_take, is_give, MayAct, AreLegal, act_of, acts_of}
-use Rattle.event_log.proofs.Same.{same_cpu_self, same_lock_self}
-use Rattle.event_log.proofs.Exclusion.{is_at, one_holds, near}
-pub use Rattle.event_log.proofs.Observed.{phase_of, TicketOf}
+use Rattle.event_log.proofs.{Same.same_cpu_self, Same.same_lock_self, Exclusion.is_at, Exclusion.one_holds, Exclusion.near}
 use Rattle.event_log.proofs.Observed.{phase_either, ticket_either, how_many-map, Simulates, phase_simulated, ticket_simulated, eqb_same}
+pub use Rattle.event_log.proofs.Observed.{phase_of, TicketOf}
 
 pub cpu_of_action_is : {M N : Type 0} (name : M → N) (e : Event M) → cpu_of_action (act_of name e) ≡ cpu_of_event e
 cpu_of_action_is name (Draw cpu lock ticket) = refl

@@ -1,16 +1,9 @@
 -- Worked logs, newest event first: the definitions accept what they should, and nothing else.
 use Rattle.std.proofs.Common.{◌≡◌, ℕ, ◌+◌, ◌-◌, ◌*◌, List, [], ◌∷◌, Some, refl, arith}
-use Rattle.event_log.specs.declared.ids.CpuId.{CpuId}
-use Rattle.event_log.specs.declared.ids.LockId.{LockId}
-use Rattle.event_log.specs.declared.ids.TheConstants.{CPUS}
-use Rattle.event_log.specs.declared.ids.LockId.TheVariants.{Pending, Buffer}
-use Rattle.event_log.specs.declared.events.Event.{Event}
-use Rattle.event_log.specs.declared.events.Event.TheVariants.{Draw, Look, Free}
-use Rattle.event_log.specs.declared.grants.GrantEvent.{GrantEvent}
-use Rattle.event_log.specs.declared.grants.GrantEvent.TheVariants.{Take, Peek, Give}
-use Rattle.event_log.specs.WordsLog.{IsLegalWords}
-use Rattle.event_log.specs.Grants.{IsLegalGrants, grant_word}
-use Rattle.event_log.specs.Sections.{sections_of, block_after}
+use Rattle.event_log.specs.declared.{ids.CpuId.CpuId, ids.LockId.LockId, ids.TheConstants.CPUS, ids.LockId.TheVariants.Pending, ids.LockId.TheVariants.Buffer}
+use Rattle.event_log.specs.declared.{events.Event.Event, events.Event.TheVariants.Draw, events.Event.TheVariants.Look, events.Event.TheVariants.Free}
+use Rattle.event_log.specs.declared.grants.GrantEvent.{GrantEvent, TheVariants.Take, TheVariants.Peek, TheVariants.Give}
+use Rattle.event_log.specs.{WordsLog.IsLegalWords, Grants.IsLegalGrants, Grants.grant_word, Sections.sections_of, Sections.block_after}
 use Rattle.event_log.proofs.Same.{cpu_numbered}
 
 abbrev a : CpuId

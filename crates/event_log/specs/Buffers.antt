@@ -1,10 +1,8 @@
 -- What first-in first-out buffers hold, and what one send, receive or close does to one of them.
 -- Capacities are a list by buffer number; contents are a list by buffer number of lists of messages, front first.
 use Rattle.std.specs.Prelude.{◌≡◌, ℕ, ◌<◌, Bool, true, false, ◌≤◌, List, [], ◌∷◌, ◌++◌, length, map, drop, Some, slice_get, slice_index_or}
-use Rattle.event_log.specs.declared.ids.TheConstants.{CAPACITY}
-use Rattle.event_log.specs.declared.entries.Kind.{Kind}
+use Rattle.event_log.specs.{declared.ids.TheConstants.CAPACITY, declared.entries.Kind.Kind, Messages.Message, Messages.no_message}
 use Rattle.event_log.specs.declared.entries.Kind.TheVariants.{Send, Recv, Close, SendClosed, RecvClosed}
-use Rattle.event_log.specs.Messages.{Message, no_message}
 
 -- a buffer holds from one message to CAPACITY
 abbrev pub IsCapacity : ℕ → Type 0

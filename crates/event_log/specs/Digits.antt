@@ -1,7 +1,6 @@
 -- Numbers written in decimal digits without a leading zero.
 use Rattle.std.specs.Prelude.{ℕ, Bool, false, ◌&&◌, ◌==◌, List, [], ◌∷◌, length, nat_le, Option, Some, None, if◌then◌else◌}
-use Rattle.std.specs.Str.{all_ascii_digits}
-use Rattle.std.specs.Str.Parse.{digits_value}
+use Rattle.std.specs.Str.{all_ascii_digits, Parse.digits_value}
 
 -- `0`, or digits of which the first is not `0` (48 is the code of `0`)
 unfoldable pub is_number : List ℕ → Bool

@@ -1,7 +1,6 @@
 -- One order of several traces.
 use Rattle.std.specs.Prelude.{◌≡◌, ℕ, List, [], ◌∷◌, ◌++◌, Some, slice_get, slice_index_or, slice_set}
-use Rattle.event_log.specs.declared.entries.Entry.{Entry}
-use Rattle.event_log.specs.Runs.{count_of}
+use Rattle.event_log.specs.{declared.entries.Entry.Entry, Runs.count_of}
 
 -- the order takes the first entry of some trace, again and again, until all traces are used up:
 -- each trace keeps its order, each entry stands once, and nothing else stands there

@@ -2,8 +2,7 @@
 //! takes memory or waits.
 
 ghost use Rattle.std.specs.Prelude.{◌≡◌, ◌≤◌, ◌<◌, ◌^◌, ℕ, List, Some, decimal, IfSome};
-ghost use Rattle.std.specs.Char.{is_ascii_digit};
-ghost use Rattle.std.specs.List.{list_all};
+ghost use Rattle.std.specs.{Char.is_ascii_digit, List.list_all};
 ghost use Rattle.event_log.specs.Digits.{is_number, number_to};
 
 /// Whether `text` spells a number, of any size: it is `0`, or digits of which the first is not `0`.

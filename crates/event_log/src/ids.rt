@@ -3,8 +3,7 @@
 //! waits.
 
 ghost use Rattle.std.specs.Prelude.{◌≡◌, ◌<◌};
-ghost use Rattle.event_log.specs.declared.ids.TheConstants.{LOCKS};
-ghost use Rattle.event_log.specs.Locks.{lock_number};
+ghost use Rattle.event_log.specs.{declared.ids.TheConstants.LOCKS, Locks.lock_number};
 
 /// How many CPUs a machine may have: they are numbered from 0 to `CPUS - 1`. A table indexed by
 /// CPU has this size.

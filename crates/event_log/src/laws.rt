@@ -1,9 +1,8 @@
 //! What holds of every legal log. Each law is the contract of a function that does nothing, so that
 //! the law is proved with the crate.
 
-ghost use Rattle.event_log.specs.Forms.{BothFormsAgree, LegalLogsGrow};
+ghost use Rattle.event_log.specs.{Forms.BothFormsAgree, Forms.LegalLogsGrow, Grants.GrantsTellSpots, Grants.OneInsideGrants};
 ghost use Rattle.event_log.specs.Laws.{FreedOnceMeanwhile, FreeWhereAllRest, GivenOnceMeanwhile, OneHolds, OneInside, ThreeAreOneSection, TicketsTellSpots};
-ghost use Rattle.event_log.specs.Grants.{GrantsTellSpots, OneInsideGrants};
 
 /// A words log, oldest first, is legal where each event may follow what stands before it, however
 /// the log is split. The recursion on its history, newest first, says the same.

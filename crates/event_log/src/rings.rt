@@ -2,8 +2,7 @@
 //! or waits.
 
 ghost use Rattle.std.specs.Prelude.{◌≡◌, ◌+◌, ◌<◌, ◌≤◌, ◌++◌, ◌∷◌, [], length};
-ghost use Rattle.event_log.specs.declared.ids.TheConstants.{CAPACITY};
-ghost use Rattle.event_log.specs.Rings.{first, rest};
+ghost use Rattle.event_log.specs.{declared.ids.TheConstants.CAPACITY, Rings.first, Rings.rest};
 
 use crate::cells::{Cells, Ticks};
 use crate::ids::CAPACITY;
@@ -23,8 +22,7 @@ pub struct Ring<T: Copy + Drop> {
 
 impl<T: Copy + Drop> Model for Ring<T> {
     ghost use Rattle.std.specs.Prelude.{◌≡◌, ◌<◌, ◌≤◌, List, length};
-    ghost use Rattle.event_log.specs.declared.ids.TheConstants.{CAPACITY};
-    ghost use Rattle.event_log.specs.Rings.{window};
+    ghost use Rattle.event_log.specs.{declared.ids.TheConstants.CAPACITY, Rings.window};
 
     ghost Value = { List T };
 

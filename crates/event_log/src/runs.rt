@@ -2,11 +2,8 @@
 //! first-in first-out buffers: laws, with nothing to run.
 
 ghost use Rattle.std.specs.Prelude.{◌≡◌, ◌<◌, ◌++◌, ◌∷◌, ◌↔◌, ℕ, [], List, length, take, slice_get, Some};
-ghost use Rattle.event_log.specs.Messages.{Message};
-ghost use Rattle.event_log.specs.declared.entries.Entry.{Entry as AnEntry};
-ghost use Rattle.event_log.specs.Runs.{IsNext, IsRun, after_entry, contents_after};
-ghost use Rattle.event_log.specs.Streams.{TakenIsPut};
-ghost use Rattle.event_log.specs.Traces.{HasOpOrder};
+ghost use Rattle.event_log.specs.{Messages.Message, declared.entries.Entry.Entry as AnEntry, Runs.IsNext, Runs.IsRun, Runs.after_entry, Runs.contents_after};
+ghost use Rattle.event_log.specs.{Streams.TakenIsPut, Traces.HasOpOrder};
 
 /// A law: a run with one entry more at its end, which may come there, is a run, and ends in what
 /// that entry leaves.

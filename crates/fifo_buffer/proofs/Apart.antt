@@ -1,36 +1,24 @@
 -- One section of another caller leaves a thread's stance as it is.
-use Rattle.std.proofs.Common.{◌≡◌, ◌≢◌, ℕ, Bool, true, false, not, ◌&&◌, ◌||◌, List, [], ◌∷◌, ◌++◌, Option, Some, None}
-use Rattle.std.proofs.Common.{option_map, is_some, nat_lt, if◌then◌else◌, refl, ap, sym, ◌∙◌, subst, arith}
+use Rattle.std.proofs.Common.{◌≡◌, ◌≢◌, ℕ, Bool, true, false, not, ◌&&◌, ◌||◌, List, [], ◌∷◌, ◌++◌, Option, Some, None, option_map, is_some, nat_lt}
+use Rattle.std.proofs.Common.{if◌then◌else◌, refl, ap, sym, ◌∙◌, subst, arith}
 use Rattle.std.proofs.lemmas.Bool.{and_parts, and_right}
-use Rattle.event_log.specs.declared.ids.BufId.{BufId}
-use Rattle.event_log.specs.declared.ids.LockId.{LockId}
-use Rattle.event_log.specs.declared.ids.LockId.TheVariants.{Buffer}
-use Rattle.event_log.specs.declared.ids.Tid.{Tid}
-use Rattle.event_log.specs.declared.ids.TheConstants.{THREADS}
-use Rattle.event_log.specs.History.{same_lock}
+use Rattle.event_log.specs.{declared.ids.BufId.BufId, declared.ids.LockId.LockId, declared.ids.LockId.TheVariants.Buffer, declared.ids.Tid.Tid}
+use Rattle.event_log.specs.{declared.ids.TheConstants.THREADS, History.same_lock}
 use Rattle.event_log.proofs.Same.{same_lock_true}
-use Rattle.layer_traits.specs.declared.buffer_edits.BufferEdit.{BufferEdit}
+use Rattle.layer_traits.specs.declared.{buffer_edits.BufferEdit.BufferEdit, calls.Call.Call, conditions.CvEdit.TheVariants.Edit}
+use Rattle.layer_traits.specs.declared.{conditions.CvEdit.TheVariants.SignalFront, conditions.CvLeave.TheVariants.Leave, conditions.CvLeave.TheVariants.Wait}
+use Rattle.layer_traits.specs.declared.{locked.QEdit.TheVariants.Acquire, locked.QEdit.TheVariants.Inside, locked.QEdit.TheVariants.Release, locked.Side.Side}
+use Rattle.layer_traits.specs.declared.{locked.Side.TheVariants.Receivers, locked.Side.TheVariants.Senders, call_states.CallState.CallState}
 use Rattle.layer_traits.specs.declared.buffer_edits.BufferEdit.TheVariants.{Enter, TryPut, TryTake, Shut}
-use Rattle.layer_traits.specs.declared.calls.Call.{Call}
-use Rattle.layer_traits.specs.declared.conditions.CvEdit.TheVariants.{Edit, SignalFront}
-use Rattle.layer_traits.specs.declared.conditions.CvLeave.TheVariants.{Leave, Wait}
-use Rattle.layer_traits.specs.declared.locked.QEdit.TheVariants.{Acquire, Inside, Release}
-use Rattle.layer_traits.specs.declared.locked.Side.{Side}
-use Rattle.layer_traits.specs.declared.locked.Side.TheVariants.{Receivers, Senders}
-use Rattle.layer_traits.specs.declared.call_states.CallState.{CallState}
-use Rattle.layer_traits.specs.BufferBlocks.{BufferState, buffer_edited, thread_of_edit, entered, is_first, is_next}
-use Rattle.layer_traits.specs.BufferBlocks.{line_of, may_go, may_join, put_in, shut, taken_out}
-use Rattle.layer_traits.specs.BufferEffects.{drawn, is_enter, drawn_in}
-use Rattle.layer_traits.specs.BufferProtocol.{BufferLock, BufferSection, buffer_at, buffer_rules, has_tried_in_vain}
-use Rattle.layer_traits.specs.BufferLaw.{buffer_of, side_of}
-use Rattle.layer_traits.specs.Places.{count_in, one_if}
-use Rattle.layer_traits.specs.Conditions.{CvCall}
-use Rattle.layer_traits.specs.Locking.{IsOwners, asked, lock_caller, lock_edited, owner_in}
-use Rattle.layer_traits.specs.Sleeping.{joined}
+use Rattle.layer_traits.specs.{BufferBlocks.BufferState, BufferBlocks.buffer_edited, BufferBlocks.thread_of_edit, BufferBlocks.entered, BufferBlocks.is_first}
+use Rattle.layer_traits.specs.{BufferBlocks.is_next, BufferBlocks.line_of, BufferBlocks.may_go, BufferBlocks.may_join, BufferBlocks.put_in, BufferBlocks.shut}
+use Rattle.layer_traits.specs.{BufferBlocks.taken_out, BufferEffects.drawn, BufferEffects.is_enter, BufferEffects.drawn_in, BufferProtocol.BufferLock}
+use Rattle.layer_traits.specs.{BufferProtocol.BufferSection, BufferProtocol.buffer_at, BufferProtocol.buffer_rules, BufferProtocol.has_tried_in_vain}
+use Rattle.layer_traits.specs.{BufferLaw.buffer_of, BufferLaw.side_of, Places.count_in, Places.one_if, Conditions.CvCall, Locking.IsOwners, Locking.asked}
+use Rattle.layer_traits.specs.{Locking.lock_caller, Locking.lock_edited, Locking.owner_in, Sleeping.joined}
 use Rattle.layer_traits.proofs.CountLemmas.{same_tid_sym, count_behind, count_other}
 use Rattle.thread_blocks.specs.Queues.{same_tid, is_in, rest}
-use Rattle.thread_blocks.proofs.Members.{same_tid_self, same_tid_true}
-use Rattle.thread_blocks.proofs.Distinct.{out_of_rest}
+use Rattle.thread_blocks.proofs.{Members.same_tid_self, Members.same_tid_true, Distinct.out_of_rest}
 use Rattle.fifo_buffer.specs.Stances.{Grip, Stance, CallStateFits, holds_at, line_at, lined_at, same_side}
 
 pub not_some : (t u : Tid) → same_tid u t ≡ false → Some u ≢ Some t

@@ -1,33 +1,17 @@
 -- A poll of a call follows its plan: one section poll, or two where the first did nothing beneath.
 use Rattle.std.proofs.Common.{◌≡◌, Bool, true, false, List, Option, Some, None, is_some, refl, ap, sym, ◌∙◌, subst}
-use Rattle.event_log.specs.declared.ids.BufId.{BufId}
-use Rattle.event_log.specs.declared.ids.CpuId.{CpuId}
-use Rattle.event_log.specs.declared.ids.LockId.{LockId}
-use Rattle.event_log.specs.declared.ids.Tid.{Tid}
-use Rattle.event_log.specs.Actions.{Action}
-use Rattle.layer_traits.specs.declared.buffer_edits.BufferEdit.{BufferEdit}
-use Rattle.layer_traits.specs.declared.buffer_edits.BufferOut.{BufferOut}
-use Rattle.layer_traits.specs.declared.calls.Call.{Call}
-use Rattle.layer_traits.specs.declared.calls.Reply.{Reply}
-use Rattle.layer_traits.specs.declared.conditions.CvOut.{CvOut}
-use Rattle.layer_traits.specs.declared.locked.QOut.{QOut}
-use Rattle.layer_traits.specs.declared.queue_edits.QueueEdit.{QueueEdit}
-use Rattle.layer_traits.specs.declared.queues.QueueAnswer.{QueueAnswer}
-use Rattle.layer_traits.specs.declared.call_states.Stage.{Stage}
+use Rattle.event_log.specs.{declared.ids.BufId.BufId, declared.ids.CpuId.CpuId, declared.ids.LockId.LockId, declared.ids.Tid.Tid, Actions.Action}
+use Rattle.layer_traits.specs.{declared.buffer_edits.BufferEdit.BufferEdit, declared.buffer_edits.BufferOut.BufferOut, declared.calls.Call.Call}
+use Rattle.layer_traits.specs.{declared.calls.Reply.Reply, declared.conditions.CvOut.CvOut, declared.locked.QOut.QOut, declared.queue_edits.QueueEdit.QueueEdit}
+use Rattle.layer_traits.specs.{declared.queues.QueueAnswer.QueueAnswer, declared.call_states.Stage.Stage, declared.call_states.CallState.CallState}
+use Rattle.layer_traits.specs.{BufferLaw.Buffering, BufferLaw.BufferPlan, BufferLaw.buffer_of, BufferLaw.chained, BufferLaw.chained_now, BufferLaw.recorded}
+use Rattle.layer_traits.specs.{BufferLaw.left_recorded, BufferLaw.plan_at, BufferLaw.plan_beneath, BufferLaw.plan_of, BufferLaw.plan_on, BufferLaw.section_at}
+use Rattle.layer_traits.specs.{BufferLaw.call_state_of, BufferProtocol.buffer_rules, Conditions.CvCall, CvLaw.Waiting, CvLaw.cv_plan_for, CvLaw.left_over}
+use Rattle.layer_traits.specs.{CvLaw.left_waiting, LockLaw.Locking, LockLaw.left_after, LockLaw.left_handed, LockLaw.lock_plan, LockLaw.plan_for}
+use Rattle.layer_traits.specs.{LockLaw.slept_for, Locking.lock_moves, Plans.Follows, Plans.Left, Plans.Plan, Plans.Now, Plans.Act, Plans.Table, Plans.raised}
+use Rattle.layer_traits.specs.{Scheds.sched_plan, SleepLaw.due, SleepLaw.sleep_plan}
 use Rattle.layer_traits.specs.declared.call_states.Stage.TheVariants.{Idle, Acquires, Enters, Tries, Waits, AcquiresAgain, Signals, SignalsOwn, Releases}
-use Rattle.layer_traits.specs.declared.call_states.CallState.{CallState}
-use Rattle.layer_traits.specs.BufferLaw.{Buffering, BufferPlan, buffer_of, chained, chained_now, recorded, left_recorded}
-use Rattle.layer_traits.specs.BufferLaw.{plan_at, plan_beneath, plan_of, plan_on, section_at, call_state_of}
-use Rattle.layer_traits.specs.BufferProtocol.{buffer_rules}
-use Rattle.layer_traits.specs.Conditions.{CvCall}
-use Rattle.layer_traits.specs.CvLaw.{Waiting, cv_plan_for, left_over, left_waiting}
-use Rattle.layer_traits.specs.LockLaw.{Locking, left_after, left_handed, lock_plan, plan_for, slept_for}
-use Rattle.layer_traits.specs.Locking.{lock_moves}
-use Rattle.layer_traits.specs.Plans.{Follows, Left, Plan, Now, Act, Table, raised}
-use Rattle.layer_traits.specs.Scheds.{sched_plan}
-use Rattle.layer_traits.specs.SleepLaw.{due, sleep_plan}
-use Rattle.fifo_buffer.specs.Stances.{called_at, waits_at}
-use Rattle.fifo_buffer.specs.SectionPolls.{BufferOutcome, is_at_once}
+use Rattle.fifo_buffer.specs.{Stances.called_at, Stances.waits_at, SectionPolls.BufferOutcome, SectionPolls.is_at_once}
 use Rattle.fifo_buffer.proofs.Events.{caller_is}
 
 some_of : {A : Type 0} (x : Option A) → is_some x ≡ true → (a : A) × (x ≡ Some a)

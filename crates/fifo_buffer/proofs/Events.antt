@@ -1,41 +1,24 @@
 -- What holds of a thread's call state over events, where none of them is of its CPU; and what its stance lets it do.
 use Rattle.std.proofs.Common.{◌≡◌, ◌≢◌, ℕ, Bool, true, false, ◌&&◌, List, [], ◌∷◌, ◌++◌, Option, Some, None, refl, ap, sym, ◌∙◌, subst, arith}
 use Rattle.std.proofs.Math.Bool.{and-true}
-use Rattle.event_log.specs.declared.ids.BufId.{BufId}
-use Rattle.event_log.specs.declared.ids.CpuId.{CpuId}
-use Rattle.event_log.specs.declared.ids.LockId.{LockId}
-use Rattle.event_log.specs.declared.ids.LockId.TheVariants.{Buffer}
-use Rattle.event_log.specs.declared.ids.Tid.{Tid}
-use Rattle.event_log.specs.History.{AreOthers, IsLawful, same_cpu}
+use Rattle.event_log.specs.{declared.ids.BufId.BufId, declared.ids.CpuId.CpuId, declared.ids.LockId.LockId, declared.ids.LockId.TheVariants.Buffer}
+use Rattle.event_log.specs.{declared.ids.Tid.Tid, History.AreOthers, History.IsLawful, History.same_cpu}
 use Rattle.event_log.proofs.Same.{same_cpu_self, same_lock_self}
-use Rattle.layer_traits.specs.declared.buffer_edits.BufferEdit.{BufferEdit}
-use Rattle.layer_traits.specs.declared.calls.Call.{Call}
-use Rattle.layer_traits.specs.declared.calls.Call.TheVariants.{Send, Recv, Close}
-use Rattle.layer_traits.specs.declared.calls.Effect.{Effect}
-use Rattle.layer_traits.specs.declared.locked.Side.{Side}
-use Rattle.layer_traits.specs.declared.locked.Side.TheVariants.{Receivers, Senders}
-use Rattle.layer_traits.specs.declared.queue_edits.QueueBlock.{QueueBlock}
-use Rattle.layer_traits.specs.declared.queues.QueueCall.{QueueCall}
-use Rattle.layer_traits.specs.declared.queues.QueueCall.TheVariants.{Push, TakeAll, OnBuffer}
-use Rattle.layer_traits.specs.declared.call_states.Stage.{Stage}
+use Rattle.layer_traits.specs.{declared.buffer_edits.BufferEdit.BufferEdit, declared.calls.Call.Call, declared.calls.Call.TheVariants.Send}
+use Rattle.layer_traits.specs.{declared.calls.Call.TheVariants.Recv, declared.calls.Call.TheVariants.Close, declared.calls.Effect.Effect}
+use Rattle.layer_traits.specs.{declared.locked.Side.Side, declared.locked.Side.TheVariants.Receivers, declared.locked.Side.TheVariants.Senders}
+use Rattle.layer_traits.specs.{declared.queue_edits.QueueBlock.QueueBlock, declared.queues.QueueCall.QueueCall, declared.queues.QueueCall.TheVariants.Push}
+use Rattle.layer_traits.specs.{declared.queues.QueueCall.TheVariants.TakeAll, declared.queues.QueueCall.TheVariants.OnBuffer, declared.call_states.Stage.Stage}
+use Rattle.layer_traits.specs.{declared.call_states.CallState.CallState, BufferBlocks.line_of, BufferLaw.buffer_of, BufferLaw.section_at, BufferLaw.side_of}
+use Rattle.layer_traits.specs.{Conditions.CvCall, Conditions.cv_rules, LockLaw.lock_kernel, Locking.IsOwners, Locking.lock_caller, Locking.owner_in}
+use Rattle.layer_traits.specs.{Places.count_in, Places.home_of, Places.one_if, Protocol.section, QueueBlocks.homes_in, QueueBlocks.inner, Queues.QueueAllowed}
+use Rattle.layer_traits.specs.{Queues.buffer_sections, Queues.cpu_of_queue_event, Queues.with_section}
 use Rattle.layer_traits.specs.declared.call_states.Stage.TheVariants.{Idle, Acquires, Enters, Tries, Waits, AcquiresAgain, Signals, SignalsOwn, Releases}
-use Rattle.layer_traits.specs.declared.call_states.CallState.{CallState}
-use Rattle.layer_traits.specs.BufferBlocks.{line_of}
-use Rattle.layer_traits.specs.BufferLaw.{buffer_of, section_at, side_of}
 use Rattle.layer_traits.specs.BufferProtocol.{BufferLock, BufferSection, IsDue, buffer_at, buffer_monitor_rules, buffer_rules, is_in_line}
-use Rattle.layer_traits.specs.Conditions.{CvCall, cv_rules}
-use Rattle.layer_traits.specs.LockLaw.{lock_kernel}
-use Rattle.layer_traits.specs.Locking.{IsOwners, lock_caller, owner_in}
-use Rattle.layer_traits.specs.Places.{count_in, home_of, one_if}
-use Rattle.layer_traits.specs.Protocol.{section}
-use Rattle.layer_traits.specs.QueueBlocks.{homes_in, inner}
-use Rattle.layer_traits.specs.Queues.{QueueAllowed, buffer_sections, cpu_of_queue_event, with_section}
-use Rattle.layer_traits.proofs.CountLemmas.{not_counted}
-use Rattle.layer_traits.proofs.ListsLemmas.{counted_in}
+use Rattle.layer_traits.proofs.{CountLemmas.not_counted, ListsLemmas.counted_in}
 use Rattle.thread_blocks.specs.Queues.{same_tid}
 use Rattle.thread_blocks.proofs.Members.{same_tid_true}
-use Rattle.fifo_buffer.specs.Stances.{Grip, InCall, Stance, CallStateFits, line_at, same_side}
-use Rattle.fifo_buffer.specs.SectionPolls.{BufferEvent}
+use Rattle.fifo_buffer.specs.{Stances.Grip, Stances.InCall, Stances.Stance, Stances.CallStateFits, Stances.line_at, Stances.same_side, SectionPolls.BufferEvent}
 use Rattle.fifo_buffer.proofs.Apart.{fits_apart, side_self}
 
 module _ (opening : LockId → Option (QueueBlock BufferLock)) where

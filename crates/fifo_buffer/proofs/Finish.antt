@@ -1,33 +1,20 @@
 -- What a poll of a call leaves, after its last section poll.
-use Rattle.std.proofs.Common.{◌≡◌, ◌≢◌, ◌⊎◌, inl, inr, Bool, true, false, List, ◌++◌, Option, Some, None, option_map}
-use Rattle.std.proofs.Common.{option_to_list, is_some, if◌then◌else◌, refl, ap, sym, ◌∙◌, subst}
-use Rattle.event_log.specs.declared.ids.CpuId.{CpuId}
-use Rattle.event_log.specs.declared.ids.Tid.{Tid}
-use Rattle.layer_traits.specs.declared.buffer_edits.BufferEdit.{BufferEdit}
-use Rattle.layer_traits.specs.declared.buffer_edits.BufferOut.{BufferOut}
+use Rattle.std.proofs.Common.{◌≡◌, ◌≢◌, ◌⊎◌, inl, inr, Bool, true, false, List, ◌++◌, Option, Some, None, option_map, option_to_list, is_some, if◌then◌else◌}
+use Rattle.std.proofs.Common.{refl, ap, sym, ◌∙◌, subst}
+use Rattle.event_log.specs.declared.ids.{CpuId.CpuId, Tid.Tid}
+use Rattle.layer_traits.specs.{declared.buffer_edits.BufferEdit.BufferEdit, declared.buffer_edits.BufferOut.BufferOut, declared.calls.Call.Call}
+use Rattle.layer_traits.specs.{declared.calls.Effect.Effect, declared.calls.Reply.Reply, declared.conditions.CvOut.CvOut, declared.locked.QOut.QOut}
+use Rattle.layer_traits.specs.{declared.scheds.SchedCall.SchedCall, declared.call_states.Stage.Stage, declared.call_states.CallState.CallState}
+use Rattle.layer_traits.specs.{BufferEffects.effects_in, BufferLaw.Answered, BufferLaw.Called, BufferLaw.begun_at, BufferLaw.buffer_of, BufferLaw.entry_of}
+use Rattle.layer_traits.specs.{BufferLaw.going, BufferLaw.recorded, BufferLaw.enlisted, BufferLaw.replied, BufferLaw.reply_of, BufferLaw.call_state_of}
+use Rattle.layer_traits.specs.{BufferLaw.reported_by, BufferLaw.tried, Conditions.CvCall, LockLaw.slept_for, Places.home_of, Queues.buffer_sections}
 use Rattle.layer_traits.specs.declared.buffer_edits.BufferOut.TheVariants.{Entered, NotYet, Done, WasShut}
-use Rattle.layer_traits.specs.declared.calls.Call.{Call}
-use Rattle.layer_traits.specs.declared.calls.Effect.{Effect}
-use Rattle.layer_traits.specs.declared.calls.Reply.{Reply}
-use Rattle.layer_traits.specs.declared.conditions.CvOut.{CvOut}
-use Rattle.layer_traits.specs.declared.locked.QOut.{QOut}
-use Rattle.layer_traits.specs.declared.scheds.SchedCall.{SchedCall}
-use Rattle.layer_traits.specs.declared.call_states.Stage.{Stage}
 use Rattle.layer_traits.specs.declared.call_states.Stage.TheVariants.{Idle, Acquires, Enters, Tries, Waits, AcquiresAgain, Signals, SignalsOwn, Releases}
-use Rattle.layer_traits.specs.declared.call_states.CallState.{CallState}
-use Rattle.layer_traits.specs.BufferEffects.{effects_in}
-use Rattle.layer_traits.specs.BufferLaw.{Answered, Called, begun_at, buffer_of, entry_of, going}
-use Rattle.layer_traits.specs.BufferLaw.{recorded, enlisted, replied, reply_of, call_state_of, reported_by, tried}
-use Rattle.layer_traits.specs.Conditions.{CvCall}
-use Rattle.layer_traits.specs.LockLaw.{slept_for}
-use Rattle.layer_traits.specs.Places.{home_of}
-use Rattle.layer_traits.specs.Queues.{buffer_sections}
 use Rattle.thread_blocks.specs.Queues.{same_tid}
 use Rattle.thread_blocks.proofs.Members.{same_tid_true}
-use Rattle.fifo_buffer.specs.Stances.{InCall, CallStateFits, called_at, done_at}
-use Rattle.fifo_buffer.specs.SectionPolls.{After, CallsFit, FitsAt, NoSection, Sleeps, Stays, calling_after}
-use Rattle.fifo_buffer.proofs.SectionPollTaken.{SectionPollTaken}
-use Rattle.fifo_buffer.proofs.Parts.{effects_append, effects_others, effects_over}
+use Rattle.fifo_buffer.specs.{Stances.InCall, Stances.CallStateFits, Stances.called_at, Stances.done_at, SectionPolls.After, SectionPolls.CallsFit}
+use Rattle.fifo_buffer.specs.{SectionPolls.FitsAt, SectionPolls.NoSection, SectionPolls.Sleeps, SectionPolls.Stays, SectionPolls.calling_after}
+use Rattle.fifo_buffer.proofs.{SectionPollTaken.SectionPollTaken, Parts.effects_append, Parts.effects_others, Parts.effects_over}
 
 enlisted_call : (call_state : CallState) (out : BufferOut) → (enlisted call_state out).call ≡ call_state.call
 enlisted_call call_state (Entered p) = refl

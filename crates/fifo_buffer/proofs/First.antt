@@ -1,27 +1,15 @@
 -- A poll of a call may begin with a section poll, and go on with another.
 use Rattle.std.proofs.Common.{◌≡◌, true, false, List, Option, Some, None, refl, ap, sym, ◌∙◌, subst}
-use Rattle.event_log.specs.declared.ids.BufId.{BufId}
-use Rattle.event_log.specs.declared.ids.CpuId.{CpuId}
-use Rattle.event_log.specs.declared.ids.LockId.{LockId}
-use Rattle.event_log.specs.declared.ids.Tid.{Tid}
-use Rattle.layer_traits.specs.declared.buffer_edits.BufferEdit.{BufferEdit}
-use Rattle.layer_traits.specs.declared.buffer_edits.BufferOut.{BufferOut}
-use Rattle.layer_traits.specs.declared.calls.Call.{Call}
-use Rattle.layer_traits.specs.declared.locked.Side.TheVariants.{Senders}
-use Rattle.layer_traits.specs.declared.scheds.SchedCall.{SchedCall}
-use Rattle.layer_traits.specs.declared.scheds.SchedCall.TheVariants as sched
-use Rattle.layer_traits.specs.declared.call_states.Stage.{Stage}
-use Rattle.layer_traits.specs.declared.call_states.Stage.TheVariants.{Idle, Acquires}
-use Rattle.layer_traits.specs.declared.call_states.CallState.{CallState}
-use Rattle.layer_traits.specs.BufferLaw.{Calling, MayGoOn, MayPollCall, Passing, begun, going, going_at, call_state_of}
-use Rattle.layer_traits.specs.BufferProtocol.{BufferLock, BufferSection}
-use Rattle.layer_traits.specs.Conditions.{CvCall}
-use Rattle.layer_traits.specs.CvLaw.{Waiting}
-use Rattle.layer_traits.specs.LockLaw.{slept_for}
-use Rattle.layer_traits.specs.Places.{home_of}
+use Rattle.event_log.specs.declared.ids.{BufId.BufId, CpuId.CpuId, LockId.LockId, Tid.Tid}
+use Rattle.layer_traits.specs.{declared.buffer_edits.BufferEdit.BufferEdit, declared.buffer_edits.BufferOut.BufferOut, declared.calls.Call.Call}
+use Rattle.layer_traits.specs.{declared.locked.Side.TheVariants.Senders, declared.scheds.SchedCall.SchedCall, BufferLaw.Calling, BufferLaw.MayGoOn}
+use Rattle.layer_traits.specs.{BufferLaw.MayPollCall, BufferLaw.Passing, BufferLaw.begun, BufferLaw.going, BufferLaw.going_at, BufferLaw.call_state_of}
+use Rattle.layer_traits.specs.{BufferProtocol.BufferLock, BufferProtocol.BufferSection, Conditions.CvCall, CvLaw.Waiting, LockLaw.slept_for, Places.home_of}
+use Rattle.layer_traits.specs.declared.call_states.{Stage.Stage, Stage.TheVariants.Idle, Stage.TheVariants.Acquires, CallState.CallState}
 use Rattle.thread_blocks.specs.Queues.{same_tid}
 use Rattle.fifo_buffer.specs.Stances.{InCall, Stance, CallStateFits, called_at}
 use Rattle.fifo_buffer.specs.SectionPolls.{BufferOutcome, CallsFit, FitsAt, Goes, IsCalling, MayPollSection, Midway, under_way_at}
+use Rattle.layer_traits.specs.declared.scheds.SchedCall.TheVariants as sched
 
 -- within a call the call state goes on as it is
 pub going_same : (stage : Stage) (call_state : CallState) (call : Call) → called_at stage ≡ true → going_at stage call_state call ≡ call_state

@@ -1,19 +1,10 @@
 -- A machine that opens with an empty buffer for each capacity boots as the layer wants it.
-use Rattle.std.proofs.Common.{◌≡◌, ℕ, ◌≤◌, List, [], length, map, Option, Some, None, option_map, slice_get}
-use Rattle.std.proofs.Common.{refl, ap, sym, ◌∙◌}
-use Rattle.std.proofs.Math.Path.{fun_ext}
-use Rattle.std.proofs.lemmas.Option.{slice_get-map}
-use Rattle.event_log.specs.declared.ids.BufId.{BufId}
-use Rattle.event_log.specs.declared.ids.CpuId.{CpuId}
-use Rattle.event_log.specs.declared.ids.LockId.{LockId}
-use Rattle.event_log.specs.declared.ids.LockId.TheVariants.{Pending, Buffer}
-use Rattle.layer_traits.specs.declared.queue_edits.QueueBlock.{QueueBlock}
-use Rattle.layer_traits.specs.declared.queue_edits.QueueBlock.TheVariants.{Queue, Above}
-use Rattle.layer_traits.specs.BufferBlocks.{BufferState, empty_block}
-use Rattle.layer_traits.specs.BufferEffects.{fresh_lock, opening_locks}
-use Rattle.layer_traits.specs.BufferProtocol.{BufferLock}
-use Rattle.layer_traits.specs.QueueBlocks.{StartsAs, above_of, inner}
-use Rattle.layer_traits.specs.Capacities.{caps_from}
+use Rattle.std.proofs.Common.{◌≡◌, ℕ, ◌≤◌, List, [], length, map, Option, Some, None, option_map, slice_get, refl, ap, sym, ◌∙◌}
+use Rattle.std.proofs.{Math.Path.fun_ext, lemmas.Option.slice_get-map}
+use Rattle.event_log.specs.declared.ids.{BufId.BufId, CpuId.CpuId, LockId.LockId, LockId.TheVariants.Pending, LockId.TheVariants.Buffer}
+use Rattle.layer_traits.specs.declared.queue_edits.QueueBlock.{QueueBlock, TheVariants.Queue, TheVariants.Above}
+use Rattle.layer_traits.specs.{BufferBlocks.BufferState, BufferBlocks.empty_block, BufferEffects.fresh_lock, BufferEffects.opening_locks}
+use Rattle.layer_traits.specs.{BufferProtocol.BufferLock, QueueBlocks.StartsAs, QueueBlocks.above_of, QueueBlocks.inner, Capacities.caps_from}
 use Rattle.layer_traits.proofs.CapacityLemmas.{caps_observed}
 use Rattle.fifo_buffer.specs.FifoFits.{BootsSo, caps_in}
 

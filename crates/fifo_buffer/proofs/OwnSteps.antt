@@ -1,55 +1,35 @@
 -- A thread's own sections: what each leaves of its stance, and its effect.
-use Rattle.std.proofs.Common.{◌≡◌, ◌<◌, ℕ, Bool, true, false, ◌&&◌, List, [], ◌∷◌, ◌++◌, Option, Some, None, option_map}
-use Rattle.std.proofs.Common.{nat_lt, if◌then◌else◌, refl, ap, sym, ◌∙◌, subst, arith, lt-ltb}
-use Rattle.std.proofs.lemmas.Bool.{and_parts, and_right}
-use Rattle.std.proofs.Math.Bool.{and-true}
-use Rattle.event_log.specs.declared.entries.Kind.TheVariants as kind
-use Rattle.event_log.specs.declared.ids.BufId.{BufId}
-use Rattle.event_log.specs.declared.ids.CpuId.{CpuId}
-use Rattle.event_log.specs.declared.ids.LockId.{LockId}
-use Rattle.event_log.specs.declared.ids.LockId.TheVariants.{Buffer}
-use Rattle.event_log.specs.declared.ids.Tid.{Tid}
-use Rattle.event_log.specs.declared.ids.TheConstants.{THREADS}
-use Rattle.event_log.specs.History.{same_lock}
-use Rattle.event_log.specs.Messages.{Message, no_message}
-use Rattle.event_log.specs.Runs.{group_of}
-use Rattle.event_log.proofs.Same.{same_lock_self, same_lock_true}
-use Rattle.event_log.proofs.BoolLemmas.{none_of}
-use Rattle.layer_traits.specs.declared.buffer_edits.BufferEdit.{BufferEdit}
+use Rattle.std.proofs.Common.{◌≡◌, ◌<◌, ℕ, Bool, true, false, ◌&&◌, List, [], ◌∷◌, ◌++◌, Option, Some, None, option_map, nat_lt, if◌then◌else◌, refl, ap, sym}
+use Rattle.std.proofs.Common.{◌∙◌, subst, arith, lt-ltb}
+use Rattle.std.proofs.{lemmas.Bool.and_parts, lemmas.Bool.and_right, Math.Bool.and-true}
+use Rattle.event_log.specs.{declared.ids.BufId.BufId, declared.ids.CpuId.CpuId, declared.ids.LockId.LockId, declared.ids.LockId.TheVariants.Buffer}
+use Rattle.event_log.specs.{declared.ids.Tid.Tid, declared.ids.TheConstants.THREADS, History.same_lock, Messages.Message, Messages.no_message, Runs.group_of}
+use Rattle.event_log.proofs.{Same.same_lock_self, Same.same_lock_true, BoolLemmas.none_of}
+use Rattle.layer_traits.specs.declared.{buffer_edits.BufferEdit.BufferEdit, buffer_edits.BufferOut.BufferOut, calls.Call.Call, calls.Call.TheVariants.Send}
+use Rattle.layer_traits.specs.declared.{calls.Call.TheVariants.Recv, calls.Call.TheVariants.Close, calls.Effect.Effect, conditions.CvEdit.TheVariants.Edit}
+use Rattle.layer_traits.specs.declared.{conditions.CvEdit.TheVariants.SignalFront, conditions.CvLeave.TheVariants.Leave, conditions.CvLeave.TheVariants.Wait}
+use Rattle.layer_traits.specs.declared.{conditions.CvOut.CvOut, locked.QEdit.TheVariants.Acquire, locked.QEdit.TheVariants.Inside}
+use Rattle.layer_traits.specs.declared.{locked.QEdit.TheVariants.Release, locked.QOut.QOut, locked.QOut.TheVariants.Did, locked.QOut.TheVariants.Released}
+use Rattle.layer_traits.specs.declared.{locked.Side.Side, locked.Side.TheVariants.Receivers, locked.Side.TheVariants.Senders, call_states.Stage.Stage}
 use Rattle.layer_traits.specs.declared.buffer_edits.BufferEdit.TheVariants.{Enter, TryPut, TryTake, Shut}
-use Rattle.layer_traits.specs.declared.buffer_edits.BufferOut.{BufferOut}
-use Rattle.layer_traits.specs.declared.buffer_edits.BufferOut.TheVariants as told
-use Rattle.layer_traits.specs.declared.calls.Call.{Call}
-use Rattle.layer_traits.specs.declared.calls.Call.TheVariants.{Send, Recv, Close}
-use Rattle.layer_traits.specs.declared.calls.Effect.{Effect}
-use Rattle.layer_traits.specs.declared.conditions.CvEdit.TheVariants.{Edit, SignalFront}
-use Rattle.layer_traits.specs.declared.conditions.CvLeave.TheVariants.{Leave, Wait}
-use Rattle.layer_traits.specs.declared.conditions.CvOut.{CvOut}
-use Rattle.layer_traits.specs.declared.conditions.CvOut.TheVariants as answer
-use Rattle.layer_traits.specs.declared.locked.QEdit.TheVariants.{Acquire, Inside, Release}
-use Rattle.layer_traits.specs.declared.locked.QOut.{QOut}
-use Rattle.layer_traits.specs.declared.locked.QOut.TheVariants.{Did, Released}
-use Rattle.layer_traits.specs.declared.locked.Side.{Side}
-use Rattle.layer_traits.specs.declared.locked.Side.TheVariants.{Receivers, Senders}
-use Rattle.layer_traits.specs.declared.call_states.Stage.{Stage}
 use Rattle.layer_traits.specs.declared.call_states.Stage.TheVariants.{Idle, Acquires, Enters, Tries, Waits, AcquiresAgain, Signals, SignalsOwn, Releases}
-use Rattle.layer_traits.specs.BufferBlocks.{BufferState, effect_kind, entered, first_item, is_first, is_next, line_of}
-use Rattle.layer_traits.specs.BufferBlocks.{may_go, may_join, drawn_of, put_in, taken_out}
-use Rattle.layer_traits.specs.BufferEffects.{drawn, effect_of, effect_on, is_enter, drawn_in}
-use Rattle.layer_traits.specs.BufferLaw.{IsEffectOf, buffer_of, entry_of, section_at, side_of}
-use Rattle.layer_traits.specs.BufferProtocol.{BufferLock, BufferSection, buffer_at, buffer_rules, has_tried_in_vain, is_next_at}
-use Rattle.layer_traits.specs.Conditions.{CvCall}
-use Rattle.layer_traits.specs.Locking.{asked, lock_edited, lock_out, asker_report}
-use Rattle.layer_traits.specs.Places.{count_in, one_if}
-use Rattle.layer_traits.specs.Protocol.{section}
+use Rattle.layer_traits.specs.{BufferBlocks.BufferState, BufferBlocks.effect_kind, BufferBlocks.entered, BufferBlocks.first_item, BufferBlocks.is_first}
+use Rattle.layer_traits.specs.{BufferBlocks.is_next, BufferBlocks.line_of, BufferBlocks.may_go, BufferBlocks.may_join, BufferBlocks.drawn_of}
+use Rattle.layer_traits.specs.{BufferBlocks.put_in, BufferBlocks.taken_out, BufferEffects.drawn, BufferEffects.effect_of, BufferEffects.effect_on}
+use Rattle.layer_traits.specs.{BufferEffects.is_enter, BufferEffects.drawn_in, BufferLaw.IsEffectOf, BufferLaw.buffer_of, BufferLaw.entry_of}
+use Rattle.layer_traits.specs.{BufferLaw.section_at, BufferLaw.side_of, BufferProtocol.BufferLock, BufferProtocol.BufferSection, BufferProtocol.buffer_at}
+use Rattle.layer_traits.specs.{BufferProtocol.buffer_rules, BufferProtocol.has_tried_in_vain, BufferProtocol.is_next_at, Conditions.CvCall, Locking.asked}
+use Rattle.layer_traits.specs.{Locking.lock_edited, Locking.lock_out, Locking.asker_report, Places.count_in, Places.one_if, Protocol.section}
 use Rattle.layer_traits.proofs.CountLemmas.{count_append, not_counted}
 use Rattle.thread_blocks.specs.Queues.{same_tid, is_in, rest}
-use Rattle.thread_blocks.proofs.Members.{same_tid_self}
-use Rattle.thread_blocks.proofs.Distinct.{out_of_rest}
-use Rattle.fifo_buffer.specs.Laws.BlockSteps.{kind_counts}
-use Rattle.fifo_buffer.specs.Stances.{Grip, Holds, InCall, IsFreeOf, Stance, CallStateFits, done_at, recorded_by, line_at, same_side}
-use Rattle.fifo_buffer.specs.Stances.{slept_by, call_state_in, waits_by}
+use Rattle.thread_blocks.proofs.{Members.same_tid_self, Distinct.out_of_rest}
+use Rattle.fifo_buffer.specs.{Laws.BlockSteps.kind_counts, Stances.Grip, Stances.Holds, Stances.InCall, Stances.IsFreeOf, Stances.Stance, Stances.CallStateFits}
+use Rattle.fifo_buffer.specs.{Stances.done_at, Stances.recorded_by, Stances.line_at, Stances.same_side, Stances.slept_by, Stances.call_state_in}
+use Rattle.fifo_buffer.specs.{Stances.waits_by}
 use Rattle.fifo_buffer.proofs.Apart.{above_asked, line_shut, side_self}
+use Rattle.event_log.specs.declared.entries.Kind.TheVariants as kind
+use Rattle.layer_traits.specs.declared.buffer_edits.BufferOut.TheVariants as told
+use Rattle.layer_traits.specs.declared.conditions.CvOut.TheVariants as answer
 
 and_second : (x y : Bool) → (x && y) ≡ true → y ≡ true
 and_second true y e = e

@@ -1,41 +1,25 @@
 -- One poll of the conditions, for a call: who was woken out of its wait, who was handed the lock, and whose section went on.
 use Rattle.std.proofs.Common.{◌≡◌, ℕ, Bool, true, false, List, [], length, Option, Some, None, IsSome, is_some, slice_set, refl, ap, sym, ◌∙◌, subst}
 use Rattle.std.proofs.lemmas.List.{length-set}
-use Rattle.event_log.specs.declared.ids.BufId.{BufId}
-use Rattle.event_log.specs.declared.ids.LockId.{LockId}
-use Rattle.event_log.specs.declared.ids.LockId.TheVariants.{Buffer}
-use Rattle.event_log.specs.declared.ids.Tid.{Tid}
-use Rattle.event_log.specs.History.{IsLawful, same_lock}
+use Rattle.event_log.specs.{declared.ids.BufId.BufId, declared.ids.LockId.LockId, declared.ids.LockId.TheVariants.Buffer, declared.ids.Tid.Tid}
+use Rattle.event_log.specs.{History.IsLawful, History.same_lock}
 use Rattle.event_log.proofs.Same.{same_lock_true}
-use Rattle.layer_traits.specs.declared.buffer_edits.BufferEdit.{BufferEdit}
-use Rattle.layer_traits.specs.declared.buffer_edits.BufferOut.{BufferOut}
-use Rattle.layer_traits.specs.declared.calls.Call.{Call}
-use Rattle.layer_traits.specs.declared.calls.Effect.{Effect}
-use Rattle.layer_traits.specs.declared.conditions.CvOut.{CvOut}
-use Rattle.layer_traits.specs.declared.conditions.CvOut.TheVariants as answer
-use Rattle.layer_traits.specs.declared.locked.QOut.{QOut}
-use Rattle.layer_traits.specs.declared.locked.QOut.TheVariants.{Acquired, Released}
-use Rattle.layer_traits.specs.declared.moves.WaitList.TheVariants as line
-use Rattle.layer_traits.specs.declared.scheds.SchedCall.{SchedCall}
-use Rattle.layer_traits.specs.declared.call_states.Stage.{Stage}
+use Rattle.layer_traits.specs.{declared.buffer_edits.BufferEdit.BufferEdit, declared.buffer_edits.BufferOut.BufferOut, declared.calls.Call.Call}
+use Rattle.layer_traits.specs.{declared.calls.Effect.Effect, declared.conditions.CvOut.CvOut, declared.locked.QOut.QOut}
+use Rattle.layer_traits.specs.{declared.locked.QOut.TheVariants.Acquired, declared.locked.QOut.TheVariants.Released, declared.scheds.SchedCall.SchedCall}
+use Rattle.layer_traits.specs.{declared.call_states.Stage.Stage, declared.call_states.CallState.CallState, BufferLaw.buffer_of, BufferLaw.recorded}
+use Rattle.layer_traits.specs.{BufferLaw.section_at, BufferLaw.side_of, BufferProtocol.BufferLock, BufferProtocol.BufferSection, BufferProtocol.buffer_at}
+use Rattle.layer_traits.specs.{BufferProtocol.buffer_monitor_rules, Conditions.CvCall, Conditions.cv_rules, CvLaw.CvPolled, CvLaw.WaitOver, CvLaw.Waiting}
+use Rattle.layer_traits.specs.{CvLaw.left_waiting, CvLaw.left_woken, LockLaw.Handed, LockLaw.LockPolled, LockLaw.Locks, LockLaw.Locking, LockLaw.left_handed}
+use Rattle.layer_traits.specs.{LockLaw.lock_kernel, LockLaw.slept_for, Locking.wait_list_in, Locking.owner_in, Locking.lock_caller, Plans.Left}
+use Rattle.layer_traits.specs.{QueueBlocks.homes_in, QueueBlocks.inner, Queues.QueueAllowed, Queues.buffer_sections, SleepLaw.Sleeping}
 use Rattle.layer_traits.specs.declared.call_states.Stage.TheVariants.{Idle, Acquires, Enters, Tries, Waits, AcquiresAgain, Signals, SignalsOwn, Releases}
-use Rattle.layer_traits.specs.declared.call_states.CallState.{CallState}
-use Rattle.layer_traits.specs.BufferLaw.{buffer_of, recorded, section_at, side_of}
-use Rattle.layer_traits.specs.BufferProtocol.{BufferLock, BufferSection, buffer_at, buffer_monitor_rules}
-use Rattle.layer_traits.specs.Conditions.{CvCall, cv_rules}
-use Rattle.layer_traits.specs.CvLaw.{CvPolled, WaitOver, Waiting, left_waiting, left_woken}
-use Rattle.layer_traits.specs.LockLaw.{Handed, LockPolled, Locks, Locking, left_handed, lock_kernel, slept_for}
-use Rattle.layer_traits.specs.Locking.{wait_list_in, owner_in, lock_caller}
-use Rattle.layer_traits.specs.Plans.{Left}
-use Rattle.layer_traits.specs.QueueBlocks.{homes_in, inner}
-use Rattle.layer_traits.specs.Queues.{QueueAllowed, buffer_sections}
-use Rattle.layer_traits.specs.SleepLaw.{Sleeping}
 use Rattle.thread_blocks.specs.Queues.{same_tid, is_in}
 use Rattle.fifo_buffer.specs.Stances.{Grip, Holds, InCall, Stance, CallStateFits, call_state_in, waits_at}
 use Rattle.fifo_buffer.specs.SectionPolls.{Begins, BufferEvent, BufferOutcome, Ended, Goes, SectionPolled, recorded_if}
-use Rattle.fifo_buffer.proofs.Callers.{Caller}
-use Rattle.fifo_buffer.proofs.Events.{caller_is}
-use Rattle.fifo_buffer.proofs.Polls.{lock_section_poll, other_mark, own_mark}
+use Rattle.fifo_buffer.proofs.{Callers.Caller, Events.caller_is, Polls.lock_section_poll, Polls.other_mark, Polls.own_mark}
+use Rattle.layer_traits.specs.declared.conditions.CvOut.TheVariants as answer
+use Rattle.layer_traits.specs.declared.moves.WaitList.TheVariants as line
 
 -- a thread that was woken out of its wait asks for the lock again
 waited_on : (O : LockId → Option BufferLock) (past : List BufferSection) (t : Tid) (call : Call) (at : BufId) (slept : Option BufId)

@@ -1,44 +1,26 @@
 -- How the effects and the moves of the buffers grow with events, and that a part keeps fitting over events of other CPUs.
-use Rattle.std.proofs.Common.{◌≡◌, ◌≢◌, ℕ, Bool, true, false, List, [], ◌∷◌, ◌++◌, Option, Some, None, option_to_list}
-use Rattle.std.proofs.Common.{if◌then◌else◌, refl, ap, sym, ◌∙◌, subst, append_assoc}
+use Rattle.std.proofs.Common.{◌≡◌, ◌≢◌, ℕ, Bool, true, false, List, [], ◌∷◌, ◌++◌, Option, Some, None, option_to_list, if◌then◌else◌, refl, ap, sym, ◌∙◌, subst}
+use Rattle.std.proofs.Common.{append_assoc}
 use Rattle.std.specs.List.{AllByRecursion}
-use Rattle.event_log.specs.declared.entries.Entry.{Entry}
-use Rattle.event_log.specs.declared.ids.BufId.{BufId}
-use Rattle.event_log.specs.declared.ids.CpuId.{CpuId}
-use Rattle.event_log.specs.declared.ids.LockId.{LockId}
-use Rattle.event_log.specs.declared.ids.LockId.TheVariants.{Buffer}
-use Rattle.event_log.specs.declared.ids.Tid.{Tid}
-use Rattle.event_log.specs.History.{AreForeign, AreOthers, IsLawful, same_cpu}
-use Rattle.layer_traits.specs.declared.buffer_edits.BufferEdit.{BufferEdit}
-use Rattle.layer_traits.specs.declared.buffer_edits.BufferEdit.TheVariants.{Enter, TryPut, TryTake, Shut}
-use Rattle.layer_traits.specs.declared.buffer_edits.BufferOut.{BufferOut}
-use Rattle.layer_traits.specs.declared.calls.Call.{Call}
-use Rattle.layer_traits.specs.declared.conditions.CvEdit.TheVariants.{Edit, SignalFront}
-use Rattle.layer_traits.specs.declared.locked.QEdit.TheVariants.{Acquire, Inside, Release}
-use Rattle.layer_traits.specs.declared.locked.Side.{Side}
-use Rattle.layer_traits.specs.declared.locked.Side.TheVariants.{Receivers, Senders}
-use Rattle.layer_traits.specs.declared.queue_edits.QueueBlock.{QueueBlock}
-use Rattle.layer_traits.specs.declared.queues.QueueCall.{QueueCall}
-use Rattle.layer_traits.specs.declared.queues.QueueCall.TheVariants.{Push, TakeAll, OnBuffer}
-use Rattle.layer_traits.specs.declared.scheds.SchedCall.{SchedCall}
-use Rattle.layer_traits.specs.declared.call_states.CallState.{CallState}
-use Rattle.layer_traits.specs.BufferBlocks.{effect_kind, first_item, is_next}
-use Rattle.layer_traits.specs.BufferEffects.{effect_of, effect_on, effects_in, entry}
-use Rattle.layer_traits.specs.BufferLaw.{MovesGrow, OthersSeen, cpu_of_entry, recorded, call_state_of}
-use Rattle.layer_traits.specs.BufferProtocol.{BufferLock, BufferSection, buffer_monitor_rules}
-use Rattle.layer_traits.specs.Conditions.{CvCall, cv_rules}
-use Rattle.layer_traits.specs.CvLaw.{Waiting}
-use Rattle.layer_traits.specs.LockLaw.{lock_kernel, slept_for}
-use Rattle.layer_traits.specs.Places.{home_of}
-use Rattle.layer_traits.specs.Protocol.{section}
-use Rattle.layer_traits.specs.QueueBlocks.{homes_in, inner}
-use Rattle.layer_traits.specs.Queues.{QueueAllowed, buffer_sections, cpu_of_queue_event, moves_in, with_section}
+use Rattle.event_log.specs.{declared.entries.Entry.Entry, History.AreForeign, History.AreOthers, History.IsLawful, History.same_cpu}
+use Rattle.event_log.specs.declared.ids.{BufId.BufId, CpuId.CpuId, LockId.LockId, LockId.TheVariants.Buffer, Tid.Tid}
+use Rattle.layer_traits.specs.declared.buffer_edits.BufferEdit.{BufferEdit, TheVariants.Enter, TheVariants.TryPut, TheVariants.TryTake, TheVariants.Shut}
+use Rattle.layer_traits.specs.{declared.buffer_edits.BufferOut.BufferOut, declared.calls.Call.Call, declared.conditions.CvEdit.TheVariants.Edit}
+use Rattle.layer_traits.specs.{declared.conditions.CvEdit.TheVariants.SignalFront, declared.locked.QEdit.TheVariants.Acquire}
+use Rattle.layer_traits.specs.{declared.locked.QEdit.TheVariants.Inside, declared.locked.QEdit.TheVariants.Release, declared.locked.Side.Side}
+use Rattle.layer_traits.specs.{declared.locked.Side.TheVariants.Receivers, declared.locked.Side.TheVariants.Senders, declared.queue_edits.QueueBlock.QueueBlock}
+use Rattle.layer_traits.specs.{declared.queues.QueueCall.QueueCall, declared.queues.QueueCall.TheVariants.Push, declared.queues.QueueCall.TheVariants.TakeAll}
+use Rattle.layer_traits.specs.{declared.queues.QueueCall.TheVariants.OnBuffer, declared.scheds.SchedCall.SchedCall, declared.call_states.CallState.CallState}
+use Rattle.layer_traits.specs.{BufferBlocks.effect_kind, BufferBlocks.first_item, BufferBlocks.is_next, BufferEffects.effect_of, BufferEffects.effect_on}
+use Rattle.layer_traits.specs.{BufferEffects.effects_in, BufferEffects.entry, BufferLaw.MovesGrow, BufferLaw.OthersSeen, BufferLaw.cpu_of_entry}
+use Rattle.layer_traits.specs.{BufferLaw.recorded, BufferLaw.call_state_of, BufferProtocol.BufferLock, BufferProtocol.BufferSection}
+use Rattle.layer_traits.specs.{BufferProtocol.buffer_monitor_rules, Conditions.CvCall, Conditions.cv_rules, CvLaw.Waiting, LockLaw.lock_kernel}
+use Rattle.layer_traits.specs.{LockLaw.slept_for, Places.home_of, Protocol.section, QueueBlocks.homes_in, QueueBlocks.inner, Queues.QueueAllowed}
+use Rattle.layer_traits.specs.{Queues.buffer_sections, Queues.cpu_of_queue_event, Queues.moves_in, Queues.with_section}
 use Rattle.layer_traits.proofs.CallLemmas.{moves_append, moves_others, moves_over}
-use Rattle.event_log.proofs.Same.{same_cpu_true}
-use Rattle.event_log.proofs.Foreign.{others_both}
-use Rattle.fifo_buffer.specs.FifoFits.{PartFits}
-use Rattle.fifo_buffer.specs.Stances.{CallStateFits}
-use Rattle.fifo_buffer.specs.SectionPolls.{BufferEvent, BufferOutcome, CallsFit, Goes, IsDeferred, Midway}
+use Rattle.event_log.proofs.{Same.same_cpu_true, Foreign.others_both}
+use Rattle.fifo_buffer.specs.{FifoFits.PartFits, Stances.CallStateFits, SectionPolls.BufferEvent, SectionPolls.BufferOutcome, SectionPolls.CallsFit}
+use Rattle.fifo_buffer.specs.{SectionPolls.Goes, SectionPolls.IsDeferred, SectionPolls.Midway}
 use Rattle.fifo_buffer.proofs.Events.{keeps_fits}
 
 -- an effect has its section's CPU

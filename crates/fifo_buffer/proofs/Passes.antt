@@ -1,36 +1,19 @@
 -- A call that is passed on to the scheduler has no effect, and leaves the call states as they fit.
 use Rattle.std.proofs.Common.{◌≡◌, Bool, true, false, List, [], ◌++◌, Option, Some, None, is_some, if◌then◌else◌, refl, ap, sym, ◌∙◌, subst}
 use Rattle.std.specs.List.{AllByRecursion}
-use Rattle.event_log.specs.declared.ids.CpuId.{CpuId}
-use Rattle.event_log.specs.declared.ids.LockId.{LockId}
-use Rattle.event_log.specs.declared.ids.Tid.{Tid}
-use Rattle.event_log.specs.History.{AreOthers, IsLawful}
-use Rattle.layer_traits.specs.declared.buffer_edits.BufferEdit.{BufferEdit}
-use Rattle.layer_traits.specs.declared.buffer_edits.BufferOut.{BufferOut}
-use Rattle.layer_traits.specs.declared.passes.Pass.{Pass}
-use Rattle.layer_traits.specs.declared.passes.Pass.TheVariants.{Switch, YieldNow, Drain, MakeReady, End}
-use Rattle.layer_traits.specs.declared.queue_edits.QueueBlock.{QueueBlock}
-use Rattle.layer_traits.specs.declared.scheds.SchedCall.{SchedCall}
-use Rattle.layer_traits.specs.declared.scheds.SchedCall.TheVariants as sched
-use Rattle.layer_traits.specs.declared.call_states.CallState.{CallState}
-use Rattle.layer_traits.specs.BufferEffects.{effects_in}
-use Rattle.layer_traits.specs.BufferLaw.{Calling, MayGoOn, OthersSeen, Passing}
-use Rattle.layer_traits.specs.BufferProtocol.{BufferLock, buffer_monitor_rules}
-use Rattle.layer_traits.specs.Conditions.{CvCall, cv_rules}
-use Rattle.layer_traits.specs.CvLaw.{Waiting}
-use Rattle.layer_traits.specs.LockLaw.{lock_kernel}
-use Rattle.layer_traits.specs.Passes.{PassPolled}
-use Rattle.layer_traits.specs.Places.{Threads}
-use Rattle.layer_traits.specs.QueueBlocks.{homes_in, inner}
-use Rattle.layer_traits.specs.Queues.{QueueAllowed, buffer_sections, cpu_of_queue_event, moves_in}
-use Rattle.layer_traits.specs.Scheds.{SchedPolled, events_of, pass_call}
-use Rattle.layer_traits.specs.SleepLaw.{done_if}
-use Rattle.layer_traits.proofs.CallLemmas.{pass_polled}
-use Rattle.layer_traits.proofs.SleepLemmas.{done_same}
-use Rattle.layer_traits.proofs.Seen.{lawful_rest}
-use Rattle.fifo_buffer.specs.FifoFits.{PartFits}
-use Rattle.fifo_buffer.specs.SectionPolls.{BufferEvent, BufferOutcome, NoSection, under_way_at}
+use Rattle.event_log.specs.{declared.ids.CpuId.CpuId, declared.ids.LockId.LockId, declared.ids.Tid.Tid, History.AreOthers, History.IsLawful}
+use Rattle.layer_traits.specs.{declared.buffer_edits.BufferEdit.BufferEdit, declared.buffer_edits.BufferOut.BufferOut, declared.passes.Pass.Pass}
+use Rattle.layer_traits.specs.{declared.passes.Pass.TheVariants.Switch, declared.passes.Pass.TheVariants.YieldNow, declared.passes.Pass.TheVariants.Drain}
+use Rattle.layer_traits.specs.{declared.passes.Pass.TheVariants.MakeReady, declared.passes.Pass.TheVariants.End, declared.queue_edits.QueueBlock.QueueBlock}
+use Rattle.layer_traits.specs.{declared.scheds.SchedCall.SchedCall, declared.call_states.CallState.CallState, BufferEffects.effects_in, BufferLaw.Calling}
+use Rattle.layer_traits.specs.{BufferLaw.MayGoOn, BufferLaw.OthersSeen, BufferLaw.Passing, BufferProtocol.BufferLock, BufferProtocol.buffer_monitor_rules}
+use Rattle.layer_traits.specs.{Conditions.CvCall, Conditions.cv_rules, CvLaw.Waiting, LockLaw.lock_kernel, Passes.PassPolled, Places.Threads}
+use Rattle.layer_traits.specs.{QueueBlocks.homes_in, QueueBlocks.inner, Queues.QueueAllowed, Queues.buffer_sections, Queues.cpu_of_queue_event, Queues.moves_in}
+use Rattle.layer_traits.specs.{Scheds.SchedPolled, Scheds.events_of, Scheds.pass_call, SleepLaw.done_if}
+use Rattle.layer_traits.proofs.{CallLemmas.pass_polled, SleepLemmas.done_same, Seen.lawful_rest}
+use Rattle.fifo_buffer.specs.{FifoFits.PartFits, SectionPolls.BufferEvent, SectionPolls.BufferOutcome, SectionPolls.NoSection, SectionPolls.under_way_at}
 use Rattle.fifo_buffer.proofs.Parts.{effects_append, effects_others, effects_over, part_on}
+use Rattle.layer_traits.specs.declared.scheds.SchedCall.TheVariants as sched
 
 -- its event, where it has one, is no section of a buffer
 abbrev pub pass_events : List CpuId → CpuId → Pass → Bool → List BufferEvent

@@ -1,59 +1,35 @@
 -- One poll of the conditions, for a call at a stage: what it may be, and what it leaves.
-use Rattle.std.proofs.Common.{◌≡◌, ◌⊎◌, inl, inr, ◌<◌, ℕ, Bool, true, false, not, ◌&&◌, List, [], ◌∷◌, ◌++◌, length}
-use Rattle.std.proofs.Common.{Option, Some, None, IsSome, option_map, option_to_list, is_some, slice_set, if◌then◌else◌}
-use Rattle.std.proofs.Common.{refl, ap, sym, ◌∙◌, subst, arith}
-use Rattle.std.proofs.lemmas.Bool.{eqb-false}
-use Rattle.std.proofs.lemmas.List.{get_or-set_other, get_or-set_same, length-set}
-use Rattle.event_log.specs.declared.ids.BufId.{BufId}
-use Rattle.event_log.specs.declared.ids.CpuId.{CpuId}
-use Rattle.event_log.specs.declared.ids.LockId.{LockId}
-use Rattle.event_log.specs.declared.ids.LockId.TheVariants.{Buffer}
-use Rattle.event_log.specs.declared.ids.Tid.{Tid}
-use Rattle.event_log.specs.declared.ids.TheConstants.{THREADS}
-use Rattle.event_log.specs.History.{AreForeign, IsLawful}
+use Rattle.std.proofs.Common.{◌≡◌, ◌⊎◌, inl, inr, ◌<◌, ℕ, Bool, true, false, not, ◌&&◌, List, [], ◌∷◌, ◌++◌, length, Option, Some, None, IsSome, option_map}
+use Rattle.std.proofs.Common.{option_to_list, is_some, slice_set, if◌then◌else◌, refl, ap, sym, ◌∙◌, subst, arith}
+use Rattle.std.proofs.lemmas.{Bool.eqb-false, List.get_or-set_other, List.get_or-set_same, List.length-set}
+use Rattle.event_log.specs.{declared.ids.BufId.BufId, declared.ids.CpuId.CpuId, declared.ids.LockId.LockId, declared.ids.LockId.TheVariants.Buffer}
+use Rattle.event_log.specs.{declared.ids.Tid.Tid, declared.ids.TheConstants.THREADS, History.AreForeign, History.IsLawful}
 use Rattle.event_log.proofs.BoolLemmas.{none_of}
-use Rattle.layer_traits.specs.declared.buffer_edits.BufferEdit.{BufferEdit}
-use Rattle.layer_traits.specs.declared.buffer_edits.BufferOut.{BufferOut}
-use Rattle.layer_traits.specs.declared.calls.Call.{Call}
-use Rattle.layer_traits.specs.declared.calls.Call.TheVariants.{Send, Recv, Close}
-use Rattle.layer_traits.specs.declared.calls.Effect.{Effect}
-use Rattle.layer_traits.specs.declared.conditions.CvLeave.TheVariants.{Wait}
-use Rattle.layer_traits.specs.declared.conditions.CvOut.{CvOut}
-use Rattle.layer_traits.specs.declared.conditions.CvOut.TheVariants as answer
-use Rattle.layer_traits.specs.declared.locked.QEdit.TheVariants.{Acquire, Release}
-use Rattle.layer_traits.specs.declared.locked.QOut.{QOut}
+use Rattle.layer_traits.specs.declared.{buffer_edits.BufferEdit.BufferEdit, buffer_edits.BufferOut.BufferOut, calls.Call.Call, calls.Call.TheVariants.Send}
+use Rattle.layer_traits.specs.declared.{calls.Call.TheVariants.Recv, calls.Call.TheVariants.Close, calls.Effect.Effect, conditions.CvLeave.TheVariants.Wait}
+use Rattle.layer_traits.specs.declared.{conditions.CvOut.CvOut, locked.QEdit.TheVariants.Acquire, locked.QEdit.TheVariants.Release, locked.QOut.QOut}
+use Rattle.layer_traits.specs.declared.{locked.Side.TheVariants.Receivers, locked.Side.TheVariants.Senders, moves.WaitList.WaitList}
+use Rattle.layer_traits.specs.declared.{queue_edits.QueueBlock.QueueBlock, scheds.SchedCall.SchedCall, call_states.Stage.Stage, call_states.CallState.CallState}
 use Rattle.layer_traits.specs.declared.locked.QOut.TheVariants.{Acquired, Queued, Did, Released}
-use Rattle.layer_traits.specs.declared.locked.Side.TheVariants.{Receivers, Senders}
-use Rattle.layer_traits.specs.declared.moves.WaitList.{WaitList}
-use Rattle.layer_traits.specs.declared.queue_edits.QueueBlock.{QueueBlock}
-use Rattle.layer_traits.specs.declared.queues.QueueCall.TheVariants as queue
-use Rattle.layer_traits.specs.declared.scheds.SchedCall.{SchedCall}
-use Rattle.layer_traits.specs.declared.scheds.SchedCall.TheVariants as sched
-use Rattle.layer_traits.specs.declared.call_states.Stage.{Stage}
 use Rattle.layer_traits.specs.declared.call_states.Stage.TheVariants.{Idle, Acquires, Enters, Tries, Waits, AcquiresAgain, Signals, SignalsOwn, Releases}
-use Rattle.layer_traits.specs.declared.call_states.CallState.{CallState}
-use Rattle.layer_traits.specs.BufferEffects.{effects_in}
-use Rattle.layer_traits.specs.BufferLaw.{IsEffectOf, buffer_of, recorded, section_at, side_of}
-use Rattle.layer_traits.specs.BufferProtocol.{BufferLock, BufferSection, buffer_at, buffer_monitor_rules, buffer_rules}
-use Rattle.layer_traits.specs.Conditions.{CvCall, cv_rules}
-use Rattle.layer_traits.specs.CvLaw.{MayCallCond, MayWait, Waiting, left_waiting}
-use Rattle.layer_traits.specs.LockLaw.{MayGo, MayLock, Locking, left_after, lock_kernel, slept_for}
-use Rattle.layer_traits.specs.Locking.{wait_list_asked, wait_list_slept, lock_answer, lock_out, asker_report}
-use Rattle.layer_traits.specs.Passes.{own_slept, own_woken, passed_on, queue_for}
-use Rattle.layer_traits.specs.Places.{Threads, home_of}
-use Rattle.layer_traits.specs.Plans.{Left}
-use Rattle.layer_traits.specs.Protocol.{section}
-use Rattle.layer_traits.specs.QueueBlocks.{homes_in, inner}
-use Rattle.layer_traits.specs.Queues.{QueueAllowed, buffer_sections, event, cpu_of_queue_event, out_at}
-use Rattle.layer_traits.specs.SleepLaw.{PollResult, Does, Sends, Sleeping, Waits as WaitsStill, MayDo, left_with, must_send, seen_with}
+use Rattle.layer_traits.specs.{BufferEffects.effects_in, BufferLaw.IsEffectOf, BufferLaw.buffer_of, BufferLaw.recorded, BufferLaw.section_at, BufferLaw.side_of}
+use Rattle.layer_traits.specs.{BufferProtocol.BufferLock, BufferProtocol.BufferSection, BufferProtocol.buffer_at, BufferProtocol.buffer_monitor_rules}
+use Rattle.layer_traits.specs.{BufferProtocol.buffer_rules, Conditions.CvCall, Conditions.cv_rules, CvLaw.MayCallCond, CvLaw.MayWait, CvLaw.Waiting}
+use Rattle.layer_traits.specs.{CvLaw.left_waiting, LockLaw.MayGo, LockLaw.MayLock, LockLaw.Locking, LockLaw.left_after, LockLaw.lock_kernel, LockLaw.slept_for}
+use Rattle.layer_traits.specs.{Locking.wait_list_asked, Locking.wait_list_slept, Locking.lock_answer, Locking.lock_out, Locking.asker_report, Passes.own_slept}
+use Rattle.layer_traits.specs.{Passes.own_woken, Passes.passed_on, Passes.queue_for, Places.Threads, Places.home_of, Plans.Left, Protocol.section}
+use Rattle.layer_traits.specs.{QueueBlocks.homes_in, QueueBlocks.inner, Queues.QueueAllowed, Queues.buffer_sections, Queues.event, Queues.cpu_of_queue_event}
+use Rattle.layer_traits.specs.{Queues.out_at, SleepLaw.PollResult, SleepLaw.Does, SleepLaw.Sends, SleepLaw.Sleeping, SleepLaw.Waits as WaitsStill}
+use Rattle.layer_traits.specs.{SleepLaw.MayDo, SleepLaw.left_with, SleepLaw.must_send, SleepLaw.seen_with}
 use Rattle.layer_traits.proofs.PlaceLemmas.{woken_current}
 use Rattle.thread_blocks.specs.Queues.{same_tid}
 use Rattle.fifo_buffer.specs.Stances.{InCall, IsMark, CallStateFits, asks_at, recorded_by, slept_by, call_state_in, waits_at, waits_by}
 use Rattle.fifo_buffer.specs.SectionPolls.{After, BufferEvent, BufferOutcome, Goes, IsDeferred, MayPollSection, Midway, SectionPolled, recorded_if, is_plain}
-use Rattle.fifo_buffer.proofs.Apart.{fits_apart}
-use Rattle.fifo_buffer.proofs.Callers.{Caller}
-use Rattle.fifo_buffer.proofs.Events.{caller_is, due_now, keeps_fits, owner_due}
-use Rattle.fifo_buffer.proofs.OwnSteps.{Stepped, own_step}
+use Rattle.fifo_buffer.proofs.{Apart.fits_apart, Callers.Caller, Events.caller_is, Events.due_now, Events.keeps_fits, Events.owner_due, OwnSteps.Stepped}
+use Rattle.fifo_buffer.proofs.{OwnSteps.own_step}
+use Rattle.layer_traits.specs.declared.conditions.CvOut.TheVariants as answer
+use Rattle.layer_traits.specs.declared.queues.QueueCall.TheVariants as queue
+use Rattle.layer_traits.specs.declared.scheds.SchedCall.TheVariants as sched
 
 pub waits_section : (t : Tid) (call : Call) (stage : Stage) → waits_at stage ≡ true → section_at t call stage ≡ Release (Wait t (side_of call))
 waits_section t call Waits is = refl

@@ -1,41 +1,25 @@
 -- A line's counter counts the threads that entered it.
-use Rattle.std.proofs.Common.{◌≡◌, ℕ, ◌+◌, ◌≤◌, ◌<◌, ◌%◌, ◌^◌, Bool, true, false, not, ◌&&◌, List, [], ◌∷◌, length, Option, Some, None}
-use Rattle.std.proofs.Common.{option_map, if◌then◌else◌, get_or, refl, ap, sym, ◌∙◌, arith, lt-ltb}
+use Rattle.std.proofs.Common.{◌≡◌, ℕ, ◌+◌, ◌≤◌, ◌<◌, ◌%◌, ◌^◌, Bool, true, false, not, ◌&&◌, List, [], ◌∷◌, length, Option, Some, None, option_map}
+use Rattle.std.proofs.Common.{if◌then◌else◌, get_or, refl, ap, sym, ◌∙◌, arith, lt-ltb}
 use Rattle.std.proofs.lemmas.Option.{slice_get_within, slice_get-get_or}
-use Rattle.event_log.specs.declared.ids.BufId.{BufId}
-use Rattle.event_log.specs.declared.ids.CpuId.{CpuId}
-use Rattle.event_log.specs.declared.ids.LockId.{LockId}
-use Rattle.event_log.specs.declared.ids.LockId.TheVariants.{Buffer}
-use Rattle.event_log.specs.declared.ids.Tid.{Tid}
-use Rattle.event_log.specs.declared.ids.TheConstants.{THREADS}
-use Rattle.event_log.specs.History.{IsLawful, same_lock}
+use Rattle.event_log.specs.{declared.ids.BufId.BufId, declared.ids.CpuId.CpuId, declared.ids.LockId.LockId, declared.ids.LockId.TheVariants.Buffer}
+use Rattle.event_log.specs.{declared.ids.Tid.Tid, declared.ids.TheConstants.THREADS, History.IsLawful, History.same_lock, Messages.Message}
 use Rattle.event_log.proofs.Same.{same_lock_true}
-use Rattle.event_log.specs.Messages.{Message}
-use Rattle.layer_traits.specs.declared.buffer_edits.BufferEdit.{BufferEdit}
+use Rattle.layer_traits.specs.{declared.buffer_edits.BufferEdit.BufferEdit, declared.conditions.CvEdit.TheVariants.Edit}
+use Rattle.layer_traits.specs.{declared.conditions.CvEdit.TheVariants.SignalFront, declared.locked.QEdit.TheVariants.Acquire}
+use Rattle.layer_traits.specs.{declared.locked.QEdit.TheVariants.Inside, declared.locked.QEdit.TheVariants.Release, declared.locked.Side.Side}
+use Rattle.layer_traits.specs.{declared.locked.Side.TheVariants.Receivers, declared.locked.Side.TheVariants.Senders, declared.queue_edits.QueueBlock.QueueBlock}
+use Rattle.layer_traits.specs.{declared.queues.QueueCall.QueueCall, declared.queues.QueueCall.TheVariants.Push, declared.queues.QueueCall.TheVariants.TakeAll}
+use Rattle.layer_traits.specs.{declared.queues.QueueCall.TheVariants.OnBuffer, BufferEffects.fresh_lock, BufferEffects.drawn_in, BufferProtocol.BufferLock}
+use Rattle.layer_traits.specs.{BufferProtocol.BufferSection, BufferProtocol.IsDue, BufferProtocol.buffer_at, BufferProtocol.buffer_monitor_rules}
+use Rattle.layer_traits.specs.{BufferProtocol.buffer_rules, BufferProtocol.is_in_line, Conditions.CvCall, Conditions.cv_rules, LockLaw.lock_kernel}
+use Rattle.layer_traits.specs.{Locking.asked, Locking.lock_caller, Locking.lock_edited, Places.home_of, Protocol.section, QueueBlocks.StartsWell}
+use Rattle.layer_traits.specs.{QueueBlocks.homes_in, QueueBlocks.inner, Queues.QueueAllowed, Queues.buffer_sections, Queues.with_section}
 use Rattle.layer_traits.specs.declared.buffer_edits.BufferEdit.TheVariants.{Enter, TryPut, TryTake, Shut}
-use Rattle.layer_traits.specs.declared.conditions.CvEdit.TheVariants.{Edit, SignalFront}
-use Rattle.layer_traits.specs.declared.locked.QEdit.TheVariants.{Acquire, Inside, Release}
-use Rattle.layer_traits.specs.declared.locked.Side.{Side}
-use Rattle.layer_traits.specs.declared.locked.Side.TheVariants.{Receivers, Senders}
-use Rattle.layer_traits.specs.declared.queue_edits.QueueBlock.{QueueBlock}
-use Rattle.layer_traits.specs.declared.queues.QueueCall.{QueueCall}
-use Rattle.layer_traits.specs.declared.queues.QueueCall.TheVariants.{Push, TakeAll, OnBuffer}
 use Rattle.layer_traits.specs.BufferBlocks.{BufferState, counted, entered, is_next, line_of, may_join, drawn_of, put_in, shut, taken_out}
-use Rattle.layer_traits.specs.BufferEffects.{fresh_lock, drawn_in}
-use Rattle.layer_traits.specs.BufferProtocol.{BufferLock, BufferSection, IsDue, buffer_at, buffer_monitor_rules, buffer_rules, is_in_line}
-use Rattle.layer_traits.specs.Conditions.{CvCall, cv_rules}
-use Rattle.layer_traits.specs.LockLaw.{lock_kernel}
-use Rattle.layer_traits.specs.Locking.{asked, lock_caller, lock_edited}
-use Rattle.layer_traits.specs.Places.{home_of}
-use Rattle.layer_traits.specs.Protocol.{section}
-use Rattle.layer_traits.specs.QueueBlocks.{StartsWell, homes_in, inner}
-use Rattle.layer_traits.specs.Queues.{QueueAllowed, buffer_sections, with_section}
 use Rattle.thread_blocks.specs.Queues.{is_in}
-use Rattle.fifo_buffer.specs.FifoFits.{BootsSo, caps_in}
-use Rattle.fifo_buffer.specs.Laws.OwnedLaws.{found}
-use Rattle.fifo_buffer.specs.Positions.{PositionsAreCounts, enters, entries_of}
-use Rattle.fifo_buffer.specs.Stances.{same_side}
-use Rattle.fifo_buffer.specs.SectionPolls.{BufferEvent}
+use Rattle.fifo_buffer.specs.{FifoFits.BootsSo, FifoFits.caps_in, Laws.OwnedLaws.found, Positions.PositionsAreCounts, Positions.enters, Positions.entries_of}
+use Rattle.fifo_buffer.specs.{Stances.same_side, SectionPolls.BufferEvent}
 
 -- one more thread entered, or none
 abbrev more : Bool → ℕ → ℕ

@@ -1,26 +1,13 @@
 -- What a section poll leaves of the call states; and where a thread that runs stands.
 use Rattle.std.proofs.Common.{◌≡◌, Bool, false, List, Option, Some, None, is_some, slice_set, if◌then◌else◌, refl, ap, ◌∙◌}
-use Rattle.event_log.specs.declared.ids.CpuId.{CpuId}
-use Rattle.event_log.specs.declared.ids.LockId.{LockId}
-use Rattle.event_log.specs.declared.ids.Tid.{Tid}
-use Rattle.layer_traits.specs.declared.buffer_edits.BufferOut.{BufferOut}
-use Rattle.layer_traits.specs.declared.calls.Call.{Call}
-use Rattle.layer_traits.specs.declared.moves.WaitList.{WaitList}
-use Rattle.layer_traits.specs.declared.queue_edits.QueueBlock.{QueueBlock}
-use Rattle.layer_traits.specs.declared.call_states.Stage.{Stage}
-use Rattle.layer_traits.specs.declared.call_states.CallState.{CallState}
-use Rattle.layer_traits.specs.BufferLaw.{buffering, left_recorded, replied}
-use Rattle.layer_traits.specs.BufferProtocol.{BufferLock, buffer_monitor_rules}
-use Rattle.layer_traits.specs.Conditions.{cv_rules}
-use Rattle.layer_traits.specs.CvLaw.{Waiting}
-use Rattle.layer_traits.specs.ListsAgree.{is_at}
-use Rattle.layer_traits.specs.LockLaw.{LocksAgree, lock_kernel}
-use Rattle.layer_traits.specs.Locking.{wait_list_in, lock_after}
-use Rattle.layer_traits.specs.Places.{AreMoves, Stands, Threads, home_of, one_if, wait_channel_of}
-use Rattle.layer_traits.specs.QueueBlocks.{homes_in, inner}
-use Rattle.layer_traits.specs.Queues.{buffer_sections, moves_in}
-use Rattle.layer_traits.proofs.CountLemmas.{not_counted}
-use Rattle.layer_traits.proofs.PlaceLemmas.{current_at}
+use Rattle.event_log.specs.declared.ids.{CpuId.CpuId, LockId.LockId, Tid.Tid}
+use Rattle.layer_traits.specs.{declared.buffer_edits.BufferOut.BufferOut, declared.calls.Call.Call, declared.moves.WaitList.WaitList}
+use Rattle.layer_traits.specs.{declared.queue_edits.QueueBlock.QueueBlock, declared.call_states.Stage.Stage, declared.call_states.CallState.CallState}
+use Rattle.layer_traits.specs.{BufferLaw.buffering, BufferLaw.left_recorded, BufferLaw.replied, BufferProtocol.BufferLock, BufferProtocol.buffer_monitor_rules}
+use Rattle.layer_traits.specs.{Conditions.cv_rules, CvLaw.Waiting, ListsAgree.is_at, LockLaw.LocksAgree, LockLaw.lock_kernel, Locking.wait_list_in}
+use Rattle.layer_traits.specs.{Locking.lock_after, Places.AreMoves, Places.Stands, Places.Threads, Places.home_of, Places.one_if, Places.wait_channel_of}
+use Rattle.layer_traits.specs.{QueueBlocks.homes_in, QueueBlocks.inner, Queues.buffer_sections, Queues.moves_in}
+use Rattle.layer_traits.proofs.{CountLemmas.not_counted, PlaceLemmas.current_at}
 use Rattle.thread_blocks.specs.Queues.{is_in}
 use Rattle.fifo_buffer.specs.SectionPolls.{BufferEvent, BufferOutcome, recorded_if}
 

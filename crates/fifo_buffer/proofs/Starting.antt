@@ -1,31 +1,17 @@
 -- A part fits at the start.
-use Rattle.std.proofs.Common.{◌≡◌, ℕ, zero, suc, slice_index_or, List, [], ◌∷◌, length, replicate, Option, Some, None}
-use Rattle.std.proofs.Common.{option_map, slice_get, refl, ap, sym, ◌∙◌, subst}
+use Rattle.std.proofs.Common.{◌≡◌, ℕ, zero, suc, slice_index_or, List, [], ◌∷◌, length, replicate, Option, Some, None, option_map, slice_get, refl, ap, sym}
+use Rattle.std.proofs.Common.{◌∙◌, subst}
 use Rattle.std.proofs.lemmas.List.{length-replicate}
-use Rattle.event_log.specs.declared.ids.BufId.{BufId}
-use Rattle.event_log.specs.declared.ids.CpuId.{CpuId}
-use Rattle.event_log.specs.declared.ids.LockId.{LockId}
-use Rattle.event_log.specs.declared.ids.LockId.TheVariants.{Pending, Buffer}
-use Rattle.event_log.specs.declared.ids.Tid.{Tid}
-use Rattle.event_log.specs.declared.ids.TheConstants.{THREADS}
-use Rattle.layer_traits.specs.declared.buffer_edits.BufferOut.{BufferOut}
-use Rattle.layer_traits.specs.declared.locked.Side.{Side}
-use Rattle.layer_traits.specs.declared.locked.Side.TheVariants.{Receivers, Senders}
-use Rattle.layer_traits.specs.declared.queue_edits.QueueBlock.{QueueBlock}
-use Rattle.layer_traits.specs.declared.call_states.CallState.{CallState}
-use Rattle.layer_traits.specs.BufferEffects.{fresh_lock, opening_locks}
-use Rattle.layer_traits.specs.BufferLaw.{no_call, call_state_of}
-use Rattle.layer_traits.specs.BufferProtocol.{BufferLock, buffer_monitor_rules}
-use Rattle.layer_traits.specs.Conditions.{cv_rules}
-use Rattle.layer_traits.specs.CvLaw.{Waiting, waiting_at_start}
-use Rattle.layer_traits.specs.LockLaw.{lock_kernel, slept_for}
-use Rattle.layer_traits.specs.Locking.{AreAtRest, IsAtRest}
-use Rattle.layer_traits.specs.Places.{count_in}
-use Rattle.layer_traits.specs.QueueBlocks.{inner}
-use Rattle.layer_traits.specs.Queues.{buffer_sections, moves_in}
-use Rattle.fifo_buffer.specs.FifoFits.{BootsSo, PartFits, caps_in}
-use Rattle.fifo_buffer.specs.Stances.{IsFreeOf, CallStateFits, line_at}
-use Rattle.fifo_buffer.specs.SectionPolls.{BufferEvent, FitsAt}
+use Rattle.event_log.specs.declared.ids.{BufId.BufId, CpuId.CpuId, LockId.LockId, LockId.TheVariants.Pending, LockId.TheVariants.Buffer, Tid.Tid}
+use Rattle.event_log.specs.declared.ids.{TheConstants.THREADS}
+use Rattle.layer_traits.specs.{declared.buffer_edits.BufferOut.BufferOut, declared.locked.Side.Side, declared.locked.Side.TheVariants.Receivers}
+use Rattle.layer_traits.specs.{declared.locked.Side.TheVariants.Senders, declared.queue_edits.QueueBlock.QueueBlock, declared.call_states.CallState.CallState}
+use Rattle.layer_traits.specs.{BufferEffects.fresh_lock, BufferEffects.opening_locks, BufferLaw.no_call, BufferLaw.call_state_of, BufferProtocol.BufferLock}
+use Rattle.layer_traits.specs.{BufferProtocol.buffer_monitor_rules, Conditions.cv_rules, CvLaw.Waiting, CvLaw.waiting_at_start, LockLaw.lock_kernel}
+use Rattle.layer_traits.specs.{LockLaw.slept_for, Locking.AreAtRest, Locking.IsAtRest, Places.count_in, QueueBlocks.inner, Queues.buffer_sections}
+use Rattle.layer_traits.specs.{Queues.moves_in}
+use Rattle.fifo_buffer.specs.{FifoFits.BootsSo, FifoFits.PartFits, FifoFits.caps_in, Stances.IsFreeOf, Stances.CallStateFits, Stances.line_at}
+use Rattle.fifo_buffer.specs.{SectionPolls.BufferEvent, SectionPolls.FitsAt}
 
 -- what a list of equal items holds anywhere
 pub same_default : {A : Type 0} (n i : ℕ) (a : A) → slice_index_or (replicate n a) i a ≡ a

@@ -1,32 +1,18 @@
 -- Two section polls in one poll; which thread runs after a poll, and what its CPU is at.
-use Rattle.std.proofs.Common.{◌≡◌, ◌≢◌, ◌⊎◌, inl, inr, Bool, true, false, List, length, Option, Some, None, IsSome}
-use Rattle.std.proofs.Common.{is_some, slice_set, if◌then◌else◌, refl, ap, sym, ◌∙◌, subst}
-use Rattle.std.proofs.lemmas.Bool.{eqb-false}
-use Rattle.std.proofs.lemmas.List.{get_or-set_other, length-set}
-use Rattle.event_log.specs.declared.ids.BufId.{BufId}
-use Rattle.event_log.specs.declared.ids.LockId.{LockId}
-use Rattle.event_log.specs.declared.ids.Tid.{Tid}
-use Rattle.layer_traits.specs.declared.buffer_edits.BufferEdit.{BufferEdit}
-use Rattle.layer_traits.specs.declared.buffer_edits.BufferOut.{BufferOut}
-use Rattle.layer_traits.specs.declared.calls.Call.{Call}
-use Rattle.layer_traits.specs.declared.calls.Reply.{Reply}
-use Rattle.layer_traits.specs.declared.conditions.CvOut.{CvOut}
-use Rattle.layer_traits.specs.declared.locked.QOut.{QOut}
-use Rattle.layer_traits.specs.declared.scheds.SchedCall.{SchedCall}
-use Rattle.layer_traits.specs.declared.call_states.Stage.{Stage}
+use Rattle.std.proofs.Common.{◌≡◌, ◌≢◌, ◌⊎◌, inl, inr, Bool, true, false, List, length, Option, Some, None, IsSome, is_some, slice_set, if◌then◌else◌, refl, ap}
+use Rattle.std.proofs.Common.{sym, ◌∙◌, subst}
+use Rattle.std.proofs.lemmas.{Bool.eqb-false, List.get_or-set_other, List.length-set}
+use Rattle.event_log.specs.declared.ids.{BufId.BufId, LockId.LockId, Tid.Tid}
+use Rattle.layer_traits.specs.{declared.buffer_edits.BufferEdit.BufferEdit, declared.buffer_edits.BufferOut.BufferOut, declared.calls.Call.Call}
+use Rattle.layer_traits.specs.{declared.calls.Reply.Reply, declared.conditions.CvOut.CvOut, declared.locked.QOut.QOut, declared.scheds.SchedCall.SchedCall}
+use Rattle.layer_traits.specs.{declared.call_states.Stage.Stage, declared.call_states.CallState.CallState, BufferProtocol.BufferLock}
+use Rattle.layer_traits.specs.{BufferProtocol.BufferSection, Conditions.CvCall, CvLaw.Waiting, LockLaw.is_handed, LockLaw.slept_for, Queues.buffer_sections}
 use Rattle.layer_traits.specs.declared.call_states.Stage.TheVariants.{Idle, Acquires, Enters, Tries, Waits, AcquiresAgain, Signals, SignalsOwn, Releases}
-use Rattle.layer_traits.specs.declared.call_states.CallState.{CallState}
 use Rattle.layer_traits.specs.BufferLaw.{RunsOn, buffer_of, going, recorded, no_call, replied, still_calling, call_state_of}
-use Rattle.layer_traits.specs.BufferProtocol.{BufferLock, BufferSection}
-use Rattle.layer_traits.specs.Conditions.{CvCall}
-use Rattle.layer_traits.specs.CvLaw.{Waiting}
-use Rattle.layer_traits.specs.LockLaw.{is_handed, slept_for}
-use Rattle.layer_traits.specs.Queues.{buffer_sections}
 use Rattle.thread_blocks.specs.Queues.{same_tid}
 use Rattle.fifo_buffer.specs.Stances.{IsMark, CallStateFits, asks_at, waits_at}
 use Rattle.fifo_buffer.specs.SectionPolls.{After, Ended, Goes, MayPollSection, Sizes, Sleeps, Stays, calling_after, under_way_at, is_at_once, reply_at}
-use Rattle.fifo_buffer.proofs.SectionPollTaken.{SectionPollTaken}
-use Rattle.fifo_buffer.proofs.First.{goes_called, going_same}
+use Rattle.fifo_buffer.proofs.{SectionPollTaken.SectionPollTaken, First.goes_called, First.going_same}
 
 pub at_once_why : (stage : Stage) (handed : Bool) → is_at_once stage handed ≡ true → (waits_at stage ≡ true) ⊎ (handed ≡ true)
 at_once_why Acquires handed is = inr is

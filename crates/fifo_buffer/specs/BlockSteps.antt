@@ -1,14 +1,9 @@
 -- What an effect of the first of a line makes of a buffer's block, whichever side's it is and whether it finds the buffer closed.
 use Rattle.std.specs.Prelude.{◌≡◌, true, false}
-use Rattle.event_log.specs.declared.entries.Kind.{Kind}
-use Rattle.event_log.specs.declared.entries.Kind.TheVariants.{Send, Recv}
-use Rattle.event_log.specs.declared.ids.Tid.{Tid}
-use Rattle.event_log.specs.Buffers.{IsAllowedEffect, after_effect}
-use Rattle.event_log.specs.Messages.{Message}
-use Rattle.event_log.specs.Runs.{group_of}
-use Rattle.layer_traits.specs.declared.locked.Side.{Side}
-use Rattle.layer_traits.specs.declared.locked.Side.TheVariants.{Receivers, Senders}
-use Rattle.layer_traits.specs.BufferBlocks.{BufferState, counted, is_first, line_of, drawn_of}
+use Rattle.event_log.specs.{declared.entries.Kind.Kind, declared.entries.Kind.TheVariants.Send, declared.entries.Kind.TheVariants.Recv, declared.ids.Tid.Tid}
+use Rattle.event_log.specs.{Buffers.IsAllowedEffect, Buffers.after_effect, Messages.Message, Runs.group_of}
+use Rattle.layer_traits.specs.{declared.locked.Side.Side, declared.locked.Side.TheVariants.Receivers, declared.locked.Side.TheVariants.Senders}
+use Rattle.layer_traits.specs.{BufferBlocks.BufferState, BufferBlocks.counted, BufferBlocks.is_first, BufferBlocks.line_of, BufferBlocks.drawn_of}
 use Rattle.thread_blocks.specs.Queues.{rest}
 use Rattle.fifo_buffer.specs.Stances.{same_side}
 

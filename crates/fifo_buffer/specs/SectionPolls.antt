@@ -1,41 +1,21 @@
 -- What a part keeps between its polls, what it may ask of the conditions beneath, and what one poll of them does for a call.
 use Rattle.std.specs.Prelude.{◌≡◌, ◌⊎◌, Bool, true, false, List, ◌++◌, length, Option, Some, None, option_map, option_to_list, is_some, slice_set}
 use Rattle.std.specs.List.{AllByRecursion}
-use Rattle.event_log.specs.declared.ids.BufId.{BufId}
-use Rattle.event_log.specs.declared.ids.CpuId.{CpuId}
-use Rattle.event_log.specs.declared.ids.LockId.{LockId}
-use Rattle.event_log.specs.declared.ids.Tid.{Tid}
-use Rattle.event_log.specs.declared.ids.TheConstants.{THREADS}
-use Rattle.event_log.specs.History.{AreForeign}
-use Rattle.layer_traits.specs.declared.buffer_edits.BareBufferOut.{BareBufferOut}
-use Rattle.layer_traits.specs.declared.buffer_edits.BufferEdit.{BufferEdit}
-use Rattle.layer_traits.specs.declared.buffer_edits.BufferOut.{BufferOut}
-use Rattle.layer_traits.specs.declared.calls.Call.{Call}
-use Rattle.layer_traits.specs.declared.calls.Effect.{Effect}
-use Rattle.layer_traits.specs.declared.conditions.CvOut.{CvOut}
-use Rattle.layer_traits.specs.declared.conditions.CvOut.TheVariants as answer
-use Rattle.layer_traits.specs.declared.locked.QOut.{QOut}
-use Rattle.layer_traits.specs.declared.locked.QOut.TheVariants.{Queued, Released}
-use Rattle.layer_traits.specs.declared.payloads.Parcel.{Parcel}
-use Rattle.layer_traits.specs.declared.queues.QueueEvent.{QueueEvent}
-use Rattle.layer_traits.specs.declared.scheds.SchedCall.{SchedCall}
-use Rattle.layer_traits.specs.declared.scheds.SchedCall.TheVariants.{Pass, OnBuffer}
-use Rattle.layer_traits.specs.declared.sleeps.Outcome.{Outcome}
-use Rattle.layer_traits.specs.declared.call_states.Stage.{Stage}
-use Rattle.layer_traits.specs.declared.calls.Reply.{Reply}
-use Rattle.layer_traits.specs.declared.call_states.Stage.TheVariants.{Acquires, Waits, AcquiresAgain}
-use Rattle.layer_traits.specs.declared.call_states.CallState.{CallState}
-use Rattle.layer_traits.specs.BufferEffects.{effects_in}
-use Rattle.layer_traits.specs.BufferLaw.{Calling, UnderWay, IsEffectOf, Passing, buffer_of, entry_of, recorded, replied, section_at, call_state_of}
-use Rattle.layer_traits.specs.BufferProtocol.{BufferLock, BufferSection}
-use Rattle.layer_traits.specs.Conditions.{CvCall}
-use Rattle.layer_traits.specs.CvLaw.{Waiting}
-use Rattle.layer_traits.specs.LockLaw.{slept_for}
-use Rattle.layer_traits.specs.Payloads.{buffer_told, cv_told, lock_told, outcome_told}
-use Rattle.layer_traits.specs.Places.{home_of}
-use Rattle.layer_traits.specs.Queues.{buffer_sections}
+use Rattle.event_log.specs.{declared.ids.BufId.BufId, declared.ids.CpuId.CpuId, declared.ids.LockId.LockId, declared.ids.Tid.Tid}
+use Rattle.event_log.specs.{declared.ids.TheConstants.THREADS, History.AreForeign}
+use Rattle.layer_traits.specs.declared.{buffer_edits.BareBufferOut.BareBufferOut, buffer_edits.BufferEdit.BufferEdit, buffer_edits.BufferOut.BufferOut}
+use Rattle.layer_traits.specs.declared.{calls.Call.Call, calls.Effect.Effect, conditions.CvOut.CvOut, locked.QOut.QOut, locked.QOut.TheVariants.Queued}
+use Rattle.layer_traits.specs.declared.{locked.QOut.TheVariants.Released, payloads.Parcel.Parcel, queues.QueueEvent.QueueEvent, scheds.SchedCall.SchedCall}
+use Rattle.layer_traits.specs.declared.{scheds.SchedCall.TheVariants.Pass, scheds.SchedCall.TheVariants.OnBuffer, sleeps.Outcome.Outcome}
+use Rattle.layer_traits.specs.declared.{call_states.Stage.Stage, calls.Reply.Reply, call_states.Stage.TheVariants.Acquires, call_states.Stage.TheVariants.Waits}
+use Rattle.layer_traits.specs.declared.{call_states.Stage.TheVariants.AcquiresAgain, call_states.CallState.CallState}
+use Rattle.layer_traits.specs.{BufferEffects.effects_in, BufferLaw.Calling, BufferLaw.UnderWay, BufferLaw.IsEffectOf, BufferLaw.Passing, BufferLaw.buffer_of}
+use Rattle.layer_traits.specs.{BufferLaw.entry_of, BufferLaw.recorded, BufferLaw.replied, BufferLaw.section_at, BufferLaw.call_state_of}
+use Rattle.layer_traits.specs.{BufferProtocol.BufferLock, BufferProtocol.BufferSection, Conditions.CvCall, CvLaw.Waiting, LockLaw.slept_for}
+use Rattle.layer_traits.specs.{Payloads.buffer_told, Payloads.cv_told, Payloads.lock_told, Payloads.outcome_told, Places.home_of, Queues.buffer_sections}
 use Rattle.thread_blocks.specs.Queues.{same_tid}
 use Rattle.fifo_buffer.specs.Stances.{InCall, CallStateFits, ThreadFits, called_at, done_at, waits_at}
+use Rattle.layer_traits.specs.declared.conditions.CvOut.TheVariants as answer
 
 -- an event of the buffers, and what a section of one answers
 abbrev pub BufferEvent : Type 0

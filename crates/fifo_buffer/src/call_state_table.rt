@@ -2,8 +2,7 @@
 
 ghost use Rattle.std.specs.Prelude.{◌≡◌, ◌<◌, is_some, replicate, slice_set};
 ghost use Rattle.event_log.specs.declared.ids.TheConstants.{THREADS};
-ghost use Rattle.layer_traits.specs.BufferLaw.{going, no_call, call_state_of};
-ghost use Rattle.layer_traits.specs.Payloads.{told_by};
+ghost use Rattle.layer_traits.specs.{BufferLaw.going, BufferLaw.no_call, BufferLaw.call_state_of, Payloads.told_by};
 ghost use Rattle.fifo_buffer.specs.SectionPolls.{outcome_of, recorded_if};
 
 use crate::sections::{begin, record_section};

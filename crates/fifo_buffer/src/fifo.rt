@@ -1,17 +1,10 @@
 //! First-in first-out buffers.
 
 ghost use Rattle.std.specs.Prelude.{◌≡◌, ◌<◌, [], Bool, Some, None, IsSome, refl, slice_set, if◌then◌else◌};
-ghost use Rattle.event_log.specs.declared.ids.LockId.TheVariants.{Buffer};
-ghost use Rattle.event_log.specs.declared.ids.TheConstants.{THREADS};
+ghost use Rattle.event_log.specs.declared.ids.{LockId.TheVariants.Buffer, TheConstants.THREADS};
 ghost use Rattle.layer_traits.specs.BufferLaw.{answer_in, buffer_of, buffering, going, plan_of, replied, call_state_of};
-ghost use Rattle.layer_traits.specs.BufferProtocol.{buffer_rules};
-ghost use Rattle.layer_traits.specs.Framed.{Framed};
-ghost use Rattle.layer_traits.specs.Locking.{lock_moves, lock_rules};
-ghost use Rattle.layer_traits.specs.LockLaw.{slept_for};
-ghost use Rattle.layer_traits.specs.Plans.{Follows, table_of};
-ghost use Rattle.layer_traits.specs.QueueBlocks.{homes_in, inner};
-ghost use Rattle.layer_traits.specs.QueueRules.{queue_rules};
-ghost use Rattle.layer_traits.specs.Queues.{buffer_sections};
+ghost use Rattle.layer_traits.specs.{BufferProtocol.buffer_rules, Framed.Framed, Locking.lock_moves, Locking.lock_rules, LockLaw.slept_for, Plans.Follows};
+ghost use Rattle.layer_traits.specs.{Plans.table_of, QueueBlocks.homes_in, QueueBlocks.inner, QueueRules.queue_rules, Queues.buffer_sections};
 ghost use Rattle.fifo_buffer.specs.SectionPolls.{MayPollSection, Sizes, SectionPolled, calling_after, reply_at};
 
 use crate::call_state_table::CallStates;
@@ -148,21 +141,13 @@ impl<C: ThreadLayer<CvLaw<BufferEdit>>> Fifo<C> {
 
 impl<C: ThreadLayer<CvLaw<BufferEdit>>> CallLayer<BufferLaw> for Fifo<C> {
     ghost use Rattle.std.proofs.Common.{ap};
-    ghost use Rattle.event_log.specs.declared.ids.LockId.TheVariants.{Buffer};
+    ghost use Rattle.event_log.specs.declared.ids.LockId.TheVariants.{Buffer, Pending};
     ghost use Rattle.layer_traits.proofs.ActedLemmas.{moves_read};
-    ghost use Rattle.event_log.specs.declared.ids.LockId.TheVariants.{Pending};
-    ghost use Rattle.layer_traits.specs.BufferEffects.{effects_in, opening_locks};
-    ghost use Rattle.layer_traits.specs.BufferLaw.{buffering};
-    ghost use Rattle.layer_traits.specs.Laws.Openings.{opens_so};
-    ghost use Rattle.layer_traits.specs.BufferProtocol.{buffer_monitor_rules};
-    ghost use Rattle.layer_traits.specs.Conditions.{cv_rules};
-    ghost use Rattle.layer_traits.specs.LockLaw.{lock_kernel};
-    ghost use Rattle.layer_traits.specs.Locking.{wait_list_in, lock_after};
-    ghost use Rattle.layer_traits.specs.QueueBlocks.{inner};
-    ghost use Rattle.layer_traits.specs.Queues.{buffer_sections, moves_in};
-    ghost use Rattle.fifo_buffer.specs.FifoFits.{BootsSo, PartFits, caps_in};
-    ghost use Rattle.fifo_buffer.specs.Laws.FifoLaws.{fifo_lawful, fifo_wait_lists, none_under};
-    ghost use Rattle.fifo_buffer.specs.SectionPolls.{under_way_at};
+    ghost use Rattle.layer_traits.specs.{BufferEffects.effects_in, BufferEffects.opening_locks, BufferLaw.buffering, Laws.Openings.opens_so};
+    ghost use Rattle.layer_traits.specs.{BufferProtocol.buffer_monitor_rules, Conditions.cv_rules, LockLaw.lock_kernel, Locking.wait_list_in};
+    ghost use Rattle.layer_traits.specs.{Locking.lock_after, QueueBlocks.inner, Queues.buffer_sections, Queues.moves_in};
+    ghost use Rattle.fifo_buffer.specs.{FifoFits.BootsSo, FifoFits.PartFits, FifoFits.caps_in, Laws.FifoLaws.fifo_lawful, Laws.FifoLaws.fifo_wait_lists};
+    ghost use Rattle.fifo_buffer.specs.{Laws.FifoLaws.none_under, SectionPolls.under_way_at};
 
     type Machine = C::Machine;
 
@@ -295,21 +280,15 @@ impl<C: ThreadLayer<CvLaw<BufferEdit>>> CallLayer<BufferLaw> for Fifo<C> {
 
 impl<C: OwnedThreadLayer<CvLaw<BufferEdit>>> OwnedBuffers for Fifo<C> {
     ghost use Rattle.std.specs.Prelude.{option_map};
-    ghost use Rattle.event_log.specs.Buffers.{items_of};
-    ghost use Rattle.event_log.specs.Runs.{is_closed};
+    ghost use Rattle.event_log.specs.{Buffers.items_of, Runs.is_closed};
     ghost use Rattle.layer_traits.proofs.ActedLemmas.{owner_by_acts};
-    ghost use Rattle.layer_traits.specs.BufferEffects.{contents_of, effects_in};
-    ghost use Rattle.layer_traits.specs.BufferProtocol.{buffer_monitor_rules};
-    ghost use Rattle.layer_traits.specs.Conditions.{cv_rules};
-    ghost use Rattle.layer_traits.specs.LockLaw.{lock_kernel};
-    ghost use Rattle.layer_traits.specs.Locking.{wait_list_in, owner_in};
-    ghost use Rattle.layer_traits.specs.Places.{pending_by};
-    ghost use Rattle.layer_traits.specs.QueueBlocks.{inner};
-    ghost use Rattle.layer_traits.specs.Queues.{buffer_sections, moves_in};
-    ghost use Rattle.fifo_buffer.specs.FifoFits.{caps_in};
-    ghost use Rattle.fifo_buffer.specs.Laws.OwnedLaws.{block_there, closed_read, effects_known, items_acted, items_read};
-    ghost use Rattle.fifo_buffer.specs.Laws.OwnedLaws.{wait_lists_read, lock_read, owner_read, queue_read};
-    ghost use Rattle.fifo_buffer.specs.OwnedLaws.{closed_of, items_in, wait_lists_of, buffer_lock_of, owner_of};
+    ghost use Rattle.layer_traits.specs.{BufferEffects.contents_of, BufferEffects.effects_in, BufferProtocol.buffer_monitor_rules, Conditions.cv_rules};
+    ghost use Rattle.layer_traits.specs.{LockLaw.lock_kernel, Locking.wait_list_in, Locking.owner_in, Places.pending_by, QueueBlocks.inner};
+    ghost use Rattle.layer_traits.specs.{Queues.buffer_sections, Queues.moves_in};
+    ghost use Rattle.fifo_buffer.specs.{FifoFits.caps_in, Laws.OwnedLaws.block_there, Laws.OwnedLaws.closed_read, Laws.OwnedLaws.effects_known};
+    ghost use Rattle.fifo_buffer.specs.{Laws.OwnedLaws.items_acted, Laws.OwnedLaws.items_read, Laws.OwnedLaws.wait_lists_read, Laws.OwnedLaws.lock_read};
+    ghost use Rattle.fifo_buffer.specs.{Laws.OwnedLaws.owner_read, Laws.OwnedLaws.queue_read, OwnedLaws.closed_of, OwnedLaws.items_in, OwnedLaws.wait_lists_of};
+    ghost use Rattle.fifo_buffer.specs.{OwnedLaws.buffer_lock_of, OwnedLaws.owner_of};
 
     ghost owner = { λ m b. owner_in (buffer_lock_of (C.opening m) (C.seen m) b) };
 

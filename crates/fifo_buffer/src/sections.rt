@@ -1,10 +1,10 @@
 //! The sections of a message call, stage by stage.
 
 ghost use Rattle.std.specs.Prelude.{◌≡◌, Option, option_map};
-ghost use Rattle.layer_traits.specs.declared.calls.Effect.{Effect};
-ghost use Rattle.layer_traits.specs.declared.payloads.Parcel.{Parcel};
-ghost use Rattle.layer_traits.specs.BufferLaw.{first_of, going, message_of, recorded, other_side, enlisted, reply_by, reply_with, section_at, side_of, reported_by, tried, try_of};
-ghost use Rattle.layer_traits.specs.Payloads.{buffer_meant, buffer_told, cv_meant, cv_told, lock_meant, lock_told};
+ghost use Rattle.layer_traits.specs.{declared.calls.Effect.Effect, declared.payloads.Parcel.Parcel, BufferLaw.first_of, BufferLaw.going, BufferLaw.message_of};
+ghost use Rattle.layer_traits.specs.{BufferLaw.recorded, BufferLaw.other_side, BufferLaw.enlisted, BufferLaw.reply_by, BufferLaw.reply_with};
+ghost use Rattle.layer_traits.specs.{BufferLaw.section_at, BufferLaw.side_of, BufferLaw.reported_by, BufferLaw.tried, BufferLaw.try_of, Payloads.buffer_meant};
+ghost use Rattle.layer_traits.specs.{Payloads.buffer_told, Payloads.cv_meant, Payloads.cv_told, Payloads.lock_meant, Payloads.lock_told};
 ghost use Rattle.fifo_buffer.specs.SectionPolls.{is_at_once, reply_at};
 
 use event_log::{Kind, Msg, Tid};

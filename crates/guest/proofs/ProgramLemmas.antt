@@ -1,14 +1,10 @@
 -- Reading a program line by line: what stands after some lines.
 use Rattle.std.proofs.Common.{◌≡◌, ℕ, ◌+◌, ◌<◌, ◌≤◌, List, [], ◌∷◌, ◌++◌, length, get_or, map, All, Ok, refl, sym, ◌∙◌, ap, length-append}
-use Rattle.std.proofs.lemmas.List.{length-map}
-use Rattle.std.proofs.lemmas.List.Elements.{All-push, All-nil}
+use Rattle.std.proofs.lemmas.List.{length-map, Elements.All-push, Elements.All-nil}
 use Rattle.event_log.specs.Reading.{read_from}
 use Rattle.event_log.proofs.ReadingLemmas.{after, left_from, read_none, read_one, read_fault, read_all}
-use Rattle.guest.specs.declared.instructions.Instruction.{Instruction}
-use Rattle.guest.specs.declared.refusals.GuestError.{GuestError}
-use Rattle.guest.specs.declared.refusals.GuestError.TheVariants.{NoMemory, At}
-use Rattle.guest.specs.Instructions.{IsWithin}
-use Rattle.guest.specs.Language.{numbered_line, program_lines, Fails}
+use Rattle.guest.specs.{declared.instructions.Instruction.Instruction, Instructions.IsWithin, Language.numbered_line, Language.program_lines, Language.Fails}
+use Rattle.guest.specs.declared.refusals.GuestError.{GuestError, TheVariants.NoMemory, TheVariants.At}
 
 -- after the first `i` lines: their instructions stand in front of what is left to read
 pub record ReadSoFar {X : Type 0} (text : X → List ℕ) (lines : List X) (i : ℕ) (front : List Instruction) : Type 0 where

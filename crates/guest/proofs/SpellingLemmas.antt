@@ -1,31 +1,19 @@
 -- A line that reads as an instruction is the one spelling of it, and that spelling reads as it.
 use Rattle.std.proofs.Common.{◌≡◌, ◌==◌, ℕ, ◌-◌, ◌<◌, ◌≤◌, ◌^◌, Bool, true, false, if◌then◌else◌, List, [], ◌∷◌, ◌++◌, get_or, All, Option, Some, None, Result}
 use Rattle.std.proofs.Common.{Ok, Err, codes, decimal, bytes_eq, ◌⊎◌, inl, inr, refl, sym, ◌∙◌, ap, subst, arith, lit<, ne_eqb, zero, suc}
-use Rattle.std.specs.List.{slice_split, join_with_byte}
-use Rattle.std.specs.Int.{IsInRange}
-use Rattle.std.proofs.lemmas.Slice.Eq.{bytes_eq-Decides}
-use Rattle.std.proofs.lemmas.List.Splits.{slice_split_none, slice_split_at, join_with_byte-slice_split}
-use Rattle.std.proofs.lemmas.List.Elements.{All-nil, All-cons, All-from_get_or}
-use Rattle.std.proofs.lemmas.Str.Parse.{digit_at}
-use Rattle.std.proofs.lemmas.Fmt.{digits_decimal}
-use Rattle.event_log.specs.declared.ids.BufId.{BufId}
-use Rattle.event_log.specs.declared.ids.TheConstants.{BUFFERS}
-use Rattle.event_log.specs.Digits.{is_number, number_to}
-use Rattle.event_log.specs.Reading.{◌>>=◌}
+use Rattle.std.specs.{List.slice_split, List.join_with_byte, Int.IsInRange}
+use Rattle.std.proofs.lemmas.{Slice.Eq.bytes_eq-Decides, List.Splits.slice_split_none, List.Splits.slice_split_at, List.Splits.join_with_byte-slice_split}
+use Rattle.std.proofs.lemmas.{List.Elements.All-nil, List.Elements.All-cons, List.Elements.All-from_get_or, Str.Parse.digit_at, Fmt.digits_decimal}
+use Rattle.event_log.specs.{declared.ids.BufId.BufId, declared.ids.TheConstants.BUFFERS, Digits.is_number, Digits.number_to, Reading.◌>>=◌}
 use Rattle.event_log.proofs.DigitsLemmas.{ascii_digits, number_to-decimal, number_to-spelling, number_to-Some, decimal-spelled, is_number-spelled}
-use Rattle.guest.specs.declared.instructions.TheConstants.{REGISTERS}
-use Rattle.guest.specs.declared.instructions.Register.{Register}
+use Rattle.guest.specs.declared.instructions.{TheConstants.REGISTERS, Register.Register, Source.TheVariants.One as FromOne, Source.TheVariants.First}
+use Rattle.guest.specs.declared.instructions.{Into.TheVariants.One as IntoOne, Into.TheVariants.All as IntoAll, Instruction.Instruction}
 use Rattle.guest.specs.declared.instructions.Register.TheVariants.{Reg0, Reg1, Reg2, Reg3, Reg4, Reg5, Reg6, Reg7}
-use Rattle.guest.specs.declared.instructions.Source.TheVariants.{One as FromOne, First}
-use Rattle.guest.specs.declared.instructions.Into.TheVariants.{One as IntoOne, All as IntoAll}
-use Rattle.guest.specs.declared.instructions.Instruction.{Instruction}
 use Rattle.guest.specs.declared.instructions.Instruction.TheVariants.{Set, Add, Sub, Jnz, Send, Recv, Close, Yield, Exit}
-use Rattle.guest.specs.declared.refusals.GuestFault.{GuestFault}
-use Rattle.guest.specs.declared.refusals.GuestFault.TheVariants.{BadNumber, BadTarget}
-use Rattle.guest.specs.Instructions.{IsSource, IsWithin}
-use Rattle.guest.specs.Language.{or_fault, register_in, word_in, buffer_in, words_in, target_in, pieces_in, line_in}
-use Rattle.guest.specs.Language.{one_piece, two_pieces, three_pieces, four_pieces}
-use Rattle.guest.specs.Spelling.{name_of, pieces_of, instruction_line}
+use Rattle.guest.specs.declared.refusals.GuestFault.{GuestFault, TheVariants.BadNumber, TheVariants.BadTarget}
+use Rattle.guest.specs.{Instructions.IsSource, Instructions.IsWithin, Language.or_fault, Language.register_in, Language.word_in, Language.buffer_in}
+use Rattle.guest.specs.{Language.words_in, Language.target_in, Language.pieces_in, Language.line_in, Language.one_piece, Language.two_pieces}
+use Rattle.guest.specs.{Language.three_pieces, Language.four_pieces, Spelling.name_of, Spelling.pieces_of, Spelling.instruction_line}
 
 -- which side of a choice was taken
 chosen : {A : Type 0} (b : Bool) (x y r : A) → (if b then x else y) ≡ r → ((b ≡ true) × (x ≡ r)) ⊎ ((b ≡ false) × (y ≡ r))

@@ -36,8 +36,7 @@ pub enum Register {
 
 impl Register {
     ghost use Rattle.std.specs.Prelude.{◌≡◌, ◌<◌};
-    ghost use Rattle.guest.specs.declared.instructions.TheConstants.{REGISTERS};
-    ghost use Rattle.guest.specs.Instructions.{number_of};
+    ghost use Rattle.guest.specs.{declared.instructions.TheConstants.REGISTERS, Instructions.number_of};
 
     /// The register's number, counted from 0.
     #[inline(always)]
@@ -134,8 +133,7 @@ pub struct Program {
 
 impl Model for Program {
     ghost use Rattle.std.specs.Prelude.{List};
-    ghost use Rattle.guest.specs.declared.instructions.Instruction.{Instruction};
-    ghost use Rattle.guest.specs.Instructions.{IsProgram};
+    ghost use Rattle.guest.specs.{declared.instructions.Instruction.Instruction, Instructions.IsProgram};
 
     ghost Value = { List Instruction };
 
@@ -146,10 +144,9 @@ impl Model for Program {
 
 impl Program {
     ghost use Rattle.std.specs.Prelude.{◌≡◌, ◌≢◌, ◌<◌, length, map, IfOk};
-    ghost use Rattle.guest.specs.declared.instructions.Instruction.TheVariants.{Exit};
+    ghost use Rattle.guest.specs.{declared.instructions.Instruction.TheVariants.Exit, Instructions.IsProgram, Instructions.IsWithin};
+    ghost use Rattle.guest.specs.{Instructions.instruction_at, Instructions.names_below, Language.program_in, Language.Gives};
     ghost use Rattle.std.specs.List.{list_all};
-    ghost use Rattle.guest.specs.Instructions.{IsProgram, IsWithin, instruction_at, names_below};
-    ghost use Rattle.guest.specs.Language.{program_in, Gives};
 
     /// Reads the lines of a program, one instruction each.
     ///

@@ -1,9 +1,7 @@
 //! What holds of every program, as functions without work: each promise is a law.
 
 ghost use Rattle.std.specs.Prelude.{ℕ, ◌<◌, ◌≤◌, ◌^◌};
-ghost use Rattle.guest.specs.declared.instructions.Instruction.{Instruction};
-ghost use Rattle.guest.specs.Laws.{StepsKeepCalls};
-ghost use Rattle.guest.specs.Spelling.{HasOneLine};
+ghost use Rattle.guest.specs.{declared.instructions.Instruction.Instruction, Laws.StepsKeepCalls, Spelling.HasOneLine};
 
 /// The law of steps: whatever a thread of a program does, the entries of its calls, newest first,
 /// stay the program's calls at the thread's new state.

@@ -1,16 +1,11 @@
 -- What a part of message calls keeps for itself, and what it tells of where a thread stands.
 use Rattle.std.specs.Prelude.{◌≡◌, ℕ, ◌<◌, Bool, false, ◌||◌, List, Option, Some, None, option_map, option_and_then}
 use Rattle.std.specs.Option.{option_or}
-use Rattle.event_log.specs.declared.ids.BufId.{BufId}
-use Rattle.event_log.specs.declared.ids.CpuId.{CpuId}
-use Rattle.event_log.specs.declared.ids.Tid.{Tid}
-use Rattle.layer_traits.specs.declared.calls.Place.{Place}
-use Rattle.layer_traits.specs.declared.calls.Place.TheVariants as place
-use Rattle.layer_traits.specs.declared.moves.WaitList.{WaitList}
-use Rattle.layer_traits.specs.declared.moves.WaitList.TheVariants.{Sleepers, Receivers, Senders}
-use Rattle.layer_traits.specs.Owned.{wait_list_among}
-use Rattle.layer_traits.specs.Places.{Threads, is_thread}
+use Rattle.event_log.specs.declared.ids.{BufId.BufId, CpuId.CpuId, Tid.Tid}
+use Rattle.layer_traits.specs.{declared.calls.Place.Place, Owned.wait_list_among, Places.Threads, Places.is_thread}
+use Rattle.layer_traits.specs.declared.moves.WaitList.{WaitList, TheVariants.Sleepers, TheVariants.Receivers, TheVariants.Senders}
 use Rattle.thread_blocks.specs.Queues.{is_in}
+use Rattle.layer_traits.specs.declared.calls.Place.TheVariants as place
 
 -- it keeps the number of its CPU, the homes of the threads, and how many buffers there are
 pub record KeepsPlan (homes : List CpuId) (buffers : ℕ) (number cpu : CpuId) (kept : List CpuId) (count : ℕ) : Type 0 where

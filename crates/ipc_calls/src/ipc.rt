@@ -1,13 +1,8 @@
 //! Message calls over buffers.
 
 ghost use Rattle.std.specs.Prelude.{◌≡◌, ◌<◌, None, Some, IsSome, length, refl};
-ghost use Rattle.event_log.specs.declared.ids.CpuId.{CpuId};
-ghost use Rattle.event_log.specs.declared.ids.LockId.TheVariants.{Pending};
-ghost use Rattle.event_log.specs.declared.ids.Tid.{Tid};
-ghost use Rattle.event_log.specs.declared.ids.TheConstants.{THREADS};
-ghost use Rattle.layer_traits.specs.declared.calls.Place.{Place};
-ghost use Rattle.layer_traits.specs.Places.{home_of, is_thread};
-ghost use Rattle.layer_traits.specs.Observed.{IsOwnPlace};
+ghost use Rattle.event_log.specs.declared.ids.{CpuId.CpuId, LockId.TheVariants.Pending, Tid.Tid, TheConstants.THREADS};
+ghost use Rattle.layer_traits.specs.{declared.calls.Place.Place, Places.home_of, Places.is_thread, Observed.IsOwnPlace};
 ghost use Rattle.ipc_calls.specs.Parts.{IsAway, asleep_at, wait_list_read, pends_read, said};
 
 use crate::opening::OpensBuffers;
@@ -261,13 +256,10 @@ impl<B: OwnedBuffers> Ipc<B> {
 
 impl<B: OpensBuffers> Owned for Ipc<B> {
     ghost use Rattle.std.proofs.Common.{subst, sym};
-    ghost use Rattle.event_log.specs.Buffers.{items_of};
-    ghost use Rattle.event_log.specs.Runs.{is_closed};
+    ghost use Rattle.event_log.specs.{Buffers.items_of, Runs.is_closed};
     ghost use Rattle.layer_traits.proofs.OwnedLemmas.{read_under};
-    ghost use Rattle.layer_traits.specs.BufferEffects.{contents_of};
-    ghost use Rattle.layer_traits.specs.Places.{pending_by};
-    ghost use Rattle.ipc_calls.specs.Laws.PlaceLaws.{home_there, place_reads};
-    ghost use Rattle.ipc_calls.specs.Parts.{IsSilentOf};
+    ghost use Rattle.layer_traits.specs.{BufferEffects.contents_of, Places.pending_by};
+    ghost use Rattle.ipc_calls.specs.{Laws.PlaceLaws.home_there, Laws.PlaceLaws.place_reads, Parts.IsSilentOf};
 
     ghost owner = { λ m b. B.owner m b };
 

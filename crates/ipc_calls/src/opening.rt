@@ -10,12 +10,8 @@ use std::alloc::Global;
 
 /// A layer of buffers whose machine is opened with its buffers, and tells of its blocks.
 pub trait OpensBuffers: OwnedBuffers {
-    ghost use Rattle.event_log.specs.declared.ids.CpuId.{CpuId};
-    ghost use Rattle.event_log.specs.declared.ids.LockId.TheVariants.{Pending};
-    ghost use Rattle.event_log.specs.declared.ids.TheConstants.{CPUS};
-    ghost use Rattle.layer_traits.specs.BufferEffects.{opening_locks};
-    ghost use Rattle.layer_traits.specs.Openings.{AreOpenable, Opened};
-    ghost use Rattle.layer_traits.specs.QueueBlocks.{inner};
+    ghost use Rattle.event_log.specs.declared.ids.{CpuId.CpuId, LockId.TheVariants.Pending, TheConstants.CPUS};
+    ghost use Rattle.layer_traits.specs.{BufferEffects.opening_locks, Openings.AreOpenable, Openings.Opened, QueueBlocks.inner};
 
     /// A machine of so many CPUs, with a buffer of each of these capacities and a thread of each of
     /// these homes, and with room for `room` polls. All memory is taken here.
@@ -44,13 +40,8 @@ pub trait OpensBuffers: OwnedBuffers {
 
 /// Shared queues whose machine is opened with the locks of buffers, and that tell of its blocks.
 pub trait OpensQueues: OwnedLayer<QueueLaw<SleepEdit<LockEdit>>> {
-    ghost use Rattle.event_log.specs.declared.ids.CpuId.{CpuId};
-    ghost use Rattle.event_log.specs.declared.ids.LockId.TheVariants.{Pending};
-    ghost use Rattle.event_log.specs.declared.ids.TheConstants.{CPUS};
-    ghost use Rattle.layer_traits.specs.BufferEffects.{opening_locks};
-    ghost use Rattle.layer_traits.specs.Openings.{AreOpenable};
-    ghost use Rattle.layer_traits.specs.QueueBlocks.{homes_in, inner};
-    ghost use Rattle.layer_traits.specs.Renaming.{viewed};
+    ghost use Rattle.event_log.specs.declared.ids.{CpuId.CpuId, LockId.TheVariants.Pending, TheConstants.CPUS};
+    ghost use Rattle.layer_traits.specs.{BufferEffects.opening_locks, Openings.AreOpenable, QueueBlocks.homes_in, QueueBlocks.inner, Renaming.viewed};
     ghost use Rattle.queuing_lock.specs.Nested.{nested_lock_of};
     ghost use Rattle.sleep_wakeup.specs.Nested.{state_of};
 
@@ -78,13 +69,8 @@ pub trait OpensQueues: OwnedLayer<QueueLaw<SleepEdit<LockEdit>>> {
 
 /// Schedulers whose machine is opened with the locks of buffers, and that tell of its blocks.
 pub trait OpensScheds: OwnedLayer<SchedLaw<SleepEdit<LockEdit>>> {
-    ghost use Rattle.event_log.specs.declared.ids.CpuId.{CpuId};
-    ghost use Rattle.event_log.specs.declared.ids.LockId.TheVariants.{Pending};
-    ghost use Rattle.event_log.specs.declared.ids.TheConstants.{CPUS};
-    ghost use Rattle.layer_traits.specs.BufferEffects.{opening_locks};
-    ghost use Rattle.layer_traits.specs.Openings.{AreOpenable};
-    ghost use Rattle.layer_traits.specs.QueueBlocks.{homes_in, inner};
-    ghost use Rattle.layer_traits.specs.Renaming.{viewed};
+    ghost use Rattle.event_log.specs.declared.ids.{CpuId.CpuId, LockId.TheVariants.Pending, TheConstants.CPUS};
+    ghost use Rattle.layer_traits.specs.{BufferEffects.opening_locks, Openings.AreOpenable, QueueBlocks.homes_in, QueueBlocks.inner, Renaming.viewed};
     ghost use Rattle.queuing_lock.specs.Nested.{nested_lock_of};
     ghost use Rattle.sleep_wakeup.specs.Nested.{state_of};
 
@@ -113,13 +99,8 @@ pub trait OpensScheds: OwnedLayer<SchedLaw<SleepEdit<LockEdit>>> {
 /// A layer of sections that put threads to sleep, whose machine is opened with the locks of buffers,
 /// and tells of its blocks.
 pub trait OpensLocks: OwnedThreadLayer<SleepLaw<LockEdit>> {
-    ghost use Rattle.event_log.specs.declared.ids.CpuId.{CpuId};
-    ghost use Rattle.event_log.specs.declared.ids.LockId.TheVariants.{Pending};
-    ghost use Rattle.event_log.specs.declared.ids.TheConstants.{CPUS};
-    ghost use Rattle.layer_traits.specs.BufferEffects.{opening_locks};
-    ghost use Rattle.layer_traits.specs.Openings.{AreOpenable};
-    ghost use Rattle.layer_traits.specs.QueueBlocks.{homes_in, inner};
-    ghost use Rattle.layer_traits.specs.Renaming.{viewed};
+    ghost use Rattle.event_log.specs.declared.ids.{CpuId.CpuId, LockId.TheVariants.Pending, TheConstants.CPUS};
+    ghost use Rattle.layer_traits.specs.{BufferEffects.opening_locks, Openings.AreOpenable, QueueBlocks.homes_in, QueueBlocks.inner, Renaming.viewed};
     ghost use Rattle.queuing_lock.specs.Nested.{nested_lock_of};
 
     /// A machine of so many CPUs, with the lock of a buffer for each of these capacities and a

@@ -1,15 +1,9 @@
 //! The tower of layers, from buffers down to critical sections, over one machine.
 
 ghost use Rattle.std.specs.Prelude.{◌≡◌, ◌<◌, ◌≤◌, [], None, IsSome, IfOk, length, replicate};
-ghost use Rattle.event_log.specs.declared.ids.CpuId.{CpuId};
-ghost use Rattle.event_log.specs.declared.ids.LockId.TheVariants.{Pending};
-ghost use Rattle.event_log.specs.declared.ids.TheConstants.{BUFFERS, THREADS};
-ghost use Rattle.layer_traits.specs.BufferEffects.{opening_locks};
-ghost use Rattle.layer_traits.specs.BufferLaw.{no_call};
-ghost use Rattle.layer_traits.specs.OneLock.{AreDistinct, opened};
-ghost use Rattle.layer_traits.specs.Openings.{AreOpenable};
-ghost use Rattle.layer_traits.specs.QueueBlocks.{StartsWell, homes_in, inner};
-ghost use Rattle.layer_traits.specs.Renaming.{viewed};
+ghost use Rattle.event_log.specs.declared.ids.{CpuId.CpuId, LockId.TheVariants.Pending, TheConstants.BUFFERS, TheConstants.THREADS};
+ghost use Rattle.layer_traits.specs.{BufferEffects.opening_locks, BufferLaw.no_call, OneLock.AreDistinct, OneLock.opened, Openings.AreOpenable};
+ghost use Rattle.layer_traits.specs.{QueueBlocks.StartsWell, QueueBlocks.homes_in, QueueBlocks.inner, Renaming.viewed};
 ghost use Rattle.queuing_lock.specs.Nested.{nested_lock_of};
 ghost use Rattle.sleep_wakeup.specs.Nested.{state_of};
 

@@ -1,22 +1,13 @@
 -- A layer whose history is that of its actions' sections tells of threads what these make of it.
 use Rattle.std.proofs.Common.{◌≡◌, List, Option, Some, None, option_map, map, refl, ap, sym, ◌∙◌, subst}
-use Rattle.event_log.specs.declared.ids.BufId.{BufId}
-use Rattle.event_log.specs.declared.ids.LockId.{LockId}
-use Rattle.event_log.specs.declared.ids.LockId.TheVariants.{Pending, Buffer}
-use Rattle.event_log.specs.Sections.{sections_in}
-use Rattle.layer_traits.specs.declared.buffer_edits.BufferEdit.{BufferEdit}
-use Rattle.layer_traits.specs.declared.queue_edits.QueueBlock.{QueueBlock}
-use Rattle.layer_traits.specs.declared.queue_edits.QueueBlock.TheVariants.{Above}
-use Rattle.layer_traits.specs.declared.queues.QueueEvent.{QueueEvent}
-use Rattle.layer_traits.specs.Acted.{BufferActs, MovesAre, guarded, owner_after}
-use Rattle.layer_traits.specs.BufferProtocol.{BufferLock, buffer_rules}
-use Rattle.layer_traits.specs.Conditions.{CvCall}
-use Rattle.layer_traits.specs.LockLaw.{lock_kernel}
-use Rattle.layer_traits.specs.Locking.{wait_list_in, lock_after, lock_moves, lock_rules, owner_in}
-use Rattle.layer_traits.specs.Places.{AreMoves, pending_by}
-use Rattle.layer_traits.specs.QueueBlocks.{StartsWell, above_of, homes_in, inner, with_queue}
-use Rattle.layer_traits.specs.QueueRules.{AreProper}
-use Rattle.layer_traits.specs.Queues.{buffer_sections, event_of, moves_in}
+use Rattle.event_log.specs.{declared.ids.BufId.BufId, declared.ids.LockId.LockId, declared.ids.LockId.TheVariants.Pending}
+use Rattle.event_log.specs.{declared.ids.LockId.TheVariants.Buffer, Sections.sections_in}
+use Rattle.layer_traits.specs.{declared.buffer_edits.BufferEdit.BufferEdit, declared.queue_edits.QueueBlock.QueueBlock}
+use Rattle.layer_traits.specs.{declared.queue_edits.QueueBlock.TheVariants.Above, declared.queues.QueueEvent.QueueEvent, Acted.BufferActs, Acted.MovesAre}
+use Rattle.layer_traits.specs.{Acted.guarded, Acted.owner_after, BufferProtocol.BufferLock, BufferProtocol.buffer_rules, Conditions.CvCall, LockLaw.lock_kernel}
+use Rattle.layer_traits.specs.{Locking.wait_list_in, Locking.lock_after, Locking.lock_moves, Locking.lock_rules, Locking.owner_in, Places.AreMoves}
+use Rattle.layer_traits.specs.{Places.pending_by, QueueBlocks.StartsWell, QueueBlocks.above_of, QueueBlocks.homes_in, QueueBlocks.inner, QueueBlocks.with_queue}
+use Rattle.layer_traits.specs.{QueueRules.AreProper, Queues.buffer_sections, Queues.event_of, Queues.moves_in}
 use Rattle.layer_traits.proofs.NestedLemmas.{proper_buffer, proper_queue}
 
 above_made : {B : Type 0} (above : Option B) → above_of (option_map Above above) ≡ above

@@ -1,20 +1,14 @@
 -- A machine whose holder acts for every CPU sees no foreign events; and a section where every CPU rests.
-use Rattle.std.proofs.Common.{◌≡◌, ◌<◌, Bool, true, false, List, [], ◌∷◌, ◌++◌, Option, Some, None, IsSome, option_map, if◌then◌else◌}
-use Rattle.std.proofs.Common.{refl, ap, sym, ◌∙◌, subst, arith}
+use Rattle.std.proofs.Common.{◌≡◌, ◌<◌, Bool, true, false, List, [], ◌∷◌, ◌++◌, Option, Some, None, IsSome, option_map, if◌then◌else◌, refl, ap, sym, ◌∙◌}
+use Rattle.std.proofs.Common.{subst, arith}
 use Rattle.std.proofs.lemmas.Bool.{eq-eqb}
-use Rattle.event_log.specs.declared.ids.CpuId.{CpuId}
-use Rattle.event_log.specs.declared.ids.LockId.{LockId}
-use Rattle.event_log.specs.declared.ids.TheConstants.{CPUS}
-use Rattle.event_log.specs.History.{AreForeign, IsLawful, same_cpu, same_lock}
-use Rattle.event_log.specs.Actions.{Action, Take, Try, Give, Phase, Rests, Waits, Holds, cpu_of_action, phase}
-use Rattle.event_log.specs.Actions.{takes, gives, spot_of, AreLegal, next_action, action_in}
-use Rattle.event_log.specs.Sections.{Section, cpu_of_section, sections_in, block_after}
-use Rattle.event_log.proofs.Exclusion.{is_at, line_at, phase_own, phase_other}
-use Rattle.event_log.proofs.Foreign.{cpu_of_action_known}
-use Rattle.event_log.proofs.Line.{crowd, crowd_same, crowd_none}
-use Rattle.event_log.proofs.Same.{same_cpu_self}
-use Rattle.layer_traits.specs.Plans.{Table, Left, Acting, at_give, reply}
-use Rattle.layer_traits.specs.Protocol.{IsKnown}
+use Rattle.event_log.specs.{declared.ids.CpuId.CpuId, declared.ids.LockId.LockId, declared.ids.TheConstants.CPUS, History.AreForeign, History.IsLawful}
+use Rattle.event_log.specs.{History.same_cpu, History.same_lock, Actions.Action, Actions.Take, Actions.Try, Actions.Give, Actions.Phase, Actions.Rests}
+use Rattle.event_log.specs.{Actions.Waits, Actions.Holds, Actions.cpu_of_action, Actions.phase, Actions.takes, Actions.gives, Actions.spot_of, Actions.AreLegal}
+use Rattle.event_log.specs.{Actions.next_action, Actions.action_in, Sections.Section, Sections.cpu_of_section, Sections.sections_in, Sections.block_after}
+use Rattle.event_log.proofs.{Exclusion.is_at, Exclusion.line_at, Exclusion.phase_own, Exclusion.phase_other, Foreign.cpu_of_action_known, Line.crowd}
+use Rattle.event_log.proofs.{Line.crowd_same, Line.crowd_none, Same.same_cpu_self}
+use Rattle.layer_traits.specs.{Plans.Table, Plans.Left, Plans.Acting, Plans.at_give, Plans.reply, Protocol.IsKnown}
 
 -- no action is foreign to a holder that acts for every CPU
 pub no_foreign_acts : {N : Type 0} (ActsFor : CpuId → Type 0) → ((c : CpuId) → c.0 < CPUS → ActsFor c) → (others old : List (Action N))

@@ -1,31 +1,21 @@
 -- Calls at shared queues: their steps are lawful moves, calls of others are moves of others, and what a poll of a pass means in moves.
 use Rattle.std.proofs.Common.{◌≡◌, Bool, true, false, List, [], ◌∷◌, ◌++◌, Option, Some, None, MatchOption, is_some, if◌then◌else◌, refl, ap, sym, ◌∙◌, subst}
-use Rattle.event_log.specs.declared.ids.BufId.{BufId}
-use Rattle.event_log.specs.declared.ids.CpuId.{CpuId}
-use Rattle.event_log.specs.declared.ids.LockId.{LockId}
-use Rattle.event_log.specs.declared.ids.LockId.TheVariants.{Buffer}
-use Rattle.event_log.specs.declared.ids.Tid.{Tid}
-use Rattle.event_log.specs.History.{AreOthers, IsLawful, same_cpu}
-use Rattle.event_log.specs.Actions.{Action}
+use Rattle.event_log.specs.{declared.ids.BufId.BufId, declared.ids.CpuId.CpuId, declared.ids.LockId.LockId, declared.ids.LockId.TheVariants.Buffer}
+use Rattle.event_log.specs.{declared.ids.Tid.Tid, History.AreOthers, History.IsLawful, History.same_cpu, Actions.Action}
 use Rattle.thread_blocks.specs.Queues.{same_tid}
 use Rattle.thread_blocks.proofs.Members.{same_tid_true}
-use Rattle.layer_traits.specs.declared.moves.WaitList.{WaitList}
-use Rattle.layer_traits.specs.declared.passes.Pass.{Pass}
-use Rattle.layer_traits.specs.declared.passes.Pass.TheVariants.{Switch, YieldNow, Drain, MakeReady, End}
-use Rattle.layer_traits.specs.declared.queues.QueueCall.{QueueCall}
-use Rattle.layer_traits.specs.declared.queues.QueueCall.TheVariants.{Push, TakeAll, OnBuffer}
-use Rattle.layer_traits.specs.declared.queues.QueueEvent.{QueueEvent}
-use Rattle.layer_traits.specs.declared.scheds.SchedAnswer.{SchedAnswer}
-use Rattle.layer_traits.specs.declared.scheds.SchedCall.TheVariants as call
-use Rattle.layer_traits.specs.MoveRules.{WakesSleepers, edit_move, section_moves, slept_at, asleep_after, asleep_by}
-use Rattle.layer_traits.specs.Passes.{PassPolled, pass_after, pass_steps}
+use Rattle.layer_traits.specs.{declared.moves.WaitList.WaitList, declared.queues.QueueCall.QueueCall, declared.queues.QueueCall.TheVariants.Push}
+use Rattle.layer_traits.specs.{declared.queues.QueueCall.TheVariants.TakeAll, declared.queues.QueueCall.TheVariants.OnBuffer}
+use Rattle.layer_traits.specs.{declared.queues.QueueEvent.QueueEvent, declared.scheds.SchedAnswer.SchedAnswer, MoveRules.WakesSleepers, MoveRules.edit_move}
+use Rattle.layer_traits.specs.{MoveRules.section_moves, MoveRules.slept_at, MoveRules.asleep_after, MoveRules.asleep_by, Passes.PassPolled, Passes.pass_after}
+use Rattle.layer_traits.specs.{Passes.pass_steps, Plans.Act, Plans.Follows, Plans.Left, Plans.Now, Plans.Plan, Plans.Table, Plans.raised, Queues.CallAllowed}
+use Rattle.layer_traits.specs.{Queues.Kernel, Queues.QueueAllowed, Queues.buffer_sections, Queues.call_move, Queues.event, Queues.cpu_of_queue_event}
+use Rattle.layer_traits.specs.{Queues.moves_in, Queues.out_at, Scheds.SchedPolled, Scheds.events_of, Scheds.pass_call}
+use Rattle.layer_traits.specs.declared.passes.Pass.{Pass, TheVariants.Switch, TheVariants.YieldNow, TheVariants.Drain, TheVariants.MakeReady, TheVariants.End}
 use Rattle.layer_traits.specs.Places.{AreMoves, Asleep, Hand, Home, MayMove, Move, Moved, Pend, WaitChannel, Pushed, Step, Still, Threads, Took, Where, home_of}
-use Rattle.layer_traits.specs.Places.{is_asleep, is_cpu, is_wait_channel, is_thread, pending_by}
-use Rattle.layer_traits.specs.Places.{wait_channel_of, step, cpu_of_step, where_after, where_is, where_slept}
-use Rattle.layer_traits.specs.Places.{where_taken, where_woken}
-use Rattle.layer_traits.specs.Plans.{Act, Follows, Left, Now, Plan, Table, raised}
-use Rattle.layer_traits.specs.Queues.{CallAllowed, Kernel, QueueAllowed, buffer_sections, call_move, event, cpu_of_queue_event, moves_in, out_at}
-use Rattle.layer_traits.specs.Scheds.{SchedPolled, events_of, pass_call}
+use Rattle.layer_traits.specs.Places.{is_asleep, is_cpu, is_wait_channel, is_thread, pending_by, wait_channel_of, step, cpu_of_step, where_after, where_is}
+use Rattle.layer_traits.specs.Places.{where_slept, where_taken, where_woken}
+use Rattle.layer_traits.specs.declared.scheds.SchedCall.TheVariants as call
 
 -- Where a thread sleeps needs no home.
 

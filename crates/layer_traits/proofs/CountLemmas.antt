@@ -1,15 +1,12 @@
 -- Threads in lists, by count.
-use Rattle.std.proofs.Common.{◌≡◌, ◌+◌, ◌<◌, Bool, true, false, ◌||◌, List, [], ◌∷◌, ◌++◌, Option, Some, None}
-use Rattle.std.proofs.Common.{refl, ap, sym, ◌∙◌, subst, arith, add_assoc, zero-add}
+use Rattle.std.proofs.Common.{◌≡◌, ◌+◌, ◌<◌, Bool, true, false, ◌||◌, List, [], ◌∷◌, ◌++◌, Option, Some, None, refl, ap, sym, ◌∙◌, subst, arith, add_assoc}
+use Rattle.std.proofs.Common.{zero-add}
 use Rattle.std.proofs.lemmas.Bool.{eq-eqb, eqb-true, eqb-false, ne_eqb}
-use Rattle.event_log.specs.declared.ids.CpuId.{CpuId}
-use Rattle.event_log.specs.declared.ids.Tid.{Tid}
-use Rattle.event_log.specs.History.{same_cpu}
+use Rattle.event_log.specs.{declared.ids.CpuId.CpuId, declared.ids.Tid.Tid, History.same_cpu}
 use Rattle.event_log.proofs.Same.{same_cpu_self, same_cpu_true}
 use Rattle.thread_blocks.specs.Queues.{same_tid, is_in, first, rest}
 use Rattle.thread_blocks.proofs.Members.{same_tid_self}
-use Rattle.layer_traits.specs.Passes.{as_list}
-use Rattle.layer_traits.specs.Places.{is_cpu, is_thread, one_if, count_in}
+use Rattle.layer_traits.specs.{Passes.as_list, Places.is_cpu, Places.is_thread, Places.one_if, Places.count_in}
 
 pub same_tid_sym : (t u : Tid) → same_tid t u ≡ same_tid u t
 same_tid_sym t u = go (same_tid u t) refl

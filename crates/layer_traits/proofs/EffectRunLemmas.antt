@@ -1,16 +1,12 @@
 -- Effects that may come one after the other are a run.
-use Rattle.std.proofs.Common.{◌≡◌, ℕ, ◌+◌, ◌<◌, ◌%◌, ◌^◌, ◌≤◌, Bool, ◌&&◌, ◌==◌, List, [], ◌∷◌, ◌++◌, length, reverse, if◌then◌else◌}
-use Rattle.std.proofs.Common.{refl, ap, sym, ◌∙◌, subst, arith, count_by, add_comm}
-use Rattle.std.proofs.lemmas.List.{reverse-append}
-use Rattle.std.proofs.lemmas.List.Sums.{count_by-le-length, sum_by-cons, sum_by_push}
+use Rattle.std.proofs.Common.{◌≡◌, ℕ, ◌+◌, ◌<◌, ◌%◌, ◌^◌, ◌≤◌, Bool, ◌&&◌, ◌==◌, List, [], ◌∷◌, ◌++◌, length, reverse, if◌then◌else◌, refl, ap, sym, ◌∙◌, subst}
+use Rattle.std.proofs.Common.{arith, count_by, add_comm}
+use Rattle.std.proofs.lemmas.List.{reverse-append, Sums.count_by-le-length, Sums.sum_by-cons, Sums.sum_by_push}
 use Rattle.std.specs.Prelude.{nat_lt, slice_index}
-use Rattle.event_log.specs.declared.entries.Entry.{Entry}
-use Rattle.event_log.specs.declared.entries.Kind.TheVariants.{Close}
-use Rattle.event_log.specs.Buffers.{IsAllowedEffect, items_of}
-use Rattle.event_log.specs.Runs.{IsNext, IsRun, after_entry, kind_eq}
+use Rattle.event_log.specs.{declared.entries.Entry.Entry, declared.entries.Kind.TheVariants.Close, Buffers.IsAllowedEffect, Buffers.items_of, Runs.IsNext}
+use Rattle.event_log.specs.{Runs.IsRun, Runs.after_entry, Runs.kind_eq}
 use Rattle.event_log.proofs.RunLemmas.{run_more, run_none}
-use Rattle.layer_traits.specs.BufferEffects.{contents_of}
-use Rattle.layer_traits.specs.EffectRuns.{EffectsAreRun}
+use Rattle.layer_traits.specs.{BufferEffects.contents_of, EffectRuns.EffectsAreRun}
 
 turned : {E : Type 0} (e : E) (es : List E) → reverse (e ∷ es) ≡ reverse es ++ e ∷ []
 turned e es = reverse-append (e ∷ []) es

@@ -1,23 +1,14 @@
 -- How the told log of grant words grows, and what its counts and words are.
 use Rattle.std.proofs.Common.{◌≡◌, ℕ, ◌<◌, List, [], ◌∷◌, ◌++◌, Option, Some, None, MatchOption, slice_index, refl, ap, sym, subst, ◌∙◌}
-use Rattle.event_log.specs.declared.ids.CpuId.{CpuId}
-use Rattle.event_log.specs.declared.ids.LockId.{LockId}
-use Rattle.event_log.specs.declared.ids.TheConstants.{CPUS}
-use Rattle.event_log.specs.declared.events.Event.{Event}
-use Rattle.event_log.specs.declared.events.Event.TheVariants.{Draw, Look, Free}
-use Rattle.event_log.specs.declared.grants.GrantEvent.{GrantEvent}
-use Rattle.event_log.specs.Actions.{gives, takes}
-use Rattle.event_log.specs.Grants.{WordFits, acts_of_grants, cpu_of_grant, grant_lock_phase, grant_word, tickets}
-use Rattle.event_log.specs.History.{AreOthers, Adds, same_cpu}
-use Rattle.event_log.specs.Sections.{block_after}
-use Rattle.event_log.specs.WordsLog.{IsLegalWords, Holding, Waiting, cpu_of_event, draws, frees, lock_phase}
-use Rattle.event_log.proofs.GrantWords.{legal_grants, one_word, takes_grants, words_fit}
-use Rattle.event_log.proofs.Tickets.{gives_acts, takes_acts}
-use Rattle.layer_traits.specs.declared.edits.Mark.{Mark}
-use Rattle.layer_traits.specs.GrantProtocol.{grant_sections}
-use Rattle.layer_traits.specs.AsGrants.{as_grant, as_grants}
-use Rattle.layer_traits.specs.Laws.AsGrants.{acts_as_grants, sections_as_grants, stands_as_grants, grants_agree}
-use Rattle.layer_traits.specs.WordsProtocol.{sections}
+use Rattle.event_log.specs.{declared.ids.CpuId.CpuId, declared.ids.LockId.LockId, declared.ids.TheConstants.CPUS, declared.grants.GrantEvent.GrantEvent}
+use Rattle.event_log.specs.{Actions.gives, Actions.takes, Grants.WordFits, Grants.acts_of_grants, Grants.cpu_of_grant, Grants.grant_lock_phase}
+use Rattle.event_log.specs.{Grants.grant_word, Grants.tickets, History.AreOthers, History.Adds, History.same_cpu, Sections.block_after, WordsLog.IsLegalWords}
+use Rattle.event_log.specs.{WordsLog.Holding, WordsLog.Waiting, WordsLog.cpu_of_event, WordsLog.draws, WordsLog.frees, WordsLog.lock_phase}
+use Rattle.event_log.specs.declared.events.Event.{Event, TheVariants.Draw, TheVariants.Look, TheVariants.Free}
+use Rattle.event_log.proofs.{GrantWords.legal_grants, GrantWords.one_word, GrantWords.takes_grants, GrantWords.words_fit, Tickets.gives_acts}
+use Rattle.event_log.proofs.{Tickets.takes_acts}
+use Rattle.layer_traits.specs.{declared.edits.Mark.Mark, GrantProtocol.grant_sections, AsGrants.as_grant, AsGrants.as_grants, Laws.AsGrants.acts_as_grants}
+use Rattle.layer_traits.specs.{Laws.AsGrants.sections_as_grants, Laws.AsGrants.stands_as_grants, Laws.AsGrants.grants_agree, WordsProtocol.sections}
 
 module _ {M : Type 0} where
   -- the events that came after these, as they are told

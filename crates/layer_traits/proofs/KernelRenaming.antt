@@ -1,44 +1,32 @@
 -- A layer that wraps its edits in those of the layer beneath: what was seen, allowed, polled and planned there is so here, under the
 -- layer's own names.
-use Rattle.std.proofs.Common.{◌≡◌, ◌≤◌, length, Bool, true, false, List, [], ◌∷◌, ◌++◌, Option, Some, None, IsSome}
-use Rattle.std.proofs.Common.{MatchOption, option_map, is_some, if◌then◌else◌, map, refl, ap, sym, ◌∙◌, subst}
+use Rattle.std.proofs.Common.{◌≡◌, ◌≤◌, length, Bool, true, false, List, [], ◌∷◌, ◌++◌, Option, Some, None, IsSome, MatchOption, option_map, is_some}
+use Rattle.std.proofs.Common.{if◌then◌else◌, map, refl, ap, sym, ◌∙◌, subst}
 use Rattle.std.proofs.Math.Path.{transport}
-use Rattle.event_log.specs.declared.ids.BufId.{BufId}
-use Rattle.event_log.specs.declared.ids.CpuId.{CpuId}
-use Rattle.event_log.specs.declared.ids.LockId.{LockId}
-use Rattle.event_log.specs.declared.ids.LockId.TheVariants.{Pending, Buffer}
-use Rattle.event_log.specs.declared.ids.TheConstants.{THREADS}
-use Rattle.event_log.specs.History.{IsLawful, AreOthers, Grows}
-use Rattle.event_log.specs.Actions.{Action, renamed}
-use Rattle.event_log.specs.Sections.{Section, renamed_section, sections_in, block_after}
+use Rattle.event_log.specs.{declared.ids.BufId.BufId, declared.ids.CpuId.CpuId, declared.ids.LockId.LockId, declared.ids.LockId.TheVariants.Pending}
+use Rattle.event_log.specs.{declared.ids.LockId.TheVariants.Buffer, declared.ids.TheConstants.THREADS, History.IsLawful, History.AreOthers, History.Grows}
+use Rattle.event_log.specs.{Actions.Action, Actions.renamed, Sections.Section, Sections.renamed_section, Sections.sections_in, Sections.block_after}
 use Rattle.event_log.proofs.Renaming.{next_action_renamed, others_renamed, sections_in_renamed}
-use Rattle.layer_traits.specs.declared.passes.Pass.{Pass}
+use Rattle.layer_traits.specs.{declared.passes.Pass.Pass, declared.queue_edits.QueueBlock.QueueBlock, declared.queue_edits.QueueEdit.QueueEdit}
+use Rattle.layer_traits.specs.{declared.queues.QueueAnswer.QueueAnswer, declared.queues.QueueCall.QueueCall, declared.queues.QueueEvent.QueueEvent}
+use Rattle.layer_traits.specs.{declared.scheds.SchedAnswer.SchedAnswer, declared.scheds.SchedAnswer.TheVariants.Answer, declared.scheds.SchedCall.SchedCall}
+use Rattle.layer_traits.specs.{MoveRules.edit_move, Passes.own_slept, Passes.own_woken, Passes.pass_after, Passes.queue_for, Places.Threads, Places.Moved}
+use Rattle.layer_traits.specs.{Places.step, Places.MayEdit, Places.MayPush, Places.home_of, Places.pending_by, Plans.Left, Plans.Plan, Plans.Now, Plans.Act}
+use Rattle.layer_traits.specs.{Plans.Follows, Plans.raised, Plans.reply, Plans.table_of, Protocol.section, QueueBlocks.StartsAs, QueueBlocks.StartsWell}
+use Rattle.layer_traits.specs.{QueueBlocks.above_of, QueueBlocks.homes_in, QueueBlocks.homes_of, QueueBlocks.inner, QueueRules.AreProper, QueueRules.IsProper}
+use Rattle.layer_traits.specs.{QueueRules.queue_answer, QueueRules.queue_edited, QueueRules.queue_rules, Queues.Kernel, Queues.CallAllowed, Queues.IsKnownEvent}
+use Rattle.layer_traits.specs.{Queues.QueueAllowed, Queues.buffer_sections, Queues.call_move, Queues.event, Queues.cpu_of_queue_event, Queues.event_of}
+use Rattle.layer_traits.specs.{Queues.call_at, Queues.moves_in, Queues.out_at, Queues.with_section, Renaming.named, Renaming.renamed_call}
+use Rattle.layer_traits.specs.{Renaming.renamed_edit, Renaming.renamed_event, Renaming.renamed_events, Renaming.renamed_sched, Renaming.viewed}
+use Rattle.layer_traits.specs.{Renaming.viewed_block, Scheds.EditStays, Scheds.IsLocal, Scheds.SchedPolled, Scheds.answer_to, Scheds.events_of, Scheds.left}
+use Rattle.layer_traits.specs.{Scheds.left_by, Scheds.own_after, Scheds.own_answered, Scheds.queue_call, Scheds.sched_plan}
 use Rattle.layer_traits.specs.declared.passes.Pass.TheVariants.{Switch, YieldNow, Drain, MakeReady, End}
-use Rattle.layer_traits.specs.declared.queue_edits.QueueBlock.{QueueBlock}
-use Rattle.layer_traits.specs.declared.queue_edits.QueueBlock.TheVariants as block
-use Rattle.layer_traits.specs.declared.queue_edits.QueueEdit.{QueueEdit}
-use Rattle.layer_traits.specs.declared.queue_edits.QueueEdit.TheVariants as edit
-use Rattle.layer_traits.specs.declared.queues.QueueAnswer.{QueueAnswer}
-use Rattle.layer_traits.specs.declared.queues.QueueAnswer.TheVariants as told
-use Rattle.layer_traits.specs.declared.queues.QueueCall.{QueueCall}
-use Rattle.layer_traits.specs.declared.queues.QueueCall.TheVariants as queue
-use Rattle.layer_traits.specs.declared.queues.QueueEvent.{QueueEvent}
-use Rattle.layer_traits.specs.declared.scheds.SchedAnswer.{SchedAnswer}
-use Rattle.layer_traits.specs.declared.scheds.SchedAnswer.TheVariants.{Answer}
-use Rattle.layer_traits.specs.declared.scheds.SchedCall.{SchedCall}
-use Rattle.layer_traits.specs.declared.scheds.SchedCall.TheVariants as call
-use Rattle.layer_traits.specs.MoveRules.{edit_move}
-use Rattle.layer_traits.specs.Passes.{own_slept, own_woken, pass_after, queue_for}
-use Rattle.layer_traits.specs.Places.{Threads, Moved, step, MayEdit, MayPush, home_of, pending_by}
-use Rattle.layer_traits.specs.Plans.{Left, Plan, Now, Act, Follows, raised, reply, table_of}
-use Rattle.layer_traits.specs.Protocol.{section}
-use Rattle.layer_traits.specs.QueueBlocks.{StartsAs, StartsWell, above_of, homes_in, homes_of, inner}
-use Rattle.layer_traits.specs.QueueRules.{AreProper, IsProper, queue_answer, queue_edited, queue_rules}
-use Rattle.layer_traits.specs.Queues.{Kernel, CallAllowed, IsKnownEvent, QueueAllowed, buffer_sections, call_move}
-use Rattle.layer_traits.specs.Queues.{event, cpu_of_queue_event, event_of, call_at, moves_in, out_at, with_section}
-use Rattle.layer_traits.specs.Renaming.{named, renamed_call, renamed_edit, renamed_event, renamed_events, renamed_sched, viewed, viewed_block}
-use Rattle.layer_traits.specs.Scheds.{EditStays, IsLocal, SchedPolled, answer_to, events_of, left, left_by, own_after, own_answered, queue_call, sched_plan}
 use Rattle.layer_traits.proofs.PlanRenaming.{block_viewed, map-append, reply_viewed}
+use Rattle.layer_traits.specs.declared.queue_edits.QueueBlock.TheVariants as block
+use Rattle.layer_traits.specs.declared.queue_edits.QueueEdit.TheVariants as edit
+use Rattle.layer_traits.specs.declared.queues.QueueAnswer.TheVariants as told
+use Rattle.layer_traits.specs.declared.queues.QueueCall.TheVariants as queue
+use Rattle.layer_traits.specs.declared.scheds.SchedCall.TheVariants as call
 
 -- Openings that are seen so.
 

@@ -1,23 +1,17 @@
 -- The waiting lists of locks and the places of threads agree after each section, so whom a section wakes sleeps.
-use Rattle.std.proofs.Common.{◌≡◌, ◌+◌, ◌<◌, Bool, true, false, not, ◌&&◌, List, [], ◌∷◌, ◌++◌, Option, Some, None, option_map, if◌then◌else◌}
-use Rattle.std.proofs.Common.{refl, ap, sym, ◌∙◌, subst, arith}
+use Rattle.std.proofs.Common.{◌≡◌, ◌+◌, ◌<◌, Bool, true, false, not, ◌&&◌, List, [], ◌∷◌, ◌++◌, Option, Some, None, option_map, if◌then◌else◌, refl, ap, sym}
+use Rattle.std.proofs.Common.{◌∙◌, subst, arith}
 use Rattle.std.proofs.lemmas.Bool.{lt-ltb, and_parts, and_left, and_right, or_parts, true≢false}
-use Rattle.event_log.specs.declared.ids.LockId.{LockId}
-use Rattle.event_log.specs.declared.ids.Tid.{Tid}
-use Rattle.event_log.specs.declared.ids.TheConstants.{THREADS}
-use Rattle.event_log.specs.History.{same_lock, IsLawful}
-use Rattle.event_log.specs.Sections.{Section, block_after}
+use Rattle.event_log.specs.{declared.ids.LockId.LockId, declared.ids.Tid.Tid, declared.ids.TheConstants.THREADS, History.same_lock, History.IsLawful}
+use Rattle.event_log.specs.{Sections.Section, Sections.block_after}
 use Rattle.event_log.proofs.Same.{same_lock_self, same_lock_true}
-use Rattle.layer_traits.specs.declared.moves.WaitList.{WaitList}
-use Rattle.layer_traits.specs.declared.moves.WaitList.TheVariants.{Sleepers, Receivers, Senders}
-use Rattle.layer_traits.specs.declared.sleeps.Wake.{Wake}
-use Rattle.layer_traits.specs.declared.sleeps.Wake.TheVariants.{Nobody, FirstSleeper, Receiver, Sender}
-use Rattle.layer_traits.specs.declared.sleeps.Outcome.{Outcome}
-use Rattle.layer_traits.specs.ListsAgree.{same_list, is_at, Agrees}
-use Rattle.layer_traits.specs.MoveRules.{edit_move, section_moves, slept_at, asleep_after, asleep_by}
-use Rattle.layer_traits.specs.Places.{WaitChannel, At, Moved, is_thread, is_wait_channel, one_if, count_in}
-use Rattle.layer_traits.specs.Sleeping.{SleepRules, SleepState, joined, wait_list_joined, left, woken, wait_list_of, wait_list_at, answer_above}
-use Rattle.layer_traits.specs.Sleeping.{sleep_edited, sleep_answer, sleep_woke, sleep_rules, sleep_moves, NobodySleeps, IsAwake}
+use Rattle.layer_traits.specs.{declared.moves.WaitList.WaitList, declared.moves.WaitList.TheVariants.Sleepers, declared.moves.WaitList.TheVariants.Receivers}
+use Rattle.layer_traits.specs.{declared.moves.WaitList.TheVariants.Senders, declared.sleeps.Outcome.Outcome, ListsAgree.same_list, ListsAgree.is_at}
+use Rattle.layer_traits.specs.{ListsAgree.Agrees, MoveRules.edit_move, MoveRules.section_moves, MoveRules.slept_at, MoveRules.asleep_after, MoveRules.asleep_by}
+use Rattle.layer_traits.specs.{Places.WaitChannel, Places.At, Places.Moved, Places.is_thread, Places.is_wait_channel, Places.one_if, Places.count_in}
+use Rattle.layer_traits.specs.declared.sleeps.Wake.{Wake, TheVariants.Nobody, TheVariants.FirstSleeper, TheVariants.Receiver, TheVariants.Sender}
+use Rattle.layer_traits.specs.Sleeping.{SleepRules, SleepState, joined, wait_list_joined, left, woken, wait_list_of, wait_list_at, answer_above, sleep_edited}
+use Rattle.layer_traits.specs.Sleeping.{sleep_answer, sleep_woke, sleep_rules, sleep_moves, NobodySleeps, IsAwake}
 use Rattle.layer_traits.proofs.CountLemmas.{same_tid_sym, count_append, count_front, one_if_most, in_counted, is_thread_self, not_counted}
 use Rattle.thread_blocks.specs.Queues.{same_tid, is_in, first, rest, without}
 use Rattle.thread_blocks.proofs.Members.{same_tid_true}

@@ -1,13 +1,10 @@
 -- What a look at a waiting section means to those above: it follows every plan that acts, and says the same under other names.
 use Rattle.std.proofs.Common.{List, ◌∷◌, ◌==◌, Option, None, option_map, map, ap, sym, ◌∙◌}
-use Rattle.event_log.specs.declared.ids.CpuId.{CpuId}
-use Rattle.event_log.specs.declared.ids.LockId.{LockId}
-use Rattle.event_log.specs.Actions.{Action, Try, action_in, renamed}
-use Rattle.event_log.specs.Sections.{block_after, sections_in}
+use Rattle.event_log.specs.{declared.ids.CpuId.CpuId, declared.ids.LockId.LockId, Actions.Action, Actions.Try, Actions.action_in, Actions.renamed}
+use Rattle.event_log.specs.{Sections.block_after, Sections.sections_in}
 use Rattle.event_log.proofs.Renaming.{phase_renamed, gives_renamed, spot_renamed, others_renamed}
 use Rattle.layer_traits.proofs.PlanRenaming.{map-append}
-use Rattle.layer_traits.specs.Looks.{Tries}
-use Rattle.layer_traits.specs.Plans.{Table, Left, Act, Follows, at_give}
+use Rattle.layer_traits.specs.{Looks.Tries, Plans.Table, Plans.Left, Plans.Act, Plans.Follows, Plans.at_give}
 
 -- a look at a waiting section follows any plan that acts, and answers nothing
 pub tries_follow : {N B R S A : Type 0} (ActsFor : CpuId → Type 0) (table : Table N B R) (opening : LockId → Option B) (cpu : CpuId) (lock : LockId) (name : N)

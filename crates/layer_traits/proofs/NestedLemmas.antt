@@ -2,40 +2,26 @@
 -- poll of a section means as a poll of its call.
 use Rattle.std.proofs.Common.{◌≡◌, ◌<◌, Bool, true, false, ◌&&◌, not, List, [], ◌∷◌, ◌++◌, Option, Some, None, MatchOption, is_some, option_map, if◌then◌else◌}
 use Rattle.std.proofs.Common.{map, refl, ap, sym, ◌∙◌, subst, arith}
-use Rattle.std.proofs.lemmas.Bool.{lt-ltb}
-use Rattle.std.proofs.lemmas.Option.{slice_get_within}
-use Rattle.event_log.specs.declared.ids.BufId.{BufId}
-use Rattle.event_log.specs.declared.ids.CpuId.{CpuId}
-use Rattle.event_log.specs.declared.ids.LockId.{LockId}
-use Rattle.event_log.specs.declared.ids.LockId.TheVariants.{Pending, Buffer}
-use Rattle.event_log.specs.declared.ids.Tid.{Tid}
-use Rattle.event_log.specs.declared.ids.TheConstants.{THREADS}
-use Rattle.event_log.specs.History.{AreForeign, AreOthers, Grows, IsLawful, same_cpu, same_lock}
-use Rattle.event_log.specs.Sections.{Section, block_after, cpu_of_section}
+use Rattle.std.proofs.lemmas.{Bool.lt-ltb, Option.slice_get_within}
+use Rattle.event_log.specs.{declared.ids.BufId.BufId, declared.ids.CpuId.CpuId, declared.ids.LockId.LockId, declared.ids.LockId.TheVariants.Pending}
+use Rattle.event_log.specs.{declared.ids.LockId.TheVariants.Buffer, declared.ids.Tid.Tid, declared.ids.TheConstants.THREADS, History.AreForeign}
+use Rattle.event_log.specs.{History.AreOthers, History.Grows, History.IsLawful, History.same_cpu, History.same_lock, Sections.Section, Sections.block_after}
+use Rattle.event_log.specs.{Sections.cpu_of_section}
 use Rattle.thread_blocks.specs.Queues.{is_in}
-use Rattle.layer_traits.specs.declared.queue_edits.QueueBlock.{QueueBlock}
+use Rattle.layer_traits.specs.{declared.queue_edits.QueueBlock.QueueBlock, declared.queue_edits.QueueEdit.QueueEdit, declared.queues.QueueAnswer.QueueAnswer}
+use Rattle.layer_traits.specs.{declared.queues.QueueAnswer.TheVariants.Done, declared.queues.QueueAnswer.TheVariants.Taken}
+use Rattle.layer_traits.specs.{declared.queues.QueueAnswer.TheVariants.Answer, declared.queues.QueueCall.QueueCall, declared.queues.QueueCall.TheVariants.Push}
+use Rattle.layer_traits.specs.{declared.queues.QueueCall.TheVariants.TakeAll, declared.queues.QueueCall.TheVariants.OnBuffer}
+use Rattle.layer_traits.specs.{declared.queues.QueueEvent.QueueEvent, MoveRules.MoveRules, MoveRules.WakesSleepers, MoveRules.edit_move, Places.AreMoves}
+use Rattle.layer_traits.specs.{Places.MayMove, Places.MayPush, Places.pending_after, Places.pending_by, Protocol.IsKnown, Protocol.Rules, Protocol.StaysAllowed}
+use Rattle.layer_traits.specs.{Protocol.section, QueueBlocks.StartsAs, QueueBlocks.StartsWell, QueueBlocks.above_of, QueueBlocks.homes_in, QueueBlocks.inner}
+use Rattle.layer_traits.specs.{QueueBlocks.with_queue, QueueRules.AreProper, QueueRules.IsProper, QueueRules.IsProperCall, QueueRules.SectionAllowed}
+use Rattle.layer_traits.specs.{QueueRules.queue_answer, QueueRules.queue_edited, QueueRules.queue_rules, Polls.MayPoll, Polls.Polled, Sleeping.joined}
+use Rattle.layer_traits.specs.Queues.{CallAllowed, call_move, IsKnownEvent, Kernel, MayQueue, QueueAllowed, QueuePolled, StaysCallable, answer_of}
+use Rattle.layer_traits.specs.Queues.{buffer_sections, call_at, edit_of, event, cpu_of_queue_event, event_of, kernel, lock_of, moves_in, out_at}
+use Rattle.layer_traits.proofs.{CallLemmas.moves_lawful, CountLemmas.same_cpu_sym, PlaceLemmas.pend_where, PlanRenaming.map-append}
 use Rattle.layer_traits.specs.declared.queue_edits.QueueBlock.TheVariants as block
-use Rattle.layer_traits.specs.declared.queue_edits.QueueEdit.{QueueEdit}
 use Rattle.layer_traits.specs.declared.queue_edits.QueueEdit.TheVariants as edit
-use Rattle.layer_traits.specs.declared.queues.QueueAnswer.{QueueAnswer}
-use Rattle.layer_traits.specs.declared.queues.QueueAnswer.TheVariants.{Done, Taken, Answer}
-use Rattle.layer_traits.specs.declared.queues.QueueCall.{QueueCall}
-use Rattle.layer_traits.specs.declared.queues.QueueCall.TheVariants.{Push, TakeAll, OnBuffer}
-use Rattle.layer_traits.specs.declared.queues.QueueEvent.{QueueEvent}
-use Rattle.layer_traits.specs.MoveRules.{MoveRules, WakesSleepers, edit_move}
-use Rattle.layer_traits.specs.Places.{AreMoves, MayMove, MayPush, pending_after, pending_by}
-use Rattle.layer_traits.specs.Protocol.{IsKnown, Rules, StaysAllowed, section}
-use Rattle.layer_traits.specs.QueueBlocks.{StartsAs, StartsWell, above_of, homes_in, inner, with_queue}
-use Rattle.layer_traits.specs.QueueRules.{AreProper, IsProper, IsProperCall, SectionAllowed, queue_answer, queue_edited, queue_rules}
-use Rattle.layer_traits.specs.Queues.{CallAllowed, call_move, IsKnownEvent, Kernel, MayQueue, QueueAllowed}
-use Rattle.layer_traits.specs.Queues.{QueuePolled, StaysCallable, answer_of, buffer_sections}
-use Rattle.layer_traits.specs.Queues.{call_at, edit_of, event, cpu_of_queue_event, event_of, kernel, lock_of, moves_in, out_at}
-use Rattle.layer_traits.specs.Polls.{MayPoll, Polled}
-use Rattle.layer_traits.specs.Sleeping.{joined}
-use Rattle.layer_traits.proofs.CallLemmas.{moves_lawful}
-use Rattle.layer_traits.proofs.CountLemmas.{same_cpu_sym}
-use Rattle.layer_traits.proofs.PlaceLemmas.{pend_where}
-use Rattle.layer_traits.proofs.PlanRenaming.{map-append}
 
 -- A section is its call.
 

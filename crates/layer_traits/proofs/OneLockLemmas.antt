@@ -1,22 +1,14 @@
 -- The home and the counts of one lock, event by event.
 use Rattle.std.proofs.Common.{◌≡◌, ℕ, ◌+◌, ◌%◌, ◌^◌, ◌<◌, ◌≤◌, Bool, true, false, List, [], ◌∷◌, ◌==◌, Option, Some, None, IsSome, option_map, if◌then◌else◌}
 use Rattle.std.proofs.Common.{refl, ap, sym, ◌∙◌, subst}
-use Rattle.event_log.specs.declared.ids.CpuId.{CpuId}
-use Rattle.event_log.specs.declared.ids.LockId.{LockId}
-use Rattle.event_log.specs.declared.events.Event.{Event}
-use Rattle.event_log.specs.declared.events.Event.TheVariants.{Draw, Look, Free}
-use Rattle.event_log.specs.declared.ids.TheConstants.{CPUS}
-use Rattle.event_log.specs.Actions.{acts_of, gives, phase, spot_of}
-use Rattle.event_log.specs.History.{same_cpu, same_lock}
+use Rattle.event_log.specs.{declared.ids.CpuId.CpuId, declared.ids.LockId.LockId, declared.events.Event.Event, declared.events.Event.TheVariants.Draw}
+use Rattle.event_log.specs.{declared.events.Event.TheVariants.Look, declared.events.Event.TheVariants.Free, declared.ids.TheConstants.CPUS, Actions.acts_of}
+use Rattle.event_log.specs.{Actions.gives, Actions.phase, Actions.spot_of, History.same_cpu, History.same_lock, Sections.block_after}
 use Rattle.event_log.specs.WordsLog.{IsLegalWords, MayFollow, Idle, Waiting, Holding, cpu_of_event, left_by, lock_phase, draws, frees, is_free}
-use Rattle.event_log.specs.Sections.{block_after}
-use Rattle.event_log.proofs.Exclusion.{is_at, near}
-use Rattle.event_log.proofs.Same.{same_cpu_self, same_cpu_true, same_lock_self}
+use Rattle.event_log.proofs.{Exclusion.is_at, Exclusion.near, Same.same_cpu_self, Same.same_cpu_true, Same.same_lock_self, Observed.TicketOf, Observed.phase_of}
 use Rattle.event_log.proofs.Tickets.{gives_acts, legal_acts, one_inside, phase_acts, same_rests, lock_phase_other, ticket_at}
-use Rattle.event_log.proofs.Observed.{TicketOf, phase_of}
-use Rattle.layer_traits.specs.declared.edits.Mark.{Mark}
-use Rattle.layer_traits.specs.OneLock.{SomeoneInside, NobodyInside, HomeFits}
-use Rattle.layer_traits.specs.WordsProtocol.{edit_of, sections}
+use Rattle.layer_traits.specs.{declared.edits.Mark.Mark, OneLock.SomeoneInside, OneLock.NobodyInside, OneLock.HomeFits, WordsProtocol.edit_of}
+use Rattle.layer_traits.specs.{WordsProtocol.sections}
 
 -- the lock whose word an event acts on
 abbrev pub event_lock : {M : Type 0} → Event M → LockId

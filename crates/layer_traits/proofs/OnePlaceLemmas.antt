@@ -1,14 +1,12 @@
 -- Each thread stands in exactly one place: the sums over all CPUs, by cases on the thread's home and place.
-use Rattle.std.proofs.Common.{◌≡◌, ℕ, zero, suc, ◌+◌, ◌<◌, ◌⊎◌, inl, inr, true, false, ◌&&◌, List}
-use Rattle.std.proofs.Common.{Option, Some, None, is_some, refl, ap, sym, ◌∙◌, arith}
+use Rattle.std.proofs.Common.{◌≡◌, ℕ, zero, suc, ◌+◌, ◌<◌, ◌⊎◌, inl, inr, true, false, ◌&&◌, List, Option, Some, None, is_some, refl, ap, sym, ◌∙◌, arith}
 use Rattle.std.proofs.lemmas.Bool.{and_right, cases_eq, ne_eqb}
-use Rattle.event_log.specs.declared.ids.CpuId.{CpuId}
-use Rattle.event_log.specs.declared.ids.Tid.{Tid}
-use Rattle.event_log.specs.History.{same_cpu}
+use Rattle.event_log.specs.{declared.ids.CpuId.CpuId, declared.ids.Tid.Tid, History.same_cpu}
 use Rattle.event_log.proofs.Same.{same_cpu_self}
-use Rattle.layer_traits.specs.OnePlace.{total, cpu_at, running, held, pending, over, AllStand, OnePlace}
-use Rattle.layer_traits.specs.Places.{Step, Threads, Where, Home, Hand, Pend, Asleep, home_of, is_cpu, is_thread}
-use Rattle.layer_traits.specs.Places.{is_asleep, is_home, is_hand, is_pend, where_is, pending_by, one_if, count_in, copies}
+use Rattle.layer_traits.specs.{OnePlace.total, OnePlace.cpu_at, OnePlace.running, OnePlace.held, OnePlace.pending, OnePlace.over, OnePlace.AllStand}
+use Rattle.layer_traits.specs.{OnePlace.OnePlace, Places.Step, Places.Threads, Places.Where, Places.Home, Places.Hand, Places.Pend, Places.Asleep}
+use Rattle.layer_traits.specs.{Places.home_of, Places.is_cpu, Places.is_thread, Places.is_asleep, Places.is_home, Places.is_hand, Places.is_pend}
+use Rattle.layer_traits.specs.{Places.where_is, Places.pending_by, Places.one_if, Places.count_in, Places.copies}
 use Rattle.layer_traits.proofs.PlaceLemmas.{pend_home, away_known, hand_home, pend_count}
 
 pub total_same : (f g : ℕ → ℕ) (n : ℕ) → ((k : ℕ) → k < n → f k ≡ g k) → total f n ≡ total g n

@@ -2,8 +2,7 @@
 use Rattle.std.proofs.Common.{◌≡◌, Option, Some, None, option_map, refl, ap, sym, ◌∙◌, subst}
 use Rattle.std.proofs.lemmas.Option.{same_Some}
 use Rattle.event_log.specs.declared.ids.CpuId.{CpuId}
-use Rattle.layer_traits.specs.Owned.{IsHeld, IsObserved}
-use Rattle.layer_traits.specs.Observed.{IsObservedAs}
+use Rattle.layer_traits.specs.{Owned.IsHeld, Owned.IsObserved, Observed.IsObservedAs}
 
 -- what is true under one name is true under another
 pub same_shown : {P A : Type 0} (Fits : P → Type 0) (cpu_of : P → CpuId) (IsInside : CpuId → Type 0) (here : P → Option A) (home truth other : Option A)

@@ -1,23 +1,19 @@
 -- Places under moves: what a move may do to a place, that moves of others leave a CPU's own alone, who stands in a pending queue,
 -- and that each change of what a CPU has of its own keeps its agreement with the places.
-use Rattle.std.proofs.Common.{◌≡◌, ◌≢◌, ℕ, zero, suc, ◌+◌, ◌<◌, Bool, true, false, ◌&&◌, List, [], ◌∷◌, ◌++◌, Option, Some, None}
-use Rattle.std.proofs.Common.{MatchOption, IsSome, is_some, if◌then◌else◌, refl, ap, sym, ◌∙◌, subst, ap₂, arith, zero-add, slice_get}
+use Rattle.std.proofs.Common.{◌≡◌, ◌≢◌, ℕ, zero, suc, ◌+◌, ◌<◌, Bool, true, false, ◌&&◌, List, [], ◌∷◌, ◌++◌, Option, Some, None, MatchOption, IsSome, is_some}
+use Rattle.std.proofs.Common.{if◌then◌else◌, refl, ap, sym, ◌∙◌, subst, ap₂, arith, zero-add, slice_get}
 use Rattle.std.proofs.lemmas.Bool.{and_parts, and_right, eq-eqb, ne_eqb}
-use Rattle.event_log.specs.declared.ids.CpuId.{CpuId}
-use Rattle.event_log.specs.declared.ids.LockId.{LockId}
-use Rattle.event_log.specs.declared.ids.Tid.{Tid}
-use Rattle.event_log.specs.History.{same_cpu, AreOthers}
+use Rattle.event_log.specs.{declared.ids.CpuId.CpuId, declared.ids.LockId.LockId, declared.ids.Tid.Tid, History.same_cpu, History.AreOthers}
 use Rattle.event_log.proofs.Same.{same_cpu_self, same_cpu_true}
 use Rattle.thread_blocks.specs.Queues.{same_tid, is_in}
 use Rattle.thread_blocks.proofs.Members.{tid_numbered, same_tid_true}
-use Rattle.layer_traits.specs.declared.moves.WaitList.{WaitList}
-use Rattle.layer_traits.specs.Passes.{as_list, or_else, switched, took, passed_on, finished, own_slept, own_woken}
-use Rattle.layer_traits.specs.Places.{home_of, is_cpu, is_thread, WaitChannel, At, Where, Home, Hand, Pend, Asleep, Move, Pushed, Took}
-use Rattle.layer_traits.specs.Places.{Moved, Still, Step, step, cpu_of_step, where_woken, where_taken, where_slept, where_after}
-use Rattle.layer_traits.specs.Places.{where_is, is_asleep, is_home, is_hand, is_pend, pending_after, pending_by, MayEdit, MayMove}
-use Rattle.layer_traits.specs.Places.{AreMoves, Threads, one_if, count_in, copies, is_here, Stands, homed, at_boot}
-use Rattle.layer_traits.proofs.CountLemmas.{same_tid_sym, same_cpu_sym, is_cpu_true, is_cpu_of, is_cpu_other}
-use Rattle.layer_traits.proofs.CountLemmas.{is_thread_self, count_append, count_as_list, count_front, in_counted, not_counted}
+use Rattle.layer_traits.specs.{declared.moves.WaitList.WaitList, Passes.as_list, Passes.or_else, Passes.switched, Passes.took, Passes.passed_on}
+use Rattle.layer_traits.specs.{Passes.finished, Passes.own_slept, Passes.own_woken}
+use Rattle.layer_traits.specs.Places.{home_of, is_cpu, is_thread, WaitChannel, At, Where, Home, Hand, Pend, Asleep, Move, Pushed, Took, Moved, Still, Step}
+use Rattle.layer_traits.specs.Places.{step, cpu_of_step, where_woken, where_taken, where_slept, where_after, where_is, is_asleep, is_home, is_hand, is_pend}
+use Rattle.layer_traits.specs.Places.{pending_after, pending_by, MayEdit, MayMove, AreMoves, Threads, one_if, count_in, copies, is_here, Stands, homed, at_boot}
+use Rattle.layer_traits.proofs.CountLemmas.{same_tid_sym, same_cpu_sym, is_cpu_true, is_cpu_of, is_cpu_other, is_thread_self, count_append, count_as_list}
+use Rattle.layer_traits.proofs.CountLemmas.{count_front, in_counted, not_counted}
 
 -- What a move may do to a place.
 

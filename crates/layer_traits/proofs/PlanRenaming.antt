@@ -1,10 +1,8 @@
 -- A layer that wraps its edits in those of the layer beneath: its blocks and replies are views of those there, under the layer's own names.
 use Rattle.std.proofs.Common.{◌≡◌, Bool, true, false, List, [], ◌∷◌, ◌++◌, Option, Some, None, option_map, if◌then◌else◌, map, refl, ap, sym, ◌∙◌}
-use Rattle.event_log.specs.declared.ids.CpuId.{CpuId}
-use Rattle.event_log.specs.declared.ids.LockId.{LockId}
-use Rattle.event_log.specs.History.{same_lock}
-use Rattle.event_log.specs.Actions.{Action, Phase, Rests, Waits, Holds, phase, renamed}
-use Rattle.event_log.specs.Sections.{Section, renamed_section, sections_in, block_after}
+use Rattle.event_log.specs.{declared.ids.CpuId.CpuId, declared.ids.LockId.LockId, History.same_lock, Actions.Action, Actions.Phase, Actions.Rests}
+use Rattle.event_log.specs.{Actions.Waits, Actions.Holds, Actions.phase, Actions.renamed, Sections.Section, Sections.renamed_section, Sections.sections_in}
+use Rattle.event_log.specs.{Sections.block_after}
 use Rattle.event_log.proofs.Renaming.{phase_renamed, sections_in_renamed}
 use Rattle.layer_traits.specs.Plans.{Table, at_give, reply}
 

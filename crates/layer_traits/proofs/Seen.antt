@@ -1,22 +1,15 @@
 -- What a CPU knows of a history that foreign events lengthen: where it is, its block, and that its section stays allowed.
 use Rattle.std.proofs.Common.{◌≡◌, ℕ, ◌<◌, Bool, true, false, List, [], ◌∷◌, ◌++◌, Option, option_map, if◌then◌else◌, refl, ap, sym, ◌∙◌, subst, append_assoc}
-use Rattle.event_log.specs.declared.ids.CpuId.{CpuId}
-use Rattle.event_log.specs.declared.ids.LockId.{LockId}
-use Rattle.event_log.specs.declared.ids.TheConstants.{CPUS}
-use Rattle.event_log.specs.declared.events.Event.{Event}
+use Rattle.event_log.specs.{declared.ids.CpuId.CpuId, declared.ids.LockId.LockId, declared.ids.TheConstants.CPUS, declared.events.Event.Event, History.IsLawful}
+use Rattle.event_log.specs.{History.AreOthers, History.AreForeign, History.same_cpu, History.same_lock, WordsLog.IsLegalWords, WordsLog.Holding}
+use Rattle.event_log.specs.{WordsLog.cpu_of_event, WordsLog.lock_phase, Sections.Section, Sections.cpu_of_section, Sections.block_after, Actions.acts_of}
 use Rattle.event_log.specs.declared.events.Event.TheVariants.{Draw, Look, Free}
-use Rattle.event_log.specs.History.{IsLawful, AreOthers, AreForeign, same_cpu, same_lock}
-use Rattle.event_log.specs.WordsLog.{IsLegalWords, Holding, cpu_of_event, lock_phase}
-use Rattle.event_log.specs.Sections.{Section, cpu_of_section, block_after}
-use Rattle.event_log.specs.Actions.{acts_of}
-use Rattle.event_log.proofs.Exclusion.{is_at, knows}
+use Rattle.event_log.proofs.{Exclusion.is_at, Exclusion.knows, Foreign.sections_of-append, Foreign.others_sections_of, Foreign.sections_of_known}
+use Rattle.event_log.proofs.{Same.same_cpu_self, Same.same_lock_self, Same.same_lock_true, Tickets.phase_of, Tickets.phase_acts, Tickets.legal_acts}
+use Rattle.event_log.proofs.{Tickets.one_inside}
+use Rattle.layer_traits.specs.{declared.edits.Mark.Mark, Protocol.StaysAllowed, Protocol.IsKnown, WordsProtocol.MayCome, WordsProtocol.edit_of}
+use Rattle.layer_traits.specs.{WordsProtocol.sections}
 pub use Rattle.event_log.proofs.Foreign.{lawful_before as lawful_rest, lock_phase_others}
-use Rattle.event_log.proofs.Foreign.{sections_of-append, others_sections_of, sections_of_known}
-use Rattle.event_log.proofs.Same.{same_cpu_self, same_lock_self, same_lock_true}
-use Rattle.event_log.proofs.Tickets.{phase_of, phase_acts, legal_acts, one_inside}
-use Rattle.layer_traits.specs.declared.edits.Mark.{Mark}
-use Rattle.layer_traits.specs.Protocol.{StaysAllowed, IsKnown}
-use Rattle.layer_traits.specs.WordsProtocol.{MayCome, edit_of, sections}
 pub use Rattle.layer_traits.specs.WordsProtocol.{words_legal}
 
 pub sections-append : {E : Type 0} (more log : List (Event (Mark E))) → sections (more ++ log) ≡ sections more ++ sections log

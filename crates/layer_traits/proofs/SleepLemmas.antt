@@ -1,16 +1,10 @@
 -- A poll of a sleeping layer is one poll of the scheduler's call that is due.
 use Rattle.std.proofs.Common.{◌≡◌, List, ◌++◌, Option, Some, None, IsSome, is_some, option_map, refl, ap, sym, ◌∙◌, subst}
-use Rattle.event_log.specs.declared.ids.BufId.{BufId}
-use Rattle.event_log.specs.declared.ids.CpuId.{CpuId}
-use Rattle.event_log.specs.declared.ids.Tid.{Tid}
-use Rattle.layer_traits.specs.declared.queues.QueueEvent.{QueueEvent}
-use Rattle.layer_traits.specs.declared.scheds.SchedAnswer.{SchedAnswer}
-use Rattle.layer_traits.specs.declared.scheds.SchedAnswer.TheVariants.{Done, Answer}
-use Rattle.layer_traits.specs.declared.sleeps.Outcome.{Outcome}
-use Rattle.layer_traits.specs.Places.{Threads}
-use Rattle.layer_traits.specs.Queues.{Kernel, out_at}
-use Rattle.layer_traits.specs.Scheds.{SchedPolled, own_answered}
-use Rattle.layer_traits.specs.SleepLaw.{Sleeping, SleepPolled, Waits, Does, Sends, due, done_if, left_done, left_reported}
+use Rattle.event_log.specs.declared.ids.{BufId.BufId, CpuId.CpuId, Tid.Tid}
+use Rattle.layer_traits.specs.{declared.queues.QueueEvent.QueueEvent, declared.scheds.SchedAnswer.SchedAnswer, declared.scheds.SchedAnswer.TheVariants.Done}
+use Rattle.layer_traits.specs.{declared.scheds.SchedAnswer.TheVariants.Answer, declared.sleeps.Outcome.Outcome, Places.Threads, Queues.Kernel, Queues.out_at}
+use Rattle.layer_traits.specs.{Scheds.SchedPolled, Scheds.own_answered, SleepLaw.Sleeping, SleepLaw.SleepPolled, SleepLaw.Waits, SleepLaw.Does, SleepLaw.Sends}
+use Rattle.layer_traits.specs.{SleepLaw.due, SleepLaw.done_if, SleepLaw.left_done, SleepLaw.left_reported}
 
 -- an outcome is kept exactly while a thread stands in the hand
 abbrev pub HandDefers : {O : Type 0} → Option Tid → Option (Outcome O) → Type 0

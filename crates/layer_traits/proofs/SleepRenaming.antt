@@ -1,22 +1,15 @@
 -- A layer that wraps its edits in those of a sleeping layer beneath: a poll and a plan there are a poll and a plan here, under the
 -- layer's own names.
 use Rattle.std.proofs.Common.{◌≡◌, List, ◌∷◌, ◌++◌, Option, Some, None, refl, ap, sym, ◌∙◌, subst}
-use Rattle.event_log.specs.declared.ids.BufId.{BufId}
-use Rattle.event_log.specs.declared.ids.CpuId.{CpuId}
-use Rattle.event_log.specs.declared.ids.Tid.{Tid}
-use Rattle.layer_traits.specs.declared.passes.Pass.{Pass}
-use Rattle.layer_traits.specs.declared.queues.QueueCall.TheVariants as queue
-use Rattle.layer_traits.specs.declared.queues.QueueEvent.{QueueEvent}
-use Rattle.layer_traits.specs.declared.scheds.SchedCall.TheVariants as call
-use Rattle.layer_traits.specs.declared.sleeps.Outcome.{Outcome}
-use Rattle.layer_traits.specs.Passes.{queue_for}
-use Rattle.layer_traits.specs.Plans.{Left, raised}
-use Rattle.layer_traits.specs.Queues.{Kernel, event}
-use Rattle.layer_traits.specs.Renaming.{named, renamed_edit, renamed_events, renamed_sched}
-use Rattle.layer_traits.specs.Scheds.{sched_plan}
-use Rattle.layer_traits.specs.SleepLaw.{PollResult, MayDo, SleepPolled, Sleeping, Waits, Does, Sends, due, left_done}
-use Rattle.layer_traits.specs.SleepLaw.{left_passed, left_reported, left_with, pass_plan, seen_with, sleep_plan}
+use Rattle.event_log.specs.declared.ids.{BufId.BufId, CpuId.CpuId, Tid.Tid}
+use Rattle.layer_traits.specs.{declared.passes.Pass.Pass, declared.queues.QueueEvent.QueueEvent, declared.sleeps.Outcome.Outcome, Passes.queue_for, Plans.Left}
+use Rattle.layer_traits.specs.{Plans.raised, Queues.Kernel, Queues.event, Renaming.named, Renaming.renamed_edit, Renaming.renamed_events}
+use Rattle.layer_traits.specs.{Renaming.renamed_sched, Scheds.sched_plan, SleepLaw.PollResult, SleepLaw.MayDo, SleepLaw.SleepPolled, SleepLaw.Sleeping}
+use Rattle.layer_traits.specs.{SleepLaw.Waits, SleepLaw.Does, SleepLaw.Sends, SleepLaw.due, SleepLaw.left_done, SleepLaw.left_passed, SleepLaw.left_reported}
+use Rattle.layer_traits.specs.{SleepLaw.left_with, SleepLaw.pass_plan, SleepLaw.seen_with, SleepLaw.sleep_plan}
 use Rattle.layer_traits.proofs.KernelRenaming.{Wraps, answered_renamed, events_append, events_others, named_raised, out_renamed, plan_renamed}
+use Rattle.layer_traits.specs.declared.queues.QueueCall.TheVariants as queue
+use Rattle.layer_traits.specs.declared.scheds.SchedCall.TheVariants as call
 
 module _ {D E A B O : Type 0} (k : Kernel D A (Outcome O)) (j : Kernel E B (Outcome O)) (name : D → E) (view : A → B) (wraps : Wraps k j name view) where
   may_renamed : (c : CpuId) (b : BufId) (d : D) (poll_result : PollResult O) (past : List (QueueEvent D)) (own : Sleeping O)

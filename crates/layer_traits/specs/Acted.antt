@@ -1,25 +1,11 @@
 -- What the layers tell of threads is what the sections of the actions make of it.
 use Rattle.std.specs.Prelude.{◌≡◌, ℕ, Bool, List, Option, Some, map}
-use Rattle.event_log.specs.declared.ids.BufId.{BufId}
-use Rattle.event_log.specs.declared.ids.CpuId.{CpuId}
-use Rattle.event_log.specs.declared.ids.LockId.{LockId}
-use Rattle.event_log.specs.declared.ids.LockId.TheVariants.{Pending, Buffer}
-use Rattle.event_log.specs.declared.ids.Tid.{Tid}
-use Rattle.event_log.specs.Actions.{Action}
-use Rattle.event_log.specs.Messages.{Message}
-use Rattle.event_log.specs.Sections.{block_after, sections_in}
-use Rattle.layer_traits.specs.declared.buffer_edits.BufferEdit.{BufferEdit}
-use Rattle.layer_traits.specs.declared.moves.WaitList.{WaitList}
-use Rattle.layer_traits.specs.declared.queue_edits.QueueBlock.{QueueBlock}
-use Rattle.layer_traits.specs.declared.queue_edits.QueueEdit.{QueueEdit}
-use Rattle.layer_traits.specs.BufferProtocol.{BufferLock, buffer_rules}
-use Rattle.layer_traits.specs.Conditions.{CvCall}
-use Rattle.layer_traits.specs.LockLaw.{lock_kernel}
-use Rattle.layer_traits.specs.Locking.{wait_list_in, lock_edited, owner_in}
-use Rattle.layer_traits.specs.Places.{Step, pending_by}
-use Rattle.layer_traits.specs.QueueBlocks.{above_of, with_queue}
-use Rattle.layer_traits.specs.QueueRules.{queue_edited}
-use Rattle.layer_traits.specs.Queues.{event_of, moves_in}
+use Rattle.event_log.specs.declared.ids.{BufId.BufId, CpuId.CpuId, LockId.LockId, LockId.TheVariants.Pending, LockId.TheVariants.Buffer, Tid.Tid}
+use Rattle.event_log.specs.{Actions.Action, Messages.Message, Sections.block_after, Sections.sections_in}
+use Rattle.layer_traits.specs.{declared.buffer_edits.BufferEdit.BufferEdit, declared.moves.WaitList.WaitList, declared.queue_edits.QueueBlock.QueueBlock}
+use Rattle.layer_traits.specs.{declared.queue_edits.QueueEdit.QueueEdit, BufferProtocol.BufferLock, BufferProtocol.buffer_rules, Conditions.CvCall}
+use Rattle.layer_traits.specs.{LockLaw.lock_kernel, Locking.wait_list_in, Locking.lock_edited, Locking.owner_in, Places.Step, Places.pending_by}
+use Rattle.layer_traits.specs.{QueueBlocks.above_of, QueueBlocks.with_queue, QueueRules.queue_edited, Queues.event_of, Queues.moves_in}
 
 -- the actions on the locks of buffers and of pending queues, newest first
 abbrev pub BufferActs : Type 0

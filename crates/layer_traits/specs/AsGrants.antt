@@ -1,14 +1,9 @@
 -- A words log, told as the log of grant words that says the same: each spot, try and give of the one is one of the other.
 use Rattle.std.specs.Prelude.{◌≡◌, ◌%◌, List, [], ◌∷◌}
-use Rattle.event_log.specs.declared.ids.CpuId.{CpuId}
-use Rattle.event_log.specs.declared.ids.TheConstants.{CPUS}
-use Rattle.event_log.specs.declared.events.Event.{Event}
-use Rattle.event_log.specs.declared.events.Event.TheVariants.{Draw, Look, Free}
-use Rattle.event_log.specs.declared.grants.GrantEvent.{GrantEvent}
-use Rattle.event_log.specs.declared.grants.GrantEvent.TheVariants.{Take, Peek, Give}
-use Rattle.event_log.specs.Actions.{acts_of}
-use Rattle.event_log.specs.Grants.{IsLegalGrants, acts_of_grants, grant_lock_phase, grant_word}
-use Rattle.event_log.specs.WordsLog.{lock_phase}
+use Rattle.event_log.specs.{declared.ids.CpuId.CpuId, declared.ids.TheConstants.CPUS, declared.events.Event.Event, declared.events.Event.TheVariants.Draw}
+use Rattle.event_log.specs.{declared.events.Event.TheVariants.Look, declared.events.Event.TheVariants.Free, Actions.acts_of, Grants.IsLegalGrants}
+use Rattle.event_log.specs.{Grants.acts_of_grants, Grants.grant_lock_phase, Grants.grant_word, WordsLog.lock_phase}
+use Rattle.event_log.specs.declared.grants.GrantEvent.{GrantEvent, TheVariants.Take, TheVariants.Peek, TheVariants.Give}
 
 -- an event after this told past: a Peek reads what the Gives before it left in its ticket's word
 abbrev pub as_grant : {M : Type 0} → Event M → List (GrantEvent M) → GrantEvent M

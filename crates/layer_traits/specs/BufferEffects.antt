@@ -1,28 +1,17 @@
 -- Effects: which entries the sections of buffers leave, and that a list of entries, newest first, is one of effects that may come
 -- one after the other. Counters have 64 bits: numbers are modulo 2^64.
-use Rattle.std.specs.Prelude.{◌≡◌, ℕ, ◌%◌, ◌^◌, ◌<◌, Bool, false, ◌&&◌, List, [], ◌∷◌, ◌++◌, length, slice_get}
-use Rattle.std.specs.Prelude.{slice_index, Option, Some, None, option_map, option_to_list, if◌then◌else◌}
-use Rattle.event_log.specs.declared.entries.Entry.{Entry}
-use Rattle.event_log.specs.declared.entries.Kind.{Kind}
-use Rattle.event_log.specs.declared.entries.Kind.TheVariants.{Close}
-use Rattle.event_log.specs.declared.ids.BufId.{BufId}
-use Rattle.event_log.specs.declared.ids.CpuId.{CpuId}
-use Rattle.event_log.specs.declared.ids.LockId.{LockId}
-use Rattle.event_log.specs.declared.ids.LockId.TheVariants.{Pending, Buffer}
-use Rattle.event_log.specs.declared.ids.Tid.{Tid}
-use Rattle.event_log.specs.Buffers.{IsAllowedEffect, empty_buffers, items_of}
-use Rattle.event_log.specs.History.{same_lock}
-use Rattle.event_log.specs.Messages.{Message, no_message}
-use Rattle.event_log.specs.Runs.{after_entry, count_of, count_of_kind, is_closed}
-use Rattle.layer_traits.specs.declared.locked.QEdit.TheVariants.{Acquire, Inside, Release}
-use Rattle.layer_traits.specs.declared.locked.Side.{Side}
-use Rattle.layer_traits.specs.declared.locked.Side.TheVariants.{Receivers, Senders}
-use Rattle.layer_traits.specs.declared.conditions.CvEdit.TheVariants.{Edit, SignalFront}
-use Rattle.layer_traits.specs.declared.buffer_edits.BufferEdit.{BufferEdit}
-use Rattle.layer_traits.specs.declared.buffer_edits.BufferEdit.TheVariants.{Enter, TryPut, TryTake, Shut}
-use Rattle.layer_traits.specs.Conditions.{CvCall}
-use Rattle.layer_traits.specs.BufferBlocks.{effect_kind, empty_block, first_item, is_next, drawn_of}
-use Rattle.layer_traits.specs.BufferProtocol.{BufferLock, BufferSection, buffer_at}
+use Rattle.std.specs.Prelude.{◌≡◌, ℕ, ◌%◌, ◌^◌, ◌<◌, Bool, false, ◌&&◌, List, [], ◌∷◌, ◌++◌, length, slice_get, slice_index, Option, Some, None, option_map}
+use Rattle.std.specs.Prelude.{option_to_list, if◌then◌else◌}
+use Rattle.event_log.specs.{declared.entries.Entry.Entry, declared.entries.Kind.Kind, declared.entries.Kind.TheVariants.Close, declared.ids.BufId.BufId}
+use Rattle.event_log.specs.{declared.ids.CpuId.CpuId, declared.ids.LockId.LockId, declared.ids.LockId.TheVariants.Pending}
+use Rattle.event_log.specs.{declared.ids.LockId.TheVariants.Buffer, declared.ids.Tid.Tid, Buffers.IsAllowedEffect, Buffers.empty_buffers, Buffers.items_of}
+use Rattle.event_log.specs.{History.same_lock, Messages.Message, Messages.no_message, Runs.after_entry, Runs.count_of, Runs.count_of_kind, Runs.is_closed}
+use Rattle.layer_traits.specs.{declared.locked.QEdit.TheVariants.Acquire, declared.locked.QEdit.TheVariants.Inside, declared.locked.QEdit.TheVariants.Release}
+use Rattle.layer_traits.specs.{declared.locked.Side.Side, declared.locked.Side.TheVariants.Receivers, declared.locked.Side.TheVariants.Senders}
+use Rattle.layer_traits.specs.{declared.conditions.CvEdit.TheVariants.Edit, declared.conditions.CvEdit.TheVariants.SignalFront, Conditions.CvCall}
+use Rattle.layer_traits.specs.{BufferBlocks.effect_kind, BufferBlocks.empty_block, BufferBlocks.first_item, BufferBlocks.is_next, BufferBlocks.drawn_of}
+use Rattle.layer_traits.specs.{BufferProtocol.BufferLock, BufferProtocol.BufferSection, BufferProtocol.buffer_at}
+use Rattle.layer_traits.specs.declared.buffer_edits.BufferEdit.{BufferEdit, TheVariants.Enter, TheVariants.TryPut, TheVariants.TryTake, TheVariants.Shut}
 use Rattle.thread_blocks.specs.Queues.{same_tid}
 
 -- whether a call enters this side's line for this thread

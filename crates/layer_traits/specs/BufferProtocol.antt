@@ -1,25 +1,15 @@
 -- Which section of a buffer which CPU may do after which sections: whoever enters stands in no line of the buffer, whoever tries
 -- stands in the line of its side, and whoever waits tried in vain in its section before; whoever owns the lock may close.
 use Rattle.std.specs.Prelude.{◌≡◌, Bool, true, false, not, ◌&&◌, List, [], ◌∷◌, Option, Some, None, if◌then◌else◌}
-use Rattle.event_log.specs.declared.ids.CpuId.{CpuId}
-use Rattle.event_log.specs.declared.ids.LockId.{LockId}
-use Rattle.event_log.specs.declared.ids.Tid.{Tid}
-use Rattle.event_log.specs.History.{same_lock}
-use Rattle.event_log.specs.Sections.{Section}
-use Rattle.layer_traits.specs.declared.locked.QEdit.TheVariants.{Acquire, Inside, Release}
-use Rattle.layer_traits.specs.declared.locked.Side.{Side}
-use Rattle.layer_traits.specs.declared.locked.Side.TheVariants.{Receivers, Senders}
-use Rattle.layer_traits.specs.declared.conditions.CvEdit.TheVariants.{Edit, SignalFront}
-use Rattle.layer_traits.specs.declared.conditions.CvLeave.{CvLeave}
-use Rattle.layer_traits.specs.declared.conditions.CvLeave.TheVariants.{Leave, Wait}
-use Rattle.layer_traits.specs.declared.conditions.CvEdit.{CvEdit}
-use Rattle.layer_traits.specs.declared.conditions.CvOut.{CvOut}
-use Rattle.layer_traits.specs.declared.buffer_edits.BufferEdit.{BufferEdit}
-use Rattle.layer_traits.specs.declared.buffer_edits.BufferEdit.TheVariants.{Enter, TryPut, TryTake, Shut}
-use Rattle.layer_traits.specs.declared.buffer_edits.BufferOut.{BufferOut}
-use Rattle.layer_traits.specs.Conditions.{CvCall, MonitorRules, cv_rules}
-use Rattle.layer_traits.specs.Locking.{LockRules, LockState, IsOwners, lock_after, lock_caller, owner_in}
-use Rattle.layer_traits.specs.BufferBlocks.{BufferState, buffer_answer, buffer_edited, thread_of_edit, front_ready, is_next, line_of}
+use Rattle.event_log.specs.{declared.ids.CpuId.CpuId, declared.ids.LockId.LockId, declared.ids.Tid.Tid, History.same_lock, Sections.Section}
+use Rattle.layer_traits.specs.declared.{locked.QEdit.TheVariants.Acquire, locked.QEdit.TheVariants.Inside, locked.QEdit.TheVariants.Release, locked.Side.Side}
+use Rattle.layer_traits.specs.declared.{locked.Side.TheVariants.Receivers, locked.Side.TheVariants.Senders, conditions.CvEdit.TheVariants.Edit}
+use Rattle.layer_traits.specs.declared.{conditions.CvEdit.TheVariants.SignalFront, conditions.CvLeave.CvLeave, conditions.CvLeave.TheVariants.Leave}
+use Rattle.layer_traits.specs.declared.{conditions.CvLeave.TheVariants.Wait, conditions.CvEdit.CvEdit, conditions.CvOut.CvOut, buffer_edits.BufferOut.BufferOut}
+use Rattle.layer_traits.specs.declared.buffer_edits.BufferEdit.{BufferEdit, TheVariants.Enter, TheVariants.TryPut, TheVariants.TryTake, TheVariants.Shut}
+use Rattle.layer_traits.specs.{Conditions.CvCall, Conditions.MonitorRules, Conditions.cv_rules, Locking.LockRules, Locking.LockState, Locking.IsOwners}
+use Rattle.layer_traits.specs.{Locking.lock_after, Locking.lock_caller, Locking.owner_in, BufferBlocks.BufferState, BufferBlocks.buffer_answer}
+use Rattle.layer_traits.specs.{BufferBlocks.buffer_edited, BufferBlocks.thread_of_edit, BufferBlocks.front_ready, BufferBlocks.is_next, BufferBlocks.line_of}
 use Rattle.thread_blocks.specs.Queues.{same_tid, is_in}
 
 -- a section of a buffer

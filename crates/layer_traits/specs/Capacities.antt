@@ -1,7 +1,6 @@
 -- The capacities of buffers, as their locks tell them one by one.
 use Rattle.std.specs.Prelude.{ℕ, zero, suc, ◌+◌, List, [], ◌∷◌, Option, Some, None}
-use Rattle.event_log.specs.declared.ids.LockId.{LockId}
-use Rattle.event_log.specs.declared.ids.LockId.TheVariants.{Buffer}
+use Rattle.event_log.specs.declared.ids.LockId.{LockId, TheVariants.Buffer}
 
 -- the capacity of a buffer's lock before those of the next ones, while there is one
 abbrev pub caps_at : {L : Type 0} → (L → ℕ) → Option L → List ℕ → List ℕ

@@ -1,33 +1,18 @@
 -- The law of the layer of conditions: what one poll of a call does to the history and to the part's own state.
 -- A wait is one event; what it answers is held back until its thread is current again. To take the lock again is a call of its own.
 use Rattle.std.specs.Prelude.{◌≡◌, ◌⊎◌, false, List, Option, Some, None, replicate, slice_set}
-use Rattle.event_log.specs.declared.ids.BufId.{BufId}
-use Rattle.event_log.specs.declared.ids.CpuId.{CpuId}
-use Rattle.event_log.specs.declared.ids.LockId.{LockId}
-use Rattle.event_log.specs.declared.ids.LockId.TheVariants.{Buffer}
-use Rattle.event_log.specs.declared.ids.Tid.{Tid}
-use Rattle.event_log.specs.declared.ids.TheConstants.{THREADS}
-use Rattle.layer_traits.specs.declared.locked.QEdit.TheVariants.{Acquire, Inside, Release}
-use Rattle.layer_traits.specs.declared.locked.QOut.{QOut}
-use Rattle.layer_traits.specs.declared.locked.QOut.TheVariants.{Acquired, Queued, Did, Released}
-use Rattle.layer_traits.specs.declared.locked.Side.{Side}
-use Rattle.layer_traits.specs.declared.conditions.CvLeave.TheVariants.{Leave, Wait}
-use Rattle.layer_traits.specs.declared.conditions.CvOut.{CvOut}
-use Rattle.layer_traits.specs.declared.conditions.CvOut.TheVariants as answer
-use Rattle.layer_traits.specs.declared.moves.WaitList.{WaitList}
-use Rattle.layer_traits.specs.declared.queues.QueueEvent.{QueueEvent}
-use Rattle.layer_traits.specs.declared.queue_edits.QueueEdit.{QueueEdit}
-use Rattle.layer_traits.specs.declared.queues.QueueAnswer.{QueueAnswer}
-use Rattle.layer_traits.specs.declared.passes.Pass.{Pass}
-use Rattle.layer_traits.specs.declared.scheds.SchedCall.{SchedCall}
-use Rattle.layer_traits.specs.declared.sleeps.Outcome.{Outcome}
-use Rattle.layer_traits.specs.Conditions.{MonitorRules, CvCall, cv_rules}
+use Rattle.event_log.specs.declared.ids.{BufId.BufId, CpuId.CpuId, LockId.LockId, LockId.TheVariants.Buffer, Tid.Tid, TheConstants.THREADS}
+use Rattle.layer_traits.specs.declared.locked.{QEdit.TheVariants.Acquire, QEdit.TheVariants.Inside, QEdit.TheVariants.Release, QOut.QOut}
+use Rattle.layer_traits.specs.declared.locked.{QOut.TheVariants.Acquired, QOut.TheVariants.Queued, QOut.TheVariants.Did, QOut.TheVariants.Released, Side.Side}
+use Rattle.layer_traits.specs.{declared.conditions.CvLeave.TheVariants.Leave, declared.conditions.CvLeave.TheVariants.Wait, declared.conditions.CvOut.CvOut}
+use Rattle.layer_traits.specs.{declared.moves.WaitList.WaitList, declared.queues.QueueEvent.QueueEvent, declared.queue_edits.QueueEdit.QueueEdit}
+use Rattle.layer_traits.specs.{declared.queues.QueueAnswer.QueueAnswer, declared.passes.Pass.Pass, declared.scheds.SchedCall.SchedCall}
+use Rattle.layer_traits.specs.{declared.sleeps.Outcome.Outcome, Conditions.MonitorRules, Conditions.CvCall, Conditions.cv_rules, MoveRules.MoveRules}
+use Rattle.layer_traits.specs.{Queues.Kernel, Queues.buffer_sections, Locking.LockState, Locking.lock_after, Locking.lock_caller, Locking.wait_list_in}
+use Rattle.layer_traits.specs.{LockLaw.Locking, LockLaw.LockPolled, LockLaw.MayGo, LockLaw.MayLock, LockLaw.MustWait, LockLaw.at_start, LockLaw.slept_for}
+use Rattle.layer_traits.specs.{LockLaw.lock_plan, LockLaw.lock_pass_plan, Plans.Left, Plans.Plan, Plans.Now, Plans.raised}
 use Rattle.thread_blocks.specs.Queues.{is_in}
-use Rattle.layer_traits.specs.MoveRules.{MoveRules}
-use Rattle.layer_traits.specs.Queues.{Kernel, buffer_sections}
-use Rattle.layer_traits.specs.Locking.{LockState, lock_after, lock_caller, wait_list_in}
-use Rattle.layer_traits.specs.LockLaw.{Locking, LockPolled, MayGo, MayLock, MustWait, at_start, slept_for, lock_plan, lock_pass_plan}
-use Rattle.layer_traits.specs.Plans.{Left, Plan, Now, raised}
+use Rattle.layer_traits.specs.declared.conditions.CvOut.TheVariants as answer
 
 -- a CPU's own state: that of its queuing locks, and of each thread the buffer at which it waits, until its wait answers
 pub record Waiting (O : Type 0) : Type 0 where

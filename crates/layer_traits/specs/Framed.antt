@@ -1,7 +1,6 @@
 -- What a call of a layer leaves as it was: the same in each trait of a layer, so it is said once.
 use Rattle.std.specs.Prelude.{◌≡◌, ◌≢◌, ℕ, ◌+◌, ◌≤◌, List, Option}
-use Rattle.event_log.specs.declared.ids.CpuId.{CpuId}
-use Rattle.event_log.specs.declared.ids.LockId.{LockId}
+use Rattle.event_log.specs.declared.ids.{CpuId.CpuId, LockId.LockId}
 
 -- the machine m went on to n: the same opening blocks, the same machine, at most one event less of room, and its holder acts for whom it acted
 pub record Stays {M B : Type 0} (opening_of : M → LockId → Option B) (site_of : M → List ℕ) (room_of : M → ℕ) (ActsFor : M → CpuId → Type 0)

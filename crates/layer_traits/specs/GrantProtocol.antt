@@ -1,14 +1,9 @@
 -- The protocol read over a log of grant words, and its sections.
 use Rattle.std.specs.Prelude.{◌≡◌, ℕ, List}
-use Rattle.event_log.specs.declared.ids.CpuId.{CpuId}
-use Rattle.event_log.specs.declared.ids.LockId.{LockId}
-use Rattle.event_log.specs.declared.grants.GrantEvent.{GrantEvent}
-use Rattle.event_log.specs.declared.grants.GrantEvent.TheVariants.{Take, Peek, Give}
-use Rattle.event_log.specs.Grants.{MayFollowGrants, acts_of_grants, grant_lock_phase}
-use Rattle.event_log.specs.Sections.{Section, sections_in}
-use Rattle.event_log.specs.WordsLog.{Holding}
-use Rattle.layer_traits.specs.declared.edits.Mark.{Mark}
-use Rattle.layer_traits.specs.WordsProtocol.{edit_of}
+use Rattle.event_log.specs.{declared.ids.CpuId.CpuId, declared.ids.LockId.LockId, Grants.MayFollowGrants, Grants.acts_of_grants, Grants.grant_lock_phase}
+use Rattle.event_log.specs.{Sections.Section, Sections.sections_in, WordsLog.Holding}
+use Rattle.event_log.specs.declared.grants.GrantEvent.{GrantEvent, TheVariants.Take, TheVariants.Peek, TheVariants.Give}
+use Rattle.layer_traits.specs.{declared.edits.Mark.Mark, WordsProtocol.edit_of}
 
 -- the sections of a log of grant words whose marks tell the edits: its Gives
 abbrev pub grant_sections : {E : Type 0} → List (GrantEvent (Mark E)) → List (Section E)

@@ -1,35 +1,19 @@
 -- What one poll of a queuing lock adds to the history, and what it leaves of the part's own state.
 use Rattle.std.specs.Prelude.{◌≡◌, ◌⊎◌, Bool, true, false, List, ◌++◌, Option, Some, None, is_some, replicate, slice_index_or, slice_set, if◌then◌else◌}
-use Rattle.event_log.specs.declared.ids.BufId.{BufId}
-use Rattle.event_log.specs.declared.ids.CpuId.{CpuId}
-use Rattle.event_log.specs.declared.ids.LockId.{LockId}
-use Rattle.event_log.specs.declared.ids.LockId.TheVariants.{Buffer}
-use Rattle.event_log.specs.declared.ids.TheConstants.{THREADS}
-use Rattle.event_log.specs.declared.ids.Tid.{Tid}
-use Rattle.event_log.specs.History.{IsLawful, AreOthers}
-use Rattle.layer_traits.specs.declared.locked.QEdit.{QEdit}
-use Rattle.layer_traits.specs.declared.locked.QEdit.TheVariants.{Acquire, Inside, Release}
-use Rattle.layer_traits.specs.declared.locked.QOut.{QOut}
-use Rattle.layer_traits.specs.declared.locked.QOut.TheVariants.{Acquired, Queued, Did, Released}
-use Rattle.layer_traits.specs.declared.moves.WaitList.{WaitList}
-use Rattle.layer_traits.specs.declared.queue_edits.QueueBlock.{QueueBlock}
-use Rattle.layer_traits.specs.declared.queue_edits.QueueEdit.{QueueEdit}
-use Rattle.layer_traits.specs.declared.queues.QueueAnswer.{QueueAnswer}
-use Rattle.layer_traits.specs.declared.queues.QueueEvent.{QueueEvent}
-use Rattle.layer_traits.specs.declared.passes.Pass.{Pass}
-use Rattle.layer_traits.specs.declared.scheds.SchedCall.{SchedCall}
-use Rattle.layer_traits.specs.declared.scheds.SchedCall.TheVariants as call
-use Rattle.layer_traits.specs.declared.sleeps.Outcome.{Outcome}
-use Rattle.layer_traits.specs.ListsAgree.{is_at}
+use Rattle.event_log.specs.{declared.ids.BufId.BufId, declared.ids.CpuId.CpuId, declared.ids.LockId.LockId, declared.ids.LockId.TheVariants.Buffer}
+use Rattle.event_log.specs.{declared.ids.TheConstants.THREADS, declared.ids.Tid.Tid, History.IsLawful, History.AreOthers}
+use Rattle.layer_traits.specs.declared.locked.{QEdit.QEdit, QEdit.TheVariants.Acquire, QEdit.TheVariants.Inside, QEdit.TheVariants.Release, QOut.QOut}
+use Rattle.layer_traits.specs.declared.locked.{QOut.TheVariants.Acquired, QOut.TheVariants.Queued, QOut.TheVariants.Did, QOut.TheVariants.Released}
+use Rattle.layer_traits.specs.{declared.moves.WaitList.WaitList, declared.queue_edits.QueueBlock.QueueBlock, declared.queue_edits.QueueEdit.QueueEdit}
+use Rattle.layer_traits.specs.{declared.queues.QueueAnswer.QueueAnswer, declared.queues.QueueEvent.QueueEvent, declared.passes.Pass.Pass}
+use Rattle.layer_traits.specs.{declared.scheds.SchedCall.SchedCall, declared.sleeps.Outcome.Outcome, ListsAgree.is_at, MoveRules.MoveRules, Places.Stands}
+use Rattle.layer_traits.specs.{Places.one_if, Places.count_in, Places.wait_channel_of, Places.where_is, Places.at_boot, Plans.Left, Plans.Plan, Plans.Now}
+use Rattle.layer_traits.specs.{Plans.raised, Protocol.section, QueueBlocks.inner, QueueBlocks.homes_in, Queues.Kernel, Queues.kernel, Queues.cpu_of_queue_event}
+use Rattle.layer_traits.specs.{Queues.buffer_sections, Queues.moves_in, Queues.QueueAllowed, SleepLaw.Sleeping, SleepLaw.SleepPolled, SleepLaw.MayCall}
+use Rattle.layer_traits.specs.{SleepLaw.MustSend, SleepLaw.sleep_plan, SleepLaw.pass_plan}
 use Rattle.layer_traits.specs.Locking.{LockRules, LockState, lock_caller, lock_rules, lock_moves, lock_after, owner_of, IsOwners, wait_list_in}
-use Rattle.layer_traits.specs.MoveRules.{MoveRules}
-use Rattle.layer_traits.specs.Places.{Stands, one_if, count_in, wait_channel_of, where_is, at_boot}
-use Rattle.layer_traits.specs.Plans.{Left, Plan, Now, raised}
-use Rattle.layer_traits.specs.Protocol.{section}
-use Rattle.layer_traits.specs.QueueBlocks.{inner, homes_in}
-use Rattle.layer_traits.specs.Queues.{Kernel, kernel, cpu_of_queue_event, buffer_sections, moves_in, QueueAllowed}
-use Rattle.layer_traits.specs.SleepLaw.{Sleeping, SleepPolled, MayCall, MustSend, sleep_plan, pass_plan}
 use Rattle.thread_blocks.specs.Queues.{is_in}
+use Rattle.layer_traits.specs.declared.scheds.SchedCall.TheVariants as call
 
 -- all that says what the calls on a queuing lock mean
 abbrev pub lock_kernel : {F R B O : Type 0} → LockRules F R B O → (LockId → Option (QueueBlock (LockState B)))

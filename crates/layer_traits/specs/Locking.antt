@@ -1,23 +1,13 @@
 -- A lock with an owner: what its calls make of the owner and of the waiting lists; and the owner as a function of the history.
 use Rattle.std.specs.Prelude.{◌≡◌, ◌≢◌, List, [], Option, Some, None, is_some, if◌then◌else◌}
-use Rattle.event_log.specs.declared.ids.LockId.{LockId}
-use Rattle.event_log.specs.declared.ids.Tid.{Tid}
-use Rattle.event_log.specs.Sections.{Section, block_after}
-use Rattle.layer_traits.specs.declared.locked.QEdit.{QEdit}
-use Rattle.layer_traits.specs.declared.locked.QEdit.TheVariants.{Acquire, Inside, Release}
-use Rattle.layer_traits.specs.declared.locked.QOut.{QOut}
-use Rattle.layer_traits.specs.declared.locked.QOut.TheVariants.{Acquired, Queued, Did, Released}
-use Rattle.layer_traits.specs.declared.locked.Side.{Side}
-use Rattle.layer_traits.specs.declared.locked.Side.TheVariants.{Receivers, Senders}
-use Rattle.layer_traits.specs.declared.locked.WakeWaiter.{WakeWaiter}
-use Rattle.layer_traits.specs.declared.locked.WakeWaiter.TheVariants.{Nobody, Receiver, Sender}
-use Rattle.layer_traits.specs.declared.moves.WaitList.{WaitList}
-use Rattle.layer_traits.specs.declared.moves.WaitList.TheVariants as wait_list
-use Rattle.layer_traits.specs.declared.sleeps.Outcome.{Outcome}
-use Rattle.layer_traits.specs.MoveRules.{MoveRules}
-use Rattle.layer_traits.specs.Protocol.{Rules}
-use Rattle.layer_traits.specs.Sleeping.{joined}
+use Rattle.event_log.specs.{declared.ids.LockId.LockId, declared.ids.Tid.Tid, Sections.Section, Sections.block_after}
+use Rattle.layer_traits.specs.declared.locked.{QEdit.QEdit, QEdit.TheVariants.Acquire, QEdit.TheVariants.Inside, QEdit.TheVariants.Release, QOut.QOut}
+use Rattle.layer_traits.specs.declared.locked.{QOut.TheVariants.Acquired, QOut.TheVariants.Queued, QOut.TheVariants.Did, QOut.TheVariants.Released, Side.Side}
+use Rattle.layer_traits.specs.declared.locked.{Side.TheVariants.Receivers, Side.TheVariants.Senders, WakeWaiter.WakeWaiter, WakeWaiter.TheVariants.Nobody}
+use Rattle.layer_traits.specs.declared.locked.{WakeWaiter.TheVariants.Receiver, WakeWaiter.TheVariants.Sender}
+use Rattle.layer_traits.specs.{declared.moves.WaitList.WaitList, declared.sleeps.Outcome.Outcome, MoveRules.MoveRules, Protocol.Rules, Sleeping.joined}
 use Rattle.thread_blocks.specs.Queues.{is_in, first, rest, without}
+use Rattle.layer_traits.specs.declared.moves.WaitList.TheVariants as wait_list
 
 -- a lock: its owner, and its waiting lists, each with its first in front
 pub record LockState (B : Type 0) : Type 0 where

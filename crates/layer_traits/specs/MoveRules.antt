@@ -1,13 +1,9 @@
 -- What the sections of edits do to places: which move each makes, and where a thread sleeps after them.
 use Rattle.std.specs.Prelude.{◌≡◌, true, List, [], ◌∷◌, Option, Some, None, option_map, if◌then◌else◌}
-use Rattle.event_log.specs.declared.ids.LockId.{LockId}
-use Rattle.event_log.specs.declared.ids.Tid.{Tid}
-use Rattle.event_log.specs.History.{IsLawful}
-use Rattle.event_log.specs.Sections.{Section, block_after}
+use Rattle.event_log.specs.{declared.ids.LockId.LockId, declared.ids.Tid.Tid, History.IsLawful, Sections.Section, Sections.block_after}
 use Rattle.thread_blocks.specs.Queues.{same_tid}
-use Rattle.layer_traits.specs.declared.moves.WaitList.{WaitList}
-use Rattle.layer_traits.specs.Places.{WaitChannel, At, Move, Pushed, Took, Moved, Still, Step, step, is_thread, is_wait_channel}
-use Rattle.layer_traits.specs.Protocol.{Rules}
+use Rattle.layer_traits.specs.{declared.moves.WaitList.WaitList, Places.WaitChannel, Places.At, Places.Move, Places.Pushed, Places.Took, Places.Moved}
+use Rattle.layer_traits.specs.{Places.Still, Places.Step, Places.step, Places.is_thread, Places.is_wait_channel, Protocol.Rules}
 
 -- what edits do to places: the thread that calls an edit, the line in which the answer leaves the caller asleep, and whom it wakes
 pub record MoveRules (E O : Type 0) : Type 0 where

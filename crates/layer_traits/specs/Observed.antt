@@ -1,15 +1,12 @@
 -- What a machine and its parts tell: of a block, what is true of it; of a thread, where it stands.
 use Rattle.std.specs.Prelude.{◌≡◌, ◌⊎◌, ◌<◌, true, Option, Some, None}
-use Rattle.event_log.specs.declared.ids.CpuId.{CpuId}
-use Rattle.event_log.specs.declared.ids.LockId.TheVariants as lock
-use Rattle.event_log.specs.declared.ids.Tid.{Tid}
-use Rattle.event_log.specs.declared.ids.TheConstants.{CPUS}
-use Rattle.layer_traits.specs.declared.calls.Place.{Place}
-use Rattle.layer_traits.specs.declared.calls.Place.TheVariants as place
-use Rattle.layer_traits.specs.declared.moves.WaitList.TheVariants.{Sleepers, Receivers, Senders}
-use Rattle.layer_traits.specs.Owned.{IsHeld}
-use Rattle.layer_traits.specs.Places.{Where, Home, Hand, Pend, Asleep, At, Threads}
+use Rattle.event_log.specs.declared.ids.{CpuId.CpuId, Tid.Tid, TheConstants.CPUS}
+use Rattle.layer_traits.specs.{declared.calls.Place.Place, declared.moves.WaitList.TheVariants.Sleepers, declared.moves.WaitList.TheVariants.Receivers}
+use Rattle.layer_traits.specs.{declared.moves.WaitList.TheVariants.Senders, Owned.IsHeld, Places.Where, Places.Home, Places.Hand, Places.Pend, Places.Asleep}
+use Rattle.layer_traits.specs.{Places.At, Places.Threads}
 use Rattle.thread_blocks.specs.Queues.{is_in}
+use Rattle.event_log.specs.declared.ids.LockId.TheVariants as lock
+use Rattle.layer_traits.specs.declared.calls.Place.TheVariants as place
 
 -- what the machine or a part tells is true, and what the machine does not tell some CPU has in its hands
 pub record IsObservedAs {P A : Type 0} (Fits : P → Type 0) (cpu_of : P → CpuId) (IsInside : CpuId → Type 0) (here : P → Option A)

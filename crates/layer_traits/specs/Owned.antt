@@ -1,12 +1,8 @@
 -- What a machine and its parts tell of a block: it is at home in the machine, or in the hands of a CPU that is in a section.
 use Rattle.std.specs.Prelude.{◌≡◌, ◌≢◌, ◌<◌, List, Option, Some, None, if◌then◌else◌}
-use Rattle.event_log.specs.declared.ids.CpuId.{CpuId}
-use Rattle.event_log.specs.declared.ids.Tid.{Tid}
-use Rattle.event_log.specs.declared.ids.TheConstants.{CPUS}
-use Rattle.layer_traits.specs.declared.moves.WaitList.{WaitList}
-use Rattle.layer_traits.specs.declared.moves.WaitList.TheVariants.{Sleepers, Receivers, Senders}
-use Rattle.layer_traits.specs.Locking.{LockState}
-use Rattle.layer_traits.specs.Sleeping.{SleepState}
+use Rattle.event_log.specs.declared.ids.{CpuId.CpuId, Tid.Tid, TheConstants.CPUS}
+use Rattle.layer_traits.specs.{declared.moves.WaitList.WaitList, declared.moves.WaitList.TheVariants.Sleepers, declared.moves.WaitList.TheVariants.Receivers}
+use Rattle.layer_traits.specs.{declared.moves.WaitList.TheVariants.Senders, Locking.LockState, Sleeping.SleepState}
 use Rattle.thread_blocks.specs.Queues.{is_in}
 
 -- a CPU of the machine that is in a section has it in its hands: each part of that CPU has something to tell

@@ -1,37 +1,25 @@
 -- What an edit means, and what an answer tells, with the payload beside it: the parcel that is put or brought, and the threads that
 -- were taken.
 use Rattle.std.specs.Prelude.{Option, option_map}
-use Rattle.layer_traits.specs.declared.buffer_edits.BareBufferEdit.{BareBufferEdit}
-use Rattle.layer_traits.specs.declared.buffer_edits.BareBufferEdit.TheVariants as bare
-use Rattle.layer_traits.specs.declared.buffer_edits.BareBufferOut.{BareBufferOut}
-use Rattle.layer_traits.specs.declared.buffer_edits.BareBufferOut.TheVariants as brought
-use Rattle.layer_traits.specs.declared.buffer_edits.BufferEdit.{BufferEdit}
+use Rattle.layer_traits.specs.declared.{buffer_edits.BareBufferEdit.BareBufferEdit, buffer_edits.BareBufferOut.BareBufferOut}
+use Rattle.layer_traits.specs.declared.{buffer_edits.BufferEdit.BufferEdit, buffer_edits.BufferOut.BufferOut, conditions.CvEdit.CvEdit}
+use Rattle.layer_traits.specs.declared.{conditions.CvEdit.TheVariants.Edit, conditions.CvEdit.TheVariants.SignalFront, conditions.CvOut.CvOut}
+use Rattle.layer_traits.specs.declared.{locked.QEdit.QEdit, locked.QEdit.TheVariants.Acquire, locked.QEdit.TheVariants.Inside, locked.QEdit.TheVariants.Release}
+use Rattle.layer_traits.specs.declared.{locked.QOut.QOut, queue_edits.QueueEdit.QueueEdit, queues.BareQueueAnswer.BareQueueAnswer}
+use Rattle.layer_traits.specs.declared.{queues.QueueAnswer.QueueAnswer, queues.QueueCall.QueueCall, queues.QueueCall.TheVariants.Push}
+use Rattle.layer_traits.specs.declared.{queues.QueueCall.TheVariants.TakeAll, queues.QueueCall.TheVariants.OnBuffer, scheds.SchedAnswer.SchedAnswer}
+use Rattle.layer_traits.specs.declared.{scheds.SchedCall.SchedCall, sleeps.Outcome.Outcome, payloads.Parcel.Parcel, payloads.Payload.Payload}
 use Rattle.layer_traits.specs.declared.buffer_edits.BufferEdit.TheVariants.{Enter, TryPut, TryTake, Shut}
-use Rattle.layer_traits.specs.declared.buffer_edits.BufferOut.{BufferOut}
+use Rattle.layer_traits.specs.declared.buffer_edits.BareBufferEdit.TheVariants as bare
+use Rattle.layer_traits.specs.declared.buffer_edits.BareBufferOut.TheVariants as brought
 use Rattle.layer_traits.specs.declared.buffer_edits.BufferOut.TheVariants as told
-use Rattle.layer_traits.specs.declared.conditions.CvEdit.{CvEdit}
-use Rattle.layer_traits.specs.declared.conditions.CvEdit.TheVariants.{Edit, SignalFront}
-use Rattle.layer_traits.specs.declared.conditions.CvOut.{CvOut}
 use Rattle.layer_traits.specs.declared.conditions.CvOut.TheVariants as cv
-use Rattle.layer_traits.specs.declared.locked.QEdit.{QEdit}
-use Rattle.layer_traits.specs.declared.locked.QEdit.TheVariants.{Acquire, Inside, Release}
-use Rattle.layer_traits.specs.declared.locked.QOut.{QOut}
 use Rattle.layer_traits.specs.declared.locked.QOut.TheVariants as lock
-use Rattle.layer_traits.specs.declared.queue_edits.QueueEdit.{QueueEdit}
 use Rattle.layer_traits.specs.declared.queue_edits.QueueEdit.TheVariants as edit
-use Rattle.layer_traits.specs.declared.queues.BareQueueAnswer.{BareQueueAnswer}
 use Rattle.layer_traits.specs.declared.queues.BareQueueAnswer.TheVariants as bare_queue
-use Rattle.layer_traits.specs.declared.queues.QueueAnswer.{QueueAnswer}
 use Rattle.layer_traits.specs.declared.queues.QueueAnswer.TheVariants as queue
-use Rattle.layer_traits.specs.declared.queues.QueueCall.{QueueCall}
-use Rattle.layer_traits.specs.declared.queues.QueueCall.TheVariants.{Push, TakeAll, OnBuffer}
-use Rattle.layer_traits.specs.declared.scheds.SchedAnswer.{SchedAnswer}
 use Rattle.layer_traits.specs.declared.scheds.SchedAnswer.TheVariants as sched
-use Rattle.layer_traits.specs.declared.scheds.SchedCall.{SchedCall}
 use Rattle.layer_traits.specs.declared.scheds.SchedCall.TheVariants as call
-use Rattle.layer_traits.specs.declared.sleeps.Outcome.{Outcome}
-use Rattle.layer_traits.specs.declared.payloads.Parcel.{Parcel}
-use Rattle.layer_traits.specs.declared.payloads.Payload.{Payload}
 
 -- what the answer of a poll tells, if there is one
 abbrev pub told_by : {B P T : Type 0} → (B → P → T) → Option B → P → Option T

@@ -2,10 +2,7 @@
 -- edit, no block and no lock word is named here. What a CPU has of its own agrees with the places by count.
 use Rattle.std.specs.Prelude.{◌≡◌, ◌≢◌, ℕ, ◌+◌, Bool, true, false, ◌&&◌, List, [], ◌∷◌, ◌++◌, Option, Some, None, MatchOption, if◌then◌else◌}
 use Rattle.std.specs.List.{slice_get}
-use Rattle.event_log.specs.declared.ids.CpuId.{CpuId}
-use Rattle.event_log.specs.declared.ids.LockId.{LockId}
-use Rattle.event_log.specs.declared.ids.Tid.{Tid}
-use Rattle.event_log.specs.History.{same_cpu, IsLawful}
+use Rattle.event_log.specs.{declared.ids.CpuId.CpuId, declared.ids.LockId.LockId, declared.ids.Tid.Tid, History.same_cpu, History.IsLawful}
 use Rattle.thread_blocks.specs.Queues.{same_tid}
 use Rattle.layer_traits.specs.declared.moves.WaitList.{WaitList}
 

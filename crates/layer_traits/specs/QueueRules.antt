@@ -1,18 +1,12 @@
 -- What the edits of shared queues mean as edits of locks' blocks, and which sections of them are allowed.
 use Rattle.std.specs.Prelude.{◌≡◌, List, [], Option, Some, None, map}
 use Rattle.std.specs.List.{AllByRecursion}
-use Rattle.event_log.specs.declared.ids.LockId.{LockId}
-use Rattle.event_log.specs.Sections.{Section}
-use Rattle.layer_traits.specs.declared.queue_edits.QueueBlock.{QueueBlock}
+use Rattle.event_log.specs.{declared.ids.LockId.LockId, Sections.Section}
+use Rattle.layer_traits.specs.{declared.queue_edits.QueueBlock.QueueBlock, MoveRules.MoveRules, Protocol.Rules, Queues.kernel, Queues.QueueAllowed}
+use Rattle.layer_traits.specs.{Queues.event_of, Queues.lock_of, Queues.call_at, Sleeping.joined}
+use Rattle.layer_traits.specs.declared.queue_edits.QueueEdit.{QueueEdit, TheVariants.Push, TheVariants.TakeAll, TheVariants.Above}
+use Rattle.layer_traits.specs.declared.queues.QueueAnswer.{QueueAnswer, TheVariants.Done, TheVariants.Taken, TheVariants.Answer}
 use Rattle.layer_traits.specs.declared.queue_edits.QueueBlock.TheVariants as block
-use Rattle.layer_traits.specs.declared.queue_edits.QueueEdit.{QueueEdit}
-use Rattle.layer_traits.specs.declared.queue_edits.QueueEdit.TheVariants.{Push, TakeAll, Above}
-use Rattle.layer_traits.specs.declared.queues.QueueAnswer.{QueueAnswer}
-use Rattle.layer_traits.specs.declared.queues.QueueAnswer.TheVariants.{Done, Taken, Answer}
-use Rattle.layer_traits.specs.MoveRules.{MoveRules}
-use Rattle.layer_traits.specs.Protocol.{Rules}
-use Rattle.layer_traits.specs.Queues.{kernel, QueueAllowed, event_of, lock_of, call_at}
-use Rattle.layer_traits.specs.Sleeping.{joined}
 
 -- the block that an edit leaves: a thread that is pushed joins the queue; an edit of the other kind of block changes nothing
 abbrev pub queue_edited : {E B : Type 0} → (E → B → B) → QueueEdit E → QueueBlock B → QueueBlock B

@@ -1,29 +1,14 @@
 -- What one poll of a sleeping layer adds to the history, and what it leaves of the part's own state.
 use Rattle.std.specs.Prelude.{◌≡◌, Bool, not, ◌&&◌, List, ◌∷◌, ◌++◌, Option, Some, None, IsSome, option_map, is_some, if◌then◌else◌}
-use Rattle.event_log.specs.declared.ids.BufId.{BufId}
-use Rattle.event_log.specs.declared.ids.CpuId.{CpuId}
-use Rattle.event_log.specs.declared.ids.LockId.{LockId}
-use Rattle.event_log.specs.declared.ids.Tid.{Tid}
-use Rattle.event_log.specs.History.{AreForeign}
-use Rattle.layer_traits.specs.declared.queue_edits.QueueBlock.{QueueBlock}
-use Rattle.layer_traits.specs.declared.queue_edits.QueueEdit.{QueueEdit}
-use Rattle.layer_traits.specs.declared.queues.QueueAnswer.{QueueAnswer}
-use Rattle.layer_traits.specs.declared.queues.QueueCall.TheVariants.{Push, OnBuffer}
-use Rattle.layer_traits.specs.declared.queues.QueueEvent.{QueueEvent}
-use Rattle.layer_traits.specs.declared.passes.Pass.{Pass}
-use Rattle.layer_traits.specs.declared.passes.Pass.TheVariants.{MakeReady}
-use Rattle.layer_traits.specs.declared.scheds.SchedAnswer.{SchedAnswer}
-use Rattle.layer_traits.specs.declared.scheds.SchedAnswer.TheVariants.{Done, Answer}
-use Rattle.layer_traits.specs.declared.scheds.SchedCall.{SchedCall}
+use Rattle.event_log.specs.{declared.ids.BufId.BufId, declared.ids.CpuId.CpuId, declared.ids.LockId.LockId, declared.ids.Tid.Tid, History.AreForeign}
+use Rattle.layer_traits.specs.{declared.queue_edits.QueueBlock.QueueBlock, declared.queue_edits.QueueEdit.QueueEdit, declared.queues.QueueAnswer.QueueAnswer}
+use Rattle.layer_traits.specs.{declared.queues.QueueCall.TheVariants.Push, declared.queues.QueueCall.TheVariants.OnBuffer}
+use Rattle.layer_traits.specs.{declared.queues.QueueEvent.QueueEvent, declared.passes.Pass.Pass, declared.passes.Pass.TheVariants.MakeReady}
+use Rattle.layer_traits.specs.{declared.sleeps.Outcome.Outcome, MoveRules.MoveRules, Passes.queue_for, Passes.passed_on, Places.Threads, Plans.Left, Plans.Plan}
+use Rattle.layer_traits.specs.{Plans.raised, Queues.Kernel, Queues.kernel, Queues.event, Queues.cpu_of_queue_event, Queues.out_at, Scheds.EditStays}
+use Rattle.layer_traits.specs.{Scheds.own_answered, Scheds.sched_plan, Sleeping.SleepRules, Sleeping.SleepState, Sleeping.sleep_rules, Sleeping.sleep_moves}
+use Rattle.layer_traits.specs.declared.scheds.{SchedAnswer.SchedAnswer, SchedAnswer.TheVariants.Done, SchedAnswer.TheVariants.Answer, SchedCall.SchedCall}
 use Rattle.layer_traits.specs.declared.scheds.SchedCall.TheVariants as call
-use Rattle.layer_traits.specs.declared.sleeps.Outcome.{Outcome}
-use Rattle.layer_traits.specs.MoveRules.{MoveRules}
-use Rattle.layer_traits.specs.Passes.{queue_for, passed_on}
-use Rattle.layer_traits.specs.Places.{Threads}
-use Rattle.layer_traits.specs.Plans.{Left, Plan, raised}
-use Rattle.layer_traits.specs.Queues.{Kernel, kernel, event, cpu_of_queue_event, out_at}
-use Rattle.layer_traits.specs.Scheds.{EditStays, own_answered, sched_plan}
-use Rattle.layer_traits.specs.Sleeping.{SleepRules, SleepState, sleep_rules, sleep_moves}
 
 -- all that says what the sections of a sleeping layer mean
 abbrev pub sleep_kernel : {E B O : Type 0} → SleepRules E B O → (LockId → Option (QueueBlock (SleepState B))) → Kernel E (SleepState B) (Outcome O)

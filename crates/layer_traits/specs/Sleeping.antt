@@ -1,16 +1,10 @@
 -- The waiting lists of a lock, and what a section makes of them: who leaves one, and which its caller joins.
 use Rattle.std.specs.Prelude.{◌≡◌, ◌<◌, not, ◌&&◌, nat_lt, List, [], ◌∷◌, ◌++◌, Option, Some, None, is_some, if◌then◌else◌}
-use Rattle.event_log.specs.declared.ids.LockId.{LockId}
-use Rattle.event_log.specs.declared.ids.TheConstants.{THREADS}
-use Rattle.event_log.specs.declared.ids.Tid.{Tid}
-use Rattle.event_log.specs.Sections.{Section}
-use Rattle.layer_traits.specs.declared.moves.WaitList.{WaitList}
-use Rattle.layer_traits.specs.declared.moves.WaitList.TheVariants.{Sleepers, Receivers, Senders}
-use Rattle.layer_traits.specs.declared.sleeps.Wake.{Wake}
+use Rattle.event_log.specs.{declared.ids.LockId.LockId, declared.ids.TheConstants.THREADS, declared.ids.Tid.Tid, Sections.Section}
+use Rattle.layer_traits.specs.{declared.moves.WaitList.WaitList, declared.moves.WaitList.TheVariants.Sleepers, declared.moves.WaitList.TheVariants.Receivers}
+use Rattle.layer_traits.specs.{declared.moves.WaitList.TheVariants.Senders, declared.sleeps.Wake.Wake, declared.sleeps.Outcome.Outcome, MoveRules.MoveRules}
+use Rattle.layer_traits.specs.{MoveRules.section_moves, MoveRules.asleep_by, Protocol.Rules}
 use Rattle.layer_traits.specs.declared.sleeps.Wake.TheVariants.{Nobody, FirstSleeper, Receiver, Sender}
-use Rattle.layer_traits.specs.declared.sleeps.Outcome.{Outcome}
-use Rattle.layer_traits.specs.MoveRules.{MoveRules, section_moves, asleep_by}
-use Rattle.layer_traits.specs.Protocol.{Rules}
 use Rattle.thread_blocks.specs.Queues.{is_in, first, rest, without}
 
 -- the block of a lock with its waiting lists, each with its first in front

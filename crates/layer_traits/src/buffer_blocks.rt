@@ -5,8 +5,7 @@
 ghost use Rattle.std.specs.Prelude.{◌≡◌, ◌≤◌, ◌++◌, ◌∷◌, [], if◌then◌else◌};
 ghost use Rattle.event_log.specs.declared.ids.TheConstants.{CAPACITY};
 ghost use Rattle.layer_traits.specs.declared.buffer_edits.BufferEdit.TheVariants.{Enter, TryPut, TryTake, Shut};
-ghost use Rattle.layer_traits.specs.declared.locked.Side.TheVariants.{Receivers, Senders};
-ghost use Rattle.layer_traits.specs.Payloads.{buffer_told};
+ghost use Rattle.layer_traits.specs.{declared.locked.Side.TheVariants.Receivers, declared.locked.Side.TheVariants.Senders, Payloads.buffer_told};
 ghost use Rattle.layer_traits.specs.BufferBlocks.{buffer_answer, buffer_edited, empty_block, front_ready, is_first, may_go, may_join};
 
 use crate::buffer_edits::{BareBufferEdit, BareBufferOut, BufferEdit, BufferOut};
@@ -246,8 +245,7 @@ fn leads(line: &ThreadQueue, t: Tid) -> bool
 }
 
 impl Guarded for BufferEdit {
-    ghost use Rattle.layer_traits.specs.BufferProtocol.{buffer_monitor_rules};
-    ghost use Rattle.layer_traits.specs.Payloads.{buffer_meant, buffer_told};
+    ghost use Rattle.layer_traits.specs.{BufferProtocol.buffer_monitor_rules, Payloads.buffer_meant, Payloads.buffer_told};
 
     type Block = BufferBlock;
 

@@ -14,18 +14,11 @@ use event_log::{CpuId, GrantEvent, LockId};
 ///
 /// No call takes memory, and each succeeds.
 pub trait GrantWords {
-    ghost use Rattle.event_log.specs.declared.ids.CpuId.{CpuId};
-    ghost use Rattle.event_log.specs.declared.ids.LockId.{LockId};
-    ghost use Rattle.event_log.specs.declared.grants.GrantEvent.{GrantEvent};
-    ghost use Rattle.event_log.specs.declared.grants.GrantEvent.TheVariants.{Take, Peek, Give};
-    ghost use Rattle.layer_traits.specs.declared.edits.Mark.{Mark};
-    ghost use Rattle.event_log.specs.Grants.{cpu_of_grant, grant_lock_phase};
-    ghost use Rattle.event_log.specs.History.{Adds, IsLawful};
-    ghost use Rattle.event_log.specs.WordsLog.{Idle, Waiting, Holding};
-    ghost use Rattle.event_log.specs.Sections.{block_after};
-    ghost use Rattle.layer_traits.specs.GrantProtocol.{grant_sections, GrantMayCome};
-    ghost use Rattle.layer_traits.specs.Protocol.{section, StaysAllowed};
-    ghost use Rattle.layer_traits.specs.WordsProtocol.{mark_of};
+    ghost use Rattle.event_log.specs.{declared.ids.CpuId.CpuId, declared.ids.LockId.LockId, Grants.cpu_of_grant, Grants.grant_lock_phase, History.Adds};
+    ghost use Rattle.event_log.specs.{History.IsLawful, WordsLog.Idle, WordsLog.Waiting, WordsLog.Holding, Sections.block_after};
+    ghost use Rattle.event_log.specs.declared.grants.GrantEvent.{GrantEvent, TheVariants.Take, TheVariants.Peek, TheVariants.Give};
+    ghost use Rattle.layer_traits.specs.{declared.edits.Mark.Mark, GrantProtocol.grant_sections, GrantProtocol.GrantMayCome, Protocol.section};
+    ghost use Rattle.layer_traits.specs.{Protocol.StaysAllowed, WordsProtocol.mark_of};
 
     /// The edits of the sections.
     type Edit: SplitEdit;

@@ -3,16 +3,10 @@
 //! No call takes memory, and none waits.
 
 ghost use Rattle.std.specs.Prelude.{◌≡◌, ℕ, ◌<◌, true, false, Bool, List, [], Option, None, Some, IsSome, OnSome, is_some, if◌then◌else◌};
-ghost use Rattle.event_log.specs.declared.ids.CpuId.{CpuId};
-ghost use Rattle.event_log.specs.declared.ids.LockId.{LockId};
-ghost use Rattle.event_log.specs.Actions.{Action, AreLegal, phase};
-ghost use Rattle.layer_traits.specs.declared.payloads.Payload.{Payload};
-ghost use Rattle.layer_traits.specs.Payloads.{told_by};
-ghost use Rattle.layer_traits.specs.Plans.{Plan, Table, Follows, is_in_section};
-ghost use Rattle.event_log.specs.declared.ids.TheConstants.{CPUS};
-ghost use Rattle.event_log.specs.History.{IsLawful, Grows};
-ghost use Rattle.layer_traits.specs.Framed.{Framed};
-ghost use Rattle.layer_traits.specs.Looks.{Tries};
+ghost use Rattle.event_log.specs.{declared.ids.CpuId.CpuId, declared.ids.LockId.LockId, Actions.Action, Actions.AreLegal, Actions.phase};
+ghost use Rattle.event_log.specs.{declared.ids.TheConstants.CPUS, History.IsLawful, History.Grows};
+ghost use Rattle.layer_traits.specs.{declared.payloads.Payload.Payload, Payloads.told_by, Plans.Plan, Plans.Table, Plans.Follows, Plans.is_in_section};
+ghost use Rattle.layer_traits.specs.{Framed.Framed, Looks.Tries};
 
 use crate::payloads::Payload;
 use event_log::{CpuId, LockId};

@@ -4,9 +4,7 @@
 
 ghost use Rattle.std.specs.Prelude.{◌≡◌, IsSome};
 ghost use Rattle.event_log.specs.Sections.{Section, cpu_of_section, sections_in};
-ghost use Rattle.layer_traits.specs.Protocol.{section};
-ghost use Rattle.layer_traits.specs.Plans.{section_plan, table_of};
-ghost use Rattle.layer_traits.specs.Polls.{MayPoll, Polled, until_answered};
+ghost use Rattle.layer_traits.specs.{Protocol.section, Plans.section_plan, Plans.table_of, Polls.MayPoll, Polls.Polled, Polls.until_answered};
 
 use crate::edits::SplitEdit;
 use crate::layers::{Law, Layer};

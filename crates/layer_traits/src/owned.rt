@@ -15,19 +15,11 @@ use std::alloc::Global;
 /// and whose parts tell of those in their CPU's hands, and of where a thread stands.
 pub trait Owned: CallLayer<IpcLaw> {
     ghost use Rattle.std.specs.List.{AllByRecursion};
-    ghost use Rattle.event_log.specs.declared.ids.BufId.{BufId};
-    ghost use Rattle.event_log.specs.declared.ids.CpuId.{CpuId};
-    ghost use Rattle.event_log.specs.declared.ids.Tid.{Tid};
-    ghost use Rattle.event_log.specs.declared.ids.TheConstants.{CPUS};
-    ghost use Rattle.event_log.specs.Buffers.{items_of};
-    ghost use Rattle.event_log.specs.Messages.{Message};
-    ghost use Rattle.event_log.specs.Runs.{is_closed};
-    ghost use Rattle.layer_traits.specs.declared.calls.Place.{Place};
-    ghost use Rattle.layer_traits.specs.Acted.{ItemsAre, owner_after};
-    ghost use Rattle.layer_traits.specs.BufferEffects.{contents_of};
-    ghost use Rattle.layer_traits.specs.Openings.{AreOpenable, Opened};
-    ghost use Rattle.layer_traits.specs.Places.{home_of, where_is};
-    ghost use Rattle.layer_traits.specs.Observed.{IsOwnPlace, IsObservedAs, ReadsPlace, queue_place};
+    ghost use Rattle.event_log.specs.{declared.ids.BufId.BufId, declared.ids.CpuId.CpuId, declared.ids.Tid.Tid, declared.ids.TheConstants.CPUS};
+    ghost use Rattle.event_log.specs.{Buffers.items_of, Messages.Message, Runs.is_closed};
+    ghost use Rattle.layer_traits.specs.{declared.calls.Place.Place, Acted.ItemsAre, Acted.owner_after, BufferEffects.contents_of, Openings.AreOpenable};
+    ghost use Rattle.layer_traits.specs.{Openings.Opened, Places.home_of, Places.where_is, Observed.IsOwnPlace, Observed.IsObservedAs, Observed.ReadsPlace};
+    ghost use Rattle.layer_traits.specs.{Observed.queue_place};
 
     /// The owner of the lock of a buffer, as its last section left it.
     ghost owner: { Self.Machine → BufId → Option Tid };

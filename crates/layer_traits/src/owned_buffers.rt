@@ -14,20 +14,10 @@ use event_log::{BufId, CAPACITY, CpuId, Msg, Tid};
 /// those in their CPU's hands.
 pub trait OwnedBuffers: CallLayer<BufferLaw> {
     ghost use Rattle.std.specs.List.{AllByRecursion};
-    ghost use Rattle.event_log.specs.declared.ids.BufId.{BufId};
-    ghost use Rattle.event_log.specs.declared.ids.CpuId.{CpuId};
-    ghost use Rattle.event_log.specs.declared.ids.LockId.TheVariants.{Pending};
-    ghost use Rattle.event_log.specs.declared.ids.Tid.{Tid};
-    ghost use Rattle.event_log.specs.declared.ids.TheConstants.{CPUS};
-    ghost use Rattle.event_log.specs.Buffers.{items_of};
-    ghost use Rattle.event_log.specs.Messages.{Message};
-    ghost use Rattle.event_log.specs.Runs.{is_closed};
-    ghost use Rattle.layer_traits.specs.declared.moves.WaitList.{WaitList};
-    ghost use Rattle.layer_traits.specs.Acted.{ItemsAre, owner_after};
-    ghost use Rattle.layer_traits.specs.BufferEffects.{contents_of};
-    ghost use Rattle.layer_traits.specs.Owned.{wait_list_among};
-    ghost use Rattle.layer_traits.specs.Places.{pending_by};
-    ghost use Rattle.layer_traits.specs.Observed.{IsObservedAs};
+    ghost use Rattle.event_log.specs.{declared.ids.BufId.BufId, declared.ids.CpuId.CpuId, declared.ids.LockId.TheVariants.Pending, declared.ids.Tid.Tid};
+    ghost use Rattle.event_log.specs.{declared.ids.TheConstants.CPUS, Buffers.items_of, Messages.Message, Runs.is_closed};
+    ghost use Rattle.layer_traits.specs.{declared.moves.WaitList.WaitList, Acted.ItemsAre, Acted.owner_after, BufferEffects.contents_of, Owned.wait_list_among};
+    ghost use Rattle.layer_traits.specs.{Places.pending_by, Observed.IsObservedAs};
     ghost use Rattle.thread_blocks.specs.Queues.{is_in};
 
     /// The owner of the lock of a buffer, as its last section left it.

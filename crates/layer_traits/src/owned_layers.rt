@@ -4,13 +4,8 @@
 //! that CPU's part has it. No call takes memory, and none waits.
 
 ghost use Rattle.std.specs.Prelude.{◌≡◌, List, Option, Some, IsSome, option_and_then, option_map};
-ghost use Rattle.event_log.specs.declared.ids.BufId.{BufId};
-ghost use Rattle.event_log.specs.declared.ids.CpuId.{CpuId};
-ghost use Rattle.event_log.specs.declared.ids.LockId.{LockId};
-ghost use Rattle.event_log.specs.declared.ids.LockId.TheVariants.{Buffer, Pending};
-ghost use Rattle.event_log.specs.declared.ids.Tid.{Tid};
-ghost use Rattle.layer_traits.specs.Owned.{IsObserved};
-ghost use Rattle.layer_traits.specs.declared.moves.WaitList.{WaitList};
+ghost use Rattle.event_log.specs.declared.ids.{BufId.BufId, CpuId.CpuId, LockId.LockId, LockId.TheVariants.Buffer, LockId.TheVariants.Pending, Tid.Tid};
+ghost use Rattle.layer_traits.specs.{Owned.IsObserved, declared.moves.WaitList.WaitList};
 ghost use Rattle.thread_blocks.specs.Queues.{is_in};
 
 use crate::layers::{Law, Layer};

@@ -7,20 +7,10 @@
 //! No call takes memory, and none waits.
 
 ghost use Rattle.std.specs.Prelude.{◌≡◌, ◌≢◌, ℕ, ◌<◌, true, false, Bool, List, [], Option, None, Some, IsSome, OnSome, is_some, if◌then◌else◌};
-ghost use Rattle.event_log.specs.declared.ids.CpuId.{CpuId};
-ghost use Rattle.event_log.specs.declared.ids.LockId.{LockId};
-ghost use Rattle.layer_traits.specs.declared.passes.Pass.{Pass};
-ghost use Rattle.layer_traits.specs.Places.{Threads};
-ghost use Rattle.layer_traits.specs.Payloads.{told_by};
-ghost use Rattle.layer_traits.specs.Plans.{Plan, Follows, is_in_section};
-ghost use Rattle.event_log.specs.declared.ids.TheConstants.{CPUS};
-ghost use Rattle.event_log.specs.Actions.{Action, AreLegal, phase};
-ghost use Rattle.event_log.specs.History.{IsLawful, Grows};
-ghost use Rattle.layer_traits.specs.Framed.{Framed};
-ghost use Rattle.layer_traits.specs.Looks.{Tries};
-ghost use Rattle.layer_traits.specs.Passes.{IsLocalPass, MayPass};
-ghost use Rattle.layer_traits.specs.Polls.{until_answered};
-ghost use Rattle.layer_traits.specs.SleepLaw.{MayCall};
+ghost use Rattle.event_log.specs.{declared.ids.CpuId.CpuId, declared.ids.LockId.LockId, declared.ids.TheConstants.CPUS, Actions.Action, Actions.AreLegal};
+ghost use Rattle.event_log.specs.{Actions.phase, History.IsLawful, History.Grows};
+ghost use Rattle.layer_traits.specs.{declared.passes.Pass.Pass, Places.Threads, Payloads.told_by, Plans.Plan, Plans.Follows, Plans.is_in_section};
+ghost use Rattle.layer_traits.specs.{Framed.Framed, Looks.Tries, Passes.IsLocalPass, Passes.MayPass, Polls.until_answered, SleepLaw.MayCall};
 
 use crate::layers::Law;
 use crate::own_threads::OwnThreads;

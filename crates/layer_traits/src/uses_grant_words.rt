@@ -18,8 +18,7 @@ use std::alloc::Global;
 pub trait UsesGrantWords: Words {}
 
 impl<W: UsesGrantWords> GrantWords for W {
-    ghost use Rattle.layer_traits.specs.AsGrants.{as_grants};
-    ghost use Rattle.layer_traits.specs.Laws.AsGrants.{as_grants_come};
+    ghost use Rattle.layer_traits.specs.{AsGrants.as_grants, Laws.AsGrants.as_grants_come};
 
     type Edit = W::Edit;
 
@@ -73,9 +72,7 @@ impl<W: UsesGrantWords> GrantWords for W {
 
 impl<W: OwnedWords + UsesGrantWords> OwnedGrantWords for W {
     ghost use Rattle.event_log.specs.declared.ids.TheConstants.{CPUS};
-    ghost use Rattle.layer_traits.specs.Laws.AsGrants.{home_as_grants};
-    ghost use Rattle.layer_traits.specs.OneLock.{AreDistinct, opened};
-    ghost use Rattle.layer_traits.specs.WordsProtocol.{words_legal};
+    ghost use Rattle.layer_traits.specs.{Laws.AsGrants.home_as_grants, OneLock.AreDistinct, OneLock.opened, WordsProtocol.words_legal};
 
     ghost block_at = { λ w lock. W.block_at w lock };
 

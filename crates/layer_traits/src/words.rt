@@ -16,16 +16,11 @@ use event_log::{CpuId, Event, LockId};
 ///
 /// No call takes memory, and each succeeds.
 pub trait Words {
-    ghost use Rattle.event_log.specs.declared.ids.CpuId.{CpuId};
-    ghost use Rattle.event_log.specs.declared.ids.LockId.{LockId};
-    ghost use Rattle.event_log.specs.declared.events.Event.{Event};
-    ghost use Rattle.event_log.specs.declared.events.Event.TheVariants.{Draw, Look, Free};
-    ghost use Rattle.layer_traits.specs.declared.edits.Mark.{Mark};
-    ghost use Rattle.event_log.specs.History.{Adds, IsLawful};
-    ghost use Rattle.event_log.specs.WordsLog.{cpu_of_event, lock_phase, Idle, Waiting, Holding};
-    ghost use Rattle.event_log.specs.Sections.{Section, block_after};
-    ghost use Rattle.layer_traits.specs.Protocol.{section, StaysAllowed};
-    ghost use Rattle.layer_traits.specs.WordsProtocol.{mark_of, sections, MayCome};
+    ghost use Rattle.event_log.specs.{declared.ids.CpuId.CpuId, declared.ids.LockId.LockId, History.Adds, History.IsLawful, WordsLog.cpu_of_event};
+    ghost use Rattle.event_log.specs.{WordsLog.lock_phase, WordsLog.Idle, WordsLog.Waiting, WordsLog.Holding, Sections.Section, Sections.block_after};
+    ghost use Rattle.event_log.specs.declared.events.Event.{Event, TheVariants.Draw, TheVariants.Look, TheVariants.Free};
+    ghost use Rattle.layer_traits.specs.{declared.edits.Mark.Mark, Protocol.section, Protocol.StaysAllowed, WordsProtocol.mark_of, WordsProtocol.sections};
+    ghost use Rattle.layer_traits.specs.{WordsProtocol.MayCome};
 
     /// The edits of the sections.
     type Edit: SplitEdit;

@@ -1,15 +1,10 @@
 -- Facts on counting.
-use Rattle.std.proofs.Common.{◌≡◌, ℕ, ◌+◌, ◌%◌, ◌^◌, true, false, List, [], ◌∷◌, ◌++◌, Option, Some, None}
-use Rattle.std.proofs.Common.{refl, sym, ap, ◌∙◌, arith, length, inl, inr, if◌then◌else◌}
-use Rattle.std.proofs.lemmas.Bool.{cases_lt}
-use Rattle.std.proofs.lemmas.List.{get_or_append_left, get_or_push, length-append}
-use Rattle.event_log.specs.declared.ids.CpuId.{CpuId}
-use Rattle.event_log.specs.declared.ids.LockId.{LockId}
-use Rattle.event_log.specs.History.{same_lock}
-use Rattle.event_log.specs.Sections.{Section, block_after, sections_in}
-use Rattle.event_log.specs.Actions.{Action, Take, Try, Give, Rests, gives, phase}
-use Rattle.layer_traits.specs.Owned.{IsObserved}
-use Rattle.layer_traits.specs.Plans.{is_in_section}
+use Rattle.std.proofs.Common.{◌≡◌, ℕ, ◌+◌, ◌%◌, ◌^◌, true, false, List, [], ◌∷◌, ◌++◌, Option, Some, None, refl, sym, ap, ◌∙◌, arith, length, inl, inr}
+use Rattle.std.proofs.Common.{if◌then◌else◌}
+use Rattle.std.proofs.lemmas.{Bool.cases_lt, List.get_or_append_left, List.get_or_push, List.length-append}
+use Rattle.event_log.specs.{declared.ids.CpuId.CpuId, declared.ids.LockId.LockId, History.same_lock, Sections.Section, Sections.block_after}
+use Rattle.event_log.specs.{Sections.sections_in, Actions.Action, Actions.Take, Actions.Try, Actions.Give, Actions.Rests, Actions.gives, Actions.phase}
+use Rattle.layer_traits.specs.{Owned.IsObserved, Plans.is_in_section}
 use Rattle.std.specs.Prelude.{IsSome}
 use Rattle.cpu_workers.specs.declared.counting.AddOne.{AddOne}
 use Rattle.cpu_workers.proofs.Counts.{number_is}

@@ -1,18 +1,14 @@
 -- Facts on the reading of schedules.
-use Rattle.std.proofs.Common.{◌≡◌, ◌≤◌, ◌<◌, ◌-◌, ◌∙◌, ◌++◌, ◌∷◌, [], ℕ, false, List, Option, Some, None}
-use Rattle.std.proofs.Common.{refl, sym, ap, arith, length, append_assoc, option_map}
+use Rattle.std.proofs.Common.{◌≡◌, ◌≤◌, ◌<◌, ◌-◌, ◌∙◌, ◌++◌, ◌∷◌, [], ℕ, false, List, Option, Some, None, refl, sym, ap, arith, length, append_assoc}
+use Rattle.std.proofs.Common.{option_map}
 use Rattle.std.specs.Prelude.{option_and_then, replicate}
-use Rattle.std.specs.List.{slice_split}
-use Rattle.std.specs.Borrow.{Bor}
-use Rattle.std.proofs.lemmas.Bool.{le-leb, lt-leb, ne_eqb}
-use Rattle.std.proofs.lemmas.List.Elements.{All-from_get_or}
-use Rattle.std.proofs.lemmas.List.{append-nil, length-append, length-replicate}
-use Rattle.std.proofs.lemmas.List.Splits.{slice_split_first, slice_split_none}
-use Rattle.std.proofs.lemmas.Str.Pattern.{IsSplitOnceResult, split_once_first, split_parts}
+use Rattle.std.specs.{List.slice_split, Borrow.Bor}
+use Rattle.std.proofs.lemmas.{Bool.le-leb, Bool.lt-leb, Bool.ne_eqb, List.Elements.All-from_get_or, List.append-nil, List.length-append, List.length-replicate}
+use Rattle.std.proofs.lemmas.{List.Splits.slice_split_first, List.Splits.slice_split_none, Str.Pattern.IsSplitOnceResult, Str.Pattern.split_once_first}
+use Rattle.std.proofs.lemmas.{Str.Pattern.split_parts}
 use Rattle.event_log.specs.declared.ids.CpuId.{CpuId}
-use Rattle.mctower.specs.Schedule.{if_few, is_comma, item_of, steps_in}
-use Rattle.mctower.specs.declared.schedule.Item.{Item}
-use Rattle.mctower.specs.declared.schedule.TheConstants.{MOST_STEPS}
+use Rattle.mctower.specs.{Schedule.if_few, Schedule.is_comma, Schedule.item_of, Schedule.steps_in, declared.schedule.Item.Item}
+use Rattle.mctower.specs.{declared.schedule.TheConstants.MOST_STEPS}
 
 -- a text with no comma is one item
 pub one_piece : (text : List ℕ) → IsSplitOnceResult 44 text None → slice_split is_comma text ≡ text ∷ []

@@ -1,39 +1,24 @@
 -- The text of the traces of a plan's CPUs has a spelling, and what writing it answers.
-use Rattle.std.proofs.Common.{◌≡◌, ℕ, zero, suc, ◌*◌, ◌<◌, ◌≤◌, List, [], ◌∷◌}
-use Rattle.std.proofs.Common.{length, get_or, replicate, Some, refl, sym, ap, ◌∙◌, subst, arith}
+use Rattle.std.proofs.Common.{◌≡◌, ℕ, zero, suc, ◌*◌, ◌<◌, ◌≤◌, List, [], ◌∷◌, length, get_or, replicate, Some, refl, sym, ap, ◌∙◌, subst, arith}
 use Rattle.std.specs.Prelude.{slice_get, All, Result, Ok, Err, IsErrAnd}
 use Rattle.std.specs.List.{AllByRecursion, sum_by}
-use Rattle.std.proofs.lemmas.List.{length-map}
-use Rattle.std.proofs.lemmas.List.Sums.{sum_by-cons}
-use Rattle.std.proofs.lemmas.Option.{slice_get_within}
-use Rattle.event_log.specs.declared.ids.TheConstants.{BUFFERS, CPUS, THREADS, TRACE, ENTRIES}
-use Rattle.event_log.specs.declared.entries.Entry.{Entry}
-use Rattle.event_log.specs.Messages.{IsMessage, Message}
-use Rattle.event_log.specs.Runs.{IsRun}
-use Rattle.event_log.specs.Buffers.{empty_buffers, IsCapacity}
-use Rattle.event_log.specs.Traces.{IsInterleaving}
+use Rattle.std.proofs.lemmas.{List.length-map, List.Sums.sum_by-cons, Option.slice_get_within}
+use Rattle.event_log.specs.{declared.ids.TheConstants.BUFFERS, declared.ids.TheConstants.CPUS, declared.ids.TheConstants.THREADS}
+use Rattle.event_log.specs.{declared.ids.TheConstants.TRACE, declared.ids.TheConstants.ENTRIES, declared.entries.Entry.Entry, Messages.IsMessage}
+use Rattle.event_log.specs.{Messages.Message, Runs.IsRun, Buffers.empty_buffers, Buffers.IsCapacity, Traces.IsInterleaving, declared.ids.CpuId.CpuId}
 use Rattle.boot.specs.Plan.{BootPlan}
-use Rattle.tracer.specs.declared.gathering.GatherError.{GatherError}
-use Rattle.tracer.specs.declared.gathering.GatherError.TheVariants as gathering
-use Rattle.tracer.specs.Gather.{IsOrder, TakesFirstReady, HasNoOrder}
-use Rattle.tracer.specs.TraceText.{AreItemsOf, IsItemOf, IsSpellable, IsEntryOf, IsValueOf, spelling}
-use Rattle.tracer.specs.Versions.{both, version_from, version_of, version_of_entry, version_of_kind, version_of_message}
-use Rattle.tracer.specs.declared.versions.Version.{Version}
-use Rattle.tracer.specs.declared.versions.Version.TheVariants.{One}
-use Rattle.tracer.proofs.OrderLemmas.{runs_have_order, run_alike}
-use Rattle.tracer.proofs.VersionLemmas.{covers_next, covers_second}
-use Rattle.event_log.specs.declared.ids.CpuId.{CpuId}
-use Rattle.cpu.specs.Boots.{homes_for}
-use Rattle.cpu.specs.Cpus.{IsOfHome}
-use Rattle.cpu.specs.Calm.{TracesFit}
+use Rattle.tracer.specs.{declared.gathering.GatherError.GatherError, Gather.IsOrder, Gather.TakesFirstReady, Gather.HasNoOrder, TraceText.AreItemsOf}
+use Rattle.tracer.specs.{TraceText.IsItemOf, TraceText.IsSpellable, TraceText.IsEntryOf, TraceText.IsValueOf, TraceText.spelling, Versions.both}
+use Rattle.tracer.specs.{Versions.version_from, Versions.version_of, Versions.version_of_entry, Versions.version_of_kind, Versions.version_of_message}
+use Rattle.tracer.specs.{declared.versions.Version.Version, declared.versions.Version.TheVariants.One}
+use Rattle.tracer.proofs.{OrderLemmas.runs_have_order, OrderLemmas.run_alike, VersionLemmas.covers_next, VersionLemmas.covers_second}
+use Rattle.cpu.specs.{Boots.homes_for, Cpus.IsOfHome, Calm.TracesFit, Claims.CpuShown, Claims.HasOneOrder, Claims.Shown, Claims.StayHome, Claims.traces_of}
 use Rattle.cpu.proofs.ListReads.{shows_at}
-use Rattle.cpu.specs.Claims.{CpuShown, HasOneOrder, Shown, StayHome, traces_of}
-use Rattle.mctower.specs.Output.{IsPut, IsUntouched, Output}
-use Rattle.mctower.specs.Plans.{IsSystemOf, IsOfPlan, from_gather}
-use Rattle.mctower.specs.Texts.{HaveText, IsOut, Writes}
-use Rattle.mctower.specs.declared.run.Fault.{Fault}
-use Rattle.mctower.proofs.ListLemmas.{map_get}
-use Rattle.mctower.proofs.OrderNumbers.{order_length, order_all, run_length, run_numbers, run_values, empty_length, empty_values}
+use Rattle.mctower.specs.{Output.IsPut, Output.IsUntouched, Output.Output, Plans.IsSystemOf, Plans.IsOfPlan, Plans.from_gather, Texts.HaveText, Texts.IsOut}
+use Rattle.mctower.specs.{Texts.Writes, declared.run.Fault.Fault}
+use Rattle.mctower.proofs.{ListLemmas.map_get, OrderNumbers.order_length, OrderNumbers.order_all, OrderNumbers.run_length, OrderNumbers.run_numbers}
+use Rattle.mctower.proofs.{OrderNumbers.run_values, OrderNumbers.empty_length, OrderNumbers.empty_values}
+use Rattle.tracer.specs.declared.gathering.GatherError.TheVariants as gathering
 
 all_by : {X : Type 0} (P : X → Type 0) (xs : List X) → All P xs → AllByRecursion P xs
 all_by P [] all = tt

@@ -1,34 +1,21 @@
 -- What a run in threads answers, by what its parts answer.
 use Rattle.std.proofs.Common.{◌≡◌, ◌⊎◌, inl, inr, ℕ, ◌<◌, ◌≤◌, Bool, false, List, [], length, Some, refl, sym, ap, ◌∙◌, subst}
 use Rattle.std.specs.Prelude.{Result, Ok, Err, Vec, slice_get, if◌then◌else◌}
-use Rattle.std.specs.Global.{Global}
-use Rattle.std.specs.List.{AllByRecursion}
-use Rattle.std.specs.Io.KnownBytes.{Appends}
-use Rattle.std.proofs.lemmas.List.{append-nil}
-use Rattle.std.proofs.lemmas.Option.{slice_get_within}
+use Rattle.std.specs.{Global.Global, List.AllByRecursion, Io.KnownBytes.Appends}
+use Rattle.std.proofs.lemmas.{List.append-nil, Option.slice_get_within}
 use Rattle.event_log.specs.declared.entries.Entry.{Entry}
 use Rattle.event_log.proofs.Streams.{taken_put}
 use Rattle.layer_traits.specs.OnePlace.{cpu_at}
-use Rattle.boot.specs.declared.refusals.BootError.{BootError}
-use Rattle.boot.specs.Plan.{BootPlan, IsPlan}
+use Rattle.boot.specs.{declared.refusals.BootError.BootError, Plan.BootPlan, Plan.IsPlan}
 use Rattle.tracer.specs.Sinks.{Outs}
 use Rattle.tracer.proofs.SinkLemmas.{all_out, outs_then}
-use Rattle.cpu.specs.Boots.{homes_for}
-use Rattle.cpu.specs.Cpus.{IsOfHome}
-use Rattle.cpu.specs.Sound.{setup_for}
-use Rattle.cpu_workers.specs.declared.stops.Stop.{Stop}
-use Rattle.cpu_workers.specs.Lawful.{IsLawfulReport, CpuReport, Shown, ReportsTrue, left_in}
-use Rattle.mctower.specs.declared.refusals.Refusal.{Refusal}
-use Rattle.mctower.specs.declared.refusals.Refusal.TheVariants.{NoMemory, WriteFault}
-use Rattle.mctower.specs.declared.run.Fault.{Fault}
+use Rattle.cpu.specs.{Boots.homes_for, Cpus.IsOfHome, Sound.setup_for}
+use Rattle.cpu_workers.specs.{declared.stops.Stop.Stop, Lawful.IsLawfulReport, Lawful.CpuReport, Lawful.Shown, Lawful.ReportsTrue, Lawful.left_in}
+use Rattle.mctower.specs.{declared.refusals.Refusal.Refusal, declared.refusals.Refusal.TheVariants.NoMemory, declared.refusals.Refusal.TheVariants.WriteFault}
+use Rattle.mctower.specs.{declared.run.Fault.Fault, declared.serve.Done.Done, declared.serve.Done.TheVariants.Worked, Output.Output, Refusals.from_fault}
+use Rattle.mctower.specs.{Serve.OfPlan, Serve.RefusedBy, Serve.WorksPlan, Texts.HaveText, Texts.IsOut, Texts.IsTextOf, Texts.Writes, Threads.IsWorked}
+use Rattle.mctower.specs.{Threads.AlwaysOpen}
 use Rattle.mctower.specs.declared.run.Fault.TheVariants as run
-use Rattle.mctower.specs.declared.serve.Done.{Done}
-use Rattle.mctower.specs.declared.serve.Done.TheVariants.{Worked}
-use Rattle.mctower.specs.Output.{Output}
-use Rattle.mctower.specs.Refusals.{from_fault}
-use Rattle.mctower.specs.Serve.{OfPlan, RefusedBy, WorksPlan}
-use Rattle.mctower.specs.Texts.{HaveText, IsOut, IsTextOf, Writes}
-use Rattle.mctower.specs.Threads.{IsWorked, AlwaysOpen}
 
 -- what is so for a plan that was read
 pub of_read : (Means : BootPlan → Result Done Refusal → Output → Type 0) (plan : BootPlan) (read : Result BootPlan BootError) (answer : Result Done Refusal)

@@ -3,19 +3,12 @@
 use Rattle.std.proofs.Common.{◌≡◌, ◌⊎◌, inl, inr, List, refl, subst}
 use Rattle.std.specs.Prelude.{Result, Ok, Err, IsErrAnd}
 use Rattle.event_log.specs.declared.ids.CpuId.{CpuId}
-use Rattle.boot.specs.declared.locks.LockKind.{LockKind}
-use Rattle.boot.specs.declared.refusals.BootError.{BootError}
+use Rattle.boot.specs.{declared.locks.LockKind.LockKind, declared.refusals.BootError.BootError, Plan.BootPlan}
+use Rattle.cpu.specs.{Claims.Shown, Systems.Ran, Systems.WentOn, Systems.goes, Systems.starts, Systems.stayed, Systems.took}
+use Rattle.mctower.specs.declared.run.Fault.{Fault, TheVariants.NoMemory, TheVariants.Boot, TheVariants.BadCpu, TheVariants.NoOrder, TheVariants.WriteFault}
+use Rattle.mctower.specs.{declared.states.State.State, Output.IsUntouched, Output.Output, Plans.from_boot, Running.IsPrinted, Running.IsRunOf}
+use Rattle.mctower.specs.{Running.NoCondition, Running.Refuses, Running.RunsOverTower, Running.RunsPlan, Running.RunsText, Running.lock_in, State.IsStateOf}
 use Rattle.boot.specs.declared.refusals.BootError.TheVariants as refused
-use Rattle.boot.specs.Plan.{BootPlan}
-use Rattle.cpu.specs.Claims.{Shown}
-use Rattle.cpu.specs.Systems.{Ran, WentOn, goes, starts, stayed, took}
-use Rattle.mctower.specs.declared.run.Fault.{Fault}
-use Rattle.mctower.specs.declared.run.Fault.TheVariants.{NoMemory, Boot, BadCpu, NoOrder, WriteFault}
-use Rattle.mctower.specs.declared.states.State.{State}
-use Rattle.mctower.specs.Output.{IsUntouched, Output}
-use Rattle.mctower.specs.Plans.{from_boot}
-use Rattle.mctower.specs.Running.{IsPrinted, IsRunOf, NoCondition, Refuses, RunsOverTower, RunsPlan, RunsText, lock_in}
-use Rattle.mctower.specs.State.{IsStateOf}
 
 module _ (If Where : Type 0) (follows : Where → If) where
   went : (c : CpuId) (s r : Shown) → WentOn If c s r → WentOn Where c s r

@@ -1,25 +1,15 @@
 -- The command line: which order the words after the program's name mean, by clap's reading of them.
-use Rattle.std.specs.Prelude.{◌≡◌, ℕ, Bool, true, false, List, [], ◌∷◌, codes}
-use Rattle.std.specs.Prelude.{Option, Some, None, Result, Ok, Err, option_map, option_and_then}
-use Rattle.std.specs.Prelude.{if◌then◌else◌, string_bytes}
-use Rattle.std.specs.Str.{bytes_eq}
-use Rattle.std.specs.Str.Parse.{digits_value, without_leading_plus}
-use Rattle.clap.specs.Walk.{Row, Rule, Text, first_of}
-use Rattle.clap.specs.ValueTests.{is_unsigned_in}
-use Rattle.clap.specs.Simple.{App, Shape, new_app, new_rule, on_top, subcommand_of}
-use Rattle.clap.specs.Simple.{with_rule, with_subcommand, subcommand_rows_of}
-use Rattle.clap.specs.declared.parser.matches.ArgMatches.{ArgMatches}
-use Rattle.clap.specs.Faults.{fault_of}
-use Rattle.clap.specs.Kinds.{Kinds}
-use Rattle.boot.specs.declared.locks.LockKind.{LockKind}
-use Rattle.boot.specs.declared.locks.LockKind.TheVariants.{Grant}
-use Rattle.boot.specs.Locks.{lock_named}
+use Rattle.std.specs.Prelude.{◌≡◌, ℕ, Bool, true, false, List, [], ◌∷◌, codes, Option, Some, None, Result, Ok, Err, option_map, option_and_then, if◌then◌else◌}
+use Rattle.std.specs.Prelude.{string_bytes}
+use Rattle.std.specs.Str.{bytes_eq, Parse.digits_value, Parse.without_leading_plus}
+use Rattle.clap.specs.{Walk.Row, Walk.Rule, Walk.Text, Walk.first_of, ValueTests.is_unsigned_in, Simple.App, Simple.Shape, Simple.new_app, Simple.new_rule}
+use Rattle.clap.specs.{Simple.on_top, Simple.subcommand_of, Simple.with_rule, Simple.with_subcommand, Simple.subcommand_rows_of}
+use Rattle.clap.specs.{declared.parser.matches.ArgMatches.ArgMatches, Faults.fault_of, Kinds.Kinds}
+use Rattle.boot.specs.{declared.locks.LockKind.LockKind, declared.locks.LockKind.TheVariants.Grant, Locks.lock_named}
 use Rattle.event_log.specs.declared.ids.TheConstants.{CPUS}
-use Rattle.mctower.specs.declared.line.TheConstants.{MOST_TIMES, MOST_TURNS}
-use Rattle.mctower.specs.declared.line.Order.{Order}
-use Rattle.mctower.specs.declared.line.Order.TheVariants.{Count, Run, Threads, Check}
-use Rattle.mctower.specs.declared.line.LineError.{LineError}
-use Rattle.mctower.specs.declared.line.LineError.TheVariants.{NoMemory, Refused}
+use Rattle.mctower.specs.declared.line.{TheConstants.MOST_TIMES, TheConstants.MOST_TURNS, Order.Order, Order.TheVariants.Count, Order.TheVariants.Run}
+use Rattle.mctower.specs.declared.line.{Order.TheVariants.Threads, Order.TheVariants.Check, LineError.LineError, LineError.TheVariants.NoMemory}
+use Rattle.mctower.specs.declared.line.{LineError.TheVariants.Refused}
 
 -- ---- the commands and their options
 

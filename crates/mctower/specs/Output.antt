@@ -1,7 +1,6 @@
 -- What became of a sink from one point to a later one.
 use Rattle.std.specs.Prelude.{◌≡◌, ℕ, Bool, false, List, Option}
-use Rattle.tracer.specs.declared.sinks.Sink.{Sink}
-use Rattle.tracer.specs.Sinks.{Outs, has_failed, writer_of}
+use Rattle.tracer.specs.{declared.sinks.Sink.Sink, Sinks.Outs, Sinks.has_failed, Sinks.writer_of}
 
 -- whether a sink has failed, and the bytes that its writer holds before and after, where they are known
 pub record Output : Type 0 where

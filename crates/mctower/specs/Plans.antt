@@ -1,18 +1,13 @@
 -- The system of a plan, and what its steps leave as the plan has it.
 use Rattle.std.specs.Prelude.{◌≡◌, ℕ, List, length, map, replicate}
 use Rattle.event_log.specs.declared.ids.CpuId.{CpuId}
-use Rattle.boot.specs.declared.refusals.BootError.{BootError}
-use Rattle.boot.specs.declared.refusals.BootError.TheVariants as refused
-use Rattle.boot.specs.Plan.{BootPlan, IsPlan}
+use Rattle.boot.specs.{declared.refusals.BootError.BootError, Plan.BootPlan, Plan.IsPlan}
 use Rattle.tracer.specs.declared.gathering.GatherError.{GatherError}
+use Rattle.cpu.specs.{Boots.homes_for, Boots.tables_for, Cpus.programs_of, Claims.Shown, Claims.programs_in, Sound.after_steps, Sound.setup_for}
+use Rattle.cpu.specs.{Table.Steps.Whole, Table.Steps.whole_at_boot}
+use Rattle.mctower.specs.declared.run.Fault.{Fault, TheVariants.NoMemory, TheVariants.Boot, TheVariants.NoOrder}
+use Rattle.boot.specs.declared.refusals.BootError.TheVariants as refused
 use Rattle.tracer.specs.declared.gathering.GatherError.TheVariants as gathering
-use Rattle.cpu.specs.Boots.{homes_for, tables_for}
-use Rattle.cpu.specs.Cpus.{programs_of}
-use Rattle.cpu.specs.Claims.{Shown, programs_in}
-use Rattle.cpu.specs.Sound.{after_steps, setup_for}
-use Rattle.cpu.specs.Table.Steps.{Whole, whole_at_boot}
-use Rattle.mctower.specs.declared.run.Fault.{Fault}
-use Rattle.mctower.specs.declared.run.Fault.TheVariants.{NoMemory, Boot, NoOrder}
 
 -- the system has the CPUs, the threads with their programs, the buffers and the room of each trace that the plan says
 pub record IsSystemOf (plan : BootPlan) (s : Shown) : Type 0 where

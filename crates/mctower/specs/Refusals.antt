@@ -2,20 +2,14 @@
 use Rattle.std.specs.Prelude.{ℕ, List, Result, Ok, Err, codes}
 use Rattle.clap.specs.Walk.{Text}
 use Rattle.boot.specs.declared.refusals.BootError.{BootError}
-use Rattle.mctower.specs.Help.{help_of, topic_of}
-use Rattle.mctower.specs.Output.{IsPut, Output}
-use Rattle.mctower.specs.Print.{PrintsRefusal}
-use Rattle.mctower.specs.declared.line.LineError.{LineError}
-use Rattle.mctower.specs.declared.line.LineError.TheVariants as line
-use Rattle.mctower.specs.declared.refusals.Refusal.{Refusal}
+use Rattle.mctower.specs.{Help.help_of, Help.topic_of, Output.IsPut, Output.Output, Print.PrintsRefusal, declared.line.LineError.LineError}
+use Rattle.mctower.specs.{declared.refusals.Refusal.Refusal, declared.run.Fault.Fault, declared.schedule.StepsError.StepsError}
 use Rattle.mctower.specs.declared.refusals.Refusal.TheVariants.{BadLine, NoMemory, BadCpu, NoThread, NoOrder, ReadFault, WriteFault, BadSchedule, Plan}
-use Rattle.mctower.specs.declared.run.Fault.{Fault}
+use Rattle.cpu_workers.specs.declared.{counting.CountFault.CountFault, starting.WorkerError.WorkerError}
+use Rattle.mctower.specs.declared.line.LineError.TheVariants as line
 use Rattle.mctower.specs.declared.run.Fault.TheVariants as run
-use Rattle.mctower.specs.declared.schedule.StepsError.{StepsError}
 use Rattle.mctower.specs.declared.schedule.StepsError.TheVariants as steps
-use Rattle.cpu_workers.specs.declared.counting.CountFault.{CountFault}
 use Rattle.cpu_workers.specs.declared.counting.CountFault.TheVariants as count
-use Rattle.cpu_workers.specs.declared.starting.WorkerError.{WorkerError}
 use Rattle.cpu_workers.specs.declared.starting.WorkerError.TheVariants as worker
 
 -- the refusal of a run that had this fault

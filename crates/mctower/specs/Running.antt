@@ -1,22 +1,12 @@
 -- Running a plan: the system that a schedule leaves over the lock that the plan names, its trace text, and what a run answers.
 use Rattle.std.specs.Prelude.{◌≡◌, ℕ, ◌<◌, true, false, List, length, All, Result, Ok, Err}
-use Rattle.event_log.specs.declared.ids.CpuId.{CpuId}
-use Rattle.event_log.specs.Streams.{IsFirstInFirstOut}
-use Rattle.boot.specs.declared.locks.LockKind.{LockKind}
-use Rattle.boot.specs.declared.refusals.BootError.{BootError}
-use Rattle.boot.specs.Plan.{BootPlan}
-use Rattle.cpu.specs.Claims.{FollowPrograms, HasOneOrder, Shown, StandsOnce, StayHome, traces_of}
-use Rattle.cpu.specs.Sound.{IsSetupFor, SoundByTable, setup_for}
-use Rattle.cpu.specs.Systems.{Ran, whole_of}
-use Rattle.cpu.specs.Observed.{ObservedByTable}
-use Rattle.mctower.specs.declared.run.Fault.{Fault}
+use Rattle.event_log.specs.{declared.ids.CpuId.CpuId, Streams.IsFirstInFirstOut}
+use Rattle.boot.specs.{declared.locks.LockKind.LockKind, declared.refusals.BootError.BootError, Plan.BootPlan}
+use Rattle.cpu.specs.{Claims.FollowPrograms, Claims.HasOneOrder, Claims.Shown, Claims.StandsOnce, Claims.StayHome, Claims.traces_of, Sound.IsSetupFor}
+use Rattle.cpu.specs.{Sound.SoundByTable, Sound.setup_for, Systems.Ran, Systems.whole_of, Observed.ObservedByTable}
+use Rattle.mctower.specs.{declared.run.Fault.Fault, Output.IsUntouched, Output.Output, Plans.IsOpened, Plans.IsSystemOf, Plans.from_boot, Plans.table_run}
+use Rattle.mctower.specs.{State.IsStateOf, declared.states.State.State, Tabled.IsTextOfRun, Texts.IsOut}
 use Rattle.mctower.specs.declared.run.Fault.TheVariants.{NoMemory, Boot, BadCpu, NoOrder, WriteFault}
-use Rattle.mctower.specs.Output.{IsUntouched, Output}
-use Rattle.mctower.specs.Plans.{IsOpened, IsSystemOf, from_boot, table_run}
-use Rattle.mctower.specs.State.{IsStateOf}
-use Rattle.mctower.specs.declared.states.State.{State}
-use Rattle.mctower.specs.Tabled.{IsTextOfRun}
-use Rattle.mctower.specs.Texts.{IsOut}
 
 -- The system of a plan, after a schedule's steps: it was opened with room for just these and took them in their order; the plan says its
 -- setup of the step table; where its machine does one action a step it is the step table's system of the plan after them, no wake-up is

@@ -1,36 +1,21 @@
 -- What serving an order gives: the answer, what is on standard output and on standard error, and whether the input is read.
-use Rattle.std.specs.Prelude.{◌≡◌, ◌*◌, ◌++◌, ◌⊎◌, ℕ, Bool, true, false, List, [], ◌∷◌, Option, Some, None}
-use Rattle.std.specs.Prelude.{Result, Ok, Err, Vec, IfSome, IsUtf8, codes, decimal, if◌then◌else◌, is_some}
-use Rattle.std.specs.Global.{Global}
-use Rattle.std.specs.declared.io.ErrorKind.{ErrorKind}
-use Rattle.std.specs.declared.io.ErrorKind.TheVariants.{OutOfMemory}
+use Rattle.std.specs.Prelude.{◌≡◌, ◌*◌, ◌++◌, ◌⊎◌, ℕ, Bool, true, false, List, [], ◌∷◌, Option, Some, None, Result, Ok, Err, Vec, IfSome, IsUtf8, codes}
+use Rattle.std.specs.Prelude.{decimal, if◌then◌else◌, is_some}
+use Rattle.std.specs.{Global.Global, declared.io.ErrorKind.ErrorKind, declared.io.ErrorKind.TheVariants.OutOfMemory}
 use Rattle.clap.specs.Walk.{Text}
-use Rattle.event_log.specs.declared.ids.CpuId.{CpuId}
-use Rattle.event_log.specs.Streams.{IsFirstInFirstOut}
-use Rattle.boot.specs.declared.refusals.BootError.{BootError}
-use Rattle.boot.specs.declared.refusals.BootError.TheVariants.{BadToml}
-use Rattle.boot.specs.Plan.{BootPlan, plan_of}
-use Rattle.tracer.specs.declared.verdicts.Verdict.{Verdict}
-use Rattle.tracer.specs.declared.verdicts.Verdict.TheVariants as verdict
-use Rattle.tracer.specs.Judging.{verdict_of}
-use Rattle.tracer.specs.Reasons as reasons
-use Rattle.tracer.specs.Verdicts.{IsTraceOfRun}
-use Rattle.mctower.specs.Line.{Ghost, count, run, threads, check}
-use Rattle.mctower.specs.Output.{IsPut, IsUntouched, Output}
-use Rattle.mctower.specs.Refusals.{PutsText, status_of_refusal, text_of}
-use Rattle.mctower.specs.declared.refusals.Refusal.{Refusal}
+use Rattle.event_log.specs.{declared.ids.CpuId.CpuId, Streams.IsFirstInFirstOut}
+use Rattle.boot.specs.{declared.refusals.BootError.BootError, declared.refusals.BootError.TheVariants.BadToml, Plan.BootPlan, Plan.plan_of}
+use Rattle.tracer.specs.{declared.verdicts.Verdict.Verdict, Judging.verdict_of, Verdicts.IsTraceOfRun}
+use Rattle.mctower.specs.{Line.Ghost, Line.count, Line.run, Line.threads, Line.check, Output.IsPut, Output.IsUntouched, Output.Output, Refusals.PutsText}
+use Rattle.mctower.specs.{Refusals.status_of_refusal, Refusals.text_of, declared.refusals.Refusal.Refusal, Running.AreCpus, Running.IsRunOf}
+use Rattle.mctower.specs.{Running.NoCondition, State.IsStateOf, State.text_of_state, declared.serve.Done.Done, declared.serve.Done.TheVariants.Exit}
+use Rattle.mctower.specs.{declared.serve.Done.TheVariants.Ran, declared.serve.Done.TheVariants.Worked, declared.states.State.State, Schedule.steps_of}
+use Rattle.mctower.specs.{Tabled.IsStateOfRun, Tabled.IsTextOfRun, Texts.IsTextOf, Threads.IsWorked, Threads.stop_text}
 use Rattle.mctower.specs.declared.refusals.Refusal.TheVariants.{BadLine, NoMemory, BadCpu, NoThread, ReadFault, WriteFault, BadSchedule, Plan as BadPlan}
 use Rattle.cpu.specs.Claims.{Shown, traces_of}
 use Rattle.cpu_workers.specs.declared.stops.Stop.{Stop}
-use Rattle.mctower.specs.Running.{AreCpus, IsRunOf, NoCondition}
-use Rattle.mctower.specs.State.{IsStateOf, text_of_state}
-use Rattle.mctower.specs.declared.serve.Done.{Done}
-use Rattle.mctower.specs.declared.serve.Done.TheVariants.{Exit, Ran, Worked}
-use Rattle.mctower.specs.declared.states.State.{State}
-use Rattle.mctower.specs.Schedule.{steps_of}
-use Rattle.mctower.specs.Tabled.{IsStateOfRun, IsTextOfRun}
-use Rattle.mctower.specs.Texts.{IsTextOf}
-use Rattle.mctower.specs.Threads.{IsWorked, stop_text}
+use Rattle.tracer.specs.declared.verdicts.Verdict.TheVariants as verdict
+use Rattle.tracer.specs.Reasons as reasons
 
 -- the exit status of an answer
 abbrev pub status_of : Result Done Refusal → ℕ

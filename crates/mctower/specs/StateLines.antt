@@ -1,9 +1,8 @@
 -- The state lines: for each CPU why it is halted, for each thread where it is, and whether the system is quiet.
 use Rattle.std.specs.Prelude.{ℕ, Bool, List, [], ◌∷◌, ◌++◌, Option, Some, None, codes, decimal, if◌then◌else◌}
 use Rattle.std.specs.List.{flat_map}
-use Rattle.layer_traits.specs.declared.steps.Reason.{Reason}
-use Rattle.layer_traits.specs.declared.steps.Reason.TheVariants.{AllEnded, TraceFull, StepsUsed}
-use Rattle.layer_traits.specs.declared.calls.Place.{Place}
+use Rattle.layer_traits.specs.declared.{steps.Reason.Reason, steps.Reason.TheVariants.AllEnded, steps.Reason.TheVariants.TraceFull}
+use Rattle.layer_traits.specs.declared.{steps.Reason.TheVariants.StepsUsed, calls.Place.Place}
 use Rattle.layer_traits.specs.declared.calls.Place.TheVariants.{Running, Ready, Pending, Hand, LockSleeper, WaitRecv, WaitSend, Ended}
 use Rattle.tracer.specs.TraceText.{text_line, numbered}
 

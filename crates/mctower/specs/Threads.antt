@@ -1,18 +1,13 @@
 -- A run of a plan in threads: what its workers leave, and the lines that tell why each of them stopped.
 use Rattle.std.specs.Prelude.{◌≡◌, ℕ, List, codes, length}
 use Rattle.std.specs.List.{flat_map}
-use Rattle.event_log.specs.declared.ids.CpuId.{CpuId}
-use Rattle.event_log.specs.Streams.{IsFirstInFirstOut}
+use Rattle.event_log.specs.{declared.ids.CpuId.CpuId, Streams.IsFirstInFirstOut}
 use Rattle.tracer.specs.TraceText.{text_line, numbered}
 use Rattle.boot.specs.Plan.{BootPlan}
 use Rattle.cpu.specs.Sound.{setup_for}
-use Rattle.cpu_workers.specs.declared.gates.Go.{Go}
-use Rattle.cpu_workers.specs.declared.gates.Go.TheVariants.{Pass}
-use Rattle.cpu_workers.specs.declared.stops.Stop.{Stop}
-use Rattle.cpu_workers.specs.declared.stops.Stop.TheVariants.{AllEnded, TurnsUsed, TraceFull, Held}
-use Rattle.cpu_workers.specs.Lawful.{IsLawfulReport, Shown, left_in}
-use Rattle.mctower.specs.StateLines.{cpu_pieces}
-use Rattle.mctower.specs.Texts.{IsTextOf}
+use Rattle.cpu_workers.specs.{declared.gates.Go.Go, declared.gates.Go.TheVariants.Pass, Lawful.IsLawfulReport, Lawful.Shown, Lawful.left_in}
+use Rattle.cpu_workers.specs.declared.stops.Stop.{Stop, TheVariants.AllEnded, TheVariants.TurnsUsed, TheVariants.TraceFull, TheVariants.Held}
+use Rattle.mctower.specs.{StateLines.cpu_pieces, Texts.IsTextOf}
 
 -- the word for a stop
 abbrev pub stop_word : Stop → List ℕ

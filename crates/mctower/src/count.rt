@@ -2,9 +2,7 @@
 //! calls but `number_in` take memory. Only `count_table` waits.
 
 ghost use Rattle.std.specs.Prelude.{◌≡◌, ℕ, ◌+◌, ◌*◌, ◌<◌, ◌≤◌, ◌%◌, ◌^◌, Some, None, IsSome, IfOk, [], length};
-ghost use Rattle.event_log.specs.declared.ids.CpuId.{CpuId};
-ghost use Rattle.event_log.specs.declared.ids.TheConstants.{CPUS};
-ghost use Rattle.event_log.specs.Actions.{gives, phase, Rests};
+ghost use Rattle.event_log.specs.{declared.ids.CpuId.CpuId, declared.ids.TheConstants.CPUS, Actions.gives, Actions.phase, Actions.Rests};
 ghost use Rattle.cpu_workers.specs.Counts.{sections_at};
 ghost use Rattle.mctower.specs.Count.{AreReady, after_round, after_rounds};
 

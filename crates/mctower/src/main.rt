@@ -16,8 +16,7 @@
 ghost use Rattle.std.specs.Prelude.{◌≡◌, false, map};
 ghost use Rattle.std.specs.Process.{exit_status};
 ghost use Rattle.tracer.specs.Sinks.{has_failed};
-ghost use Rattle.mctower.specs.Output.{between};
-ghost use Rattle.mctower.specs.Serve.{EndsReported};
+ghost use Rattle.mctower.specs.{Output.between, Serve.EndsReported};
 
 pub mod count;
 mod help;

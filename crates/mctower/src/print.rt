@@ -4,8 +4,7 @@
 ghost use Rattle.std.specs.Prelude.{◌≡◌, IfOk, false, is_err, true};
 ghost use Rattle.std.specs.List.{before_first, flat_map};
 ghost use Rattle.tracer.specs.Sinks.{WentOut, has_failed, is_flushed};
-ghost use Rattle.mctower.specs.Output.{between};
-ghost use Rattle.mctower.specs.Print.{PrintsRefusal, is_line_feed, shown_as};
+ghost use Rattle.mctower.specs.{Output.between, Print.PrintsRefusal, Print.is_line_feed, Print.shown_as};
 
 use arrayvec::ArrayString;
 use std::fmt;

@@ -3,8 +3,7 @@
 ghost use Rattle.std.specs.Prelude.{◌≡◌, ◌<◌, ◌≤◌, ℕ, length, slice_index_or};
 ghost use Rattle.event_log.specs.declared.ids.TheConstants.{CPUS, THREADS};
 ghost use Rattle.layer_traits.specs.declared.calls.Place.{Place};
-ghost use Rattle.cpu.specs.Claims.{IsPlaceOf, listed};
-ghost use Rattle.cpu.specs.Systems.{halted_in};
+ghost use Rattle.cpu.specs.{Claims.IsPlaceOf, Claims.listed, Systems.halted_in};
 ghost use Rattle.mctower.specs.State.{IsStateOf};
 
 use crate::states::State;

@@ -2,8 +2,8 @@
 
 ghost use Rattle.std.specs.Prelude.{◌≡◌, false, map, MatchResult, Ok, Err};
 ghost use Rattle.tracer.specs.Sinks.{has_failed};
-ghost use Rattle.mctower.specs.Output.{between};
-ghost use Rattle.mctower.specs.Refusals.{PutsText, from_count, from_fault, from_line, from_steps, from_worker, status_of_refusal, text_of};
+ghost use Rattle.mctower.specs.{Output.between, Refusals.PutsText, Refusals.from_count, Refusals.from_fault, Refusals.from_line, Refusals.from_steps};
+ghost use Rattle.mctower.specs.{Refusals.from_worker, Refusals.status_of_refusal, Refusals.text_of};
 
 use crate::help::help_on;
 use crate::line::LineError;

@@ -4,13 +4,9 @@
 ghost use Rattle.std.specs.Prelude.{◌≡◌, ◌≤◌, false, length, map, IfOk};
 ghost use Rattle.event_log.specs.declared.ids.TheConstants.{BUFFERS};
 ghost use Rattle.boot.specs.Plan.{plan_of};
-ghost use Rattle.tracer.specs.Gather.{traces_in};
-ghost use Rattle.tracer.specs.Sinks.{has_failed};
+ghost use Rattle.tracer.specs.{Gather.traces_in, Sinks.has_failed};
 ghost use Rattle.cpu.specs.Claims.{traces_of};
-ghost use Rattle.mctower.specs.Output.{between};
-ghost use Rattle.mctower.specs.Plans.{IsOfPlan, from_boot};
-ghost use Rattle.mctower.specs.Running.{RunsPlan, RunsText};
-ghost use Rattle.mctower.specs.Texts.{Writes};
+ghost use Rattle.mctower.specs.{Output.between, Plans.IsOfPlan, Plans.from_boot, Running.RunsPlan, Running.RunsText, Texts.Writes};
 ghost use Rattle.mctower.specs.declared.run.Fault.TheVariants.{NoMemory, NoOrder, BadCpu as BadCpuFault, WriteFault as WriteFailed};
 
 use crate::schedule::MOST_STEPS;

@@ -2,8 +2,8 @@
 //! `read_steps` takes memory. No call waits.
 ghost use Rattle.std.specs.Prelude.{◌≡◌, ◌+◌, ◌<◌, ◌≤◌, ◌∷◌, ◌++◌, length, replicate, option_map, IfSome, OnOk, vec_len};
 ghost use Rattle.std.specs.List.{slice_split};
-ghost use Rattle.mctower.specs.Schedule.{cpu_of, item_of, is_comma, schedule_pieces, ReadsSteps, steps_of};
-ghost use Rattle.mctower.specs.declared.schedule.StepsError.TheVariants.{NoMemory};
+ghost use Rattle.mctower.specs.{Schedule.cpu_of, Schedule.item_of, Schedule.is_comma, Schedule.schedule_pieces, Schedule.ReadsSteps, Schedule.steps_of};
+ghost use Rattle.mctower.specs.{declared.schedule.StepsError.TheVariants.NoMemory};
 
 use event_log::{CpuId, number_to};
 use std::alloc::{AllocError, AllocFailed, Global};

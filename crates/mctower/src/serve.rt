@@ -5,10 +5,9 @@ ghost use Rattle.std.specs.Prelude.{◌≡◌, ◌≤◌, ◌*◌, ◌⊎◌, If
 ghost use Rattle.std.specs.List.{flat_map};
 ghost use Rattle.event_log.specs.declared.ids.TheConstants.{CPUS};
 ghost use Rattle.tracer.specs.Sinks.{has_failed, is_flushed};
-ghost use Rattle.mctower.specs.Output.{between};
-ghost use Rattle.mctower.specs.Line.{order_of};
-ghost use Rattle.mctower.specs.Schedule.{ReadsSteps};
-ghost use Rattle.mctower.specs.Serve.{Checks, Counts, Ends, OfBytes, OfInput, Puts, ReadsAll, RunsPlan, Serves, PrintsVerdict, kind_refused, reads_input, steps_asked};
+ghost use Rattle.mctower.specs.{Output.between, Line.order_of, Schedule.ReadsSteps, Serve.Checks, Serve.Counts, Serve.Ends, Serve.OfBytes, Serve.OfInput};
+ghost use Rattle.mctower.specs.{Serve.Puts, Serve.ReadsAll, Serve.RunsPlan, Serve.Serves, Serve.PrintsVerdict, Serve.kind_refused, Serve.reads_input};
+ghost use Rattle.mctower.specs.{Serve.steps_asked};
 
 use crate::count::{count_plain, count_table};
 use crate::line::{MOST_TIMES, Order, read_line};

@@ -2,8 +2,7 @@
 //! memory or waits, unless the sink's writer does.
 
 ghost use Rattle.std.specs.Prelude.{◌≡◌, ℕ, List, Some, None, false, is_err, map, ◌≤◌};
-ghost use Rattle.tracer.specs.Sinks.{WentOut, has_failed};
-ghost use Rattle.tracer.specs.TraceText.{text_line, numbered};
+ghost use Rattle.tracer.specs.{Sinks.WentOut, Sinks.has_failed, TraceText.text_line, TraceText.numbered};
 ghost use Rattle.std.specs.List.{flat_map};
 ghost use Rattle.event_log.specs.declared.ids.TheConstants.{THREADS};
 ghost use Rattle.mctower.specs.StateLines.{cpu_pieces, halted_pieces, halted_word, place_name, place_number, quiet_pieces, state_text, thread_pieces};

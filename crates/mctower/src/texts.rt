@@ -1,15 +1,9 @@
 //! The trace text of the traces of a plan's CPUs, which both a run of steps and a run in threads write.
 
 ghost use Rattle.std.specs.Prelude.{◌≡◌, ◌<◌, ℕ, List, false, length, map, slice_index_or};
-ghost use Rattle.event_log.specs.declared.entries.Entry.{Entry as AnEntry};
-ghost use Rattle.event_log.specs.Messages.{IsMessage, Message};
-ghost use Rattle.tracer.specs.Gather.{traces_in};
-ghost use Rattle.tracer.specs.Judging.{verdict_of};
-ghost use Rattle.tracer.specs.Sinks.{has_failed};
-ghost use Rattle.tracer.specs.declared.verdicts.Verdict.TheVariants.{Yes as SaysYes};
-ghost use Rattle.mctower.specs.Output.{between};
-ghost use Rattle.mctower.specs.Tabled.{NothingIsPrinted};
-ghost use Rattle.mctower.specs.Texts.{HaveText, IsTextOf, Writes};
+ghost use Rattle.event_log.specs.{declared.entries.Entry.Entry as AnEntry, Messages.IsMessage, Messages.Message};
+ghost use Rattle.tracer.specs.{Gather.traces_in, Judging.verdict_of, Sinks.has_failed, declared.verdicts.Verdict.TheVariants.Yes as SaysYes};
+ghost use Rattle.mctower.specs.{Output.between, Tabled.NothingIsPrinted, Texts.HaveText, Texts.IsTextOf, Texts.Writes};
 
 use crate::run::Fault;
 use arrayvec::ArrayVec;

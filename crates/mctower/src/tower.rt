@@ -7,8 +7,7 @@
 ghost use Rattle.std.specs.Prelude.{◌≡◌, ◌≤◌, ◌⊎◌, Err, false, length};
 ghost use Rattle.boot.specs.Plan.{plan_of};
 ghost use Rattle.tracer.specs.Sinks.{has_failed};
-ghost use Rattle.mctower.specs.Output.{between};
-ghost use Rattle.mctower.specs.Running.{RunsOverTower, lock_in};
+ghost use Rattle.mctower.specs.{Output.between, Running.RunsOverTower, Running.lock_in};
 ghost use Rattle.mctower.specs.declared.run.Fault.TheVariants as fault;
 
 use crate::locks::over_lock;
@@ -129,9 +128,7 @@ impl<O: Write> OverTower for PlanRun<'_, '_, '_, O> {
     ghost use Rattle.std.specs.Prelude.{◌≡◌, ◌≤◌, false, length, Ok};
     ghost use Rattle.boot.specs.Plan.{plan_of};
     ghost use Rattle.tracer.specs.Sinks.{has_failed};
-    ghost use Rattle.mctower.specs.Output.{between};
-    ghost use Rattle.mctower.specs.Running.{RunsOverTower, lock_in};
-    ghost use Rattle.mctower.specs.declared.schedule.TheConstants.{MOST_STEPS};
+    ghost use Rattle.mctower.specs.{Output.between, Running.RunsOverTower, Running.lock_in, declared.schedule.TheConstants.MOST_STEPS};
 
     type Done = Result<State, Fault>;
 

@@ -1,43 +1,24 @@
 -- How a thread stands after a poll of its call on a lock with conditions, by the law of the layer alone.
-use Rattle.std.proofs.Common.{◌≡◌, ◌⊎◌, inl, inr, true, false, List, Option, Some, None, IsSome, is_some, slice_set, length, option_map, ◌<◌, refl, ap, sym, ◌∙◌, subst}
-use Rattle.std.proofs.lemmas.Option.{same_Some}
-use Rattle.std.proofs.lemmas.List.{get_or-set_same, length-replicate, length-set}
-use Rattle.event_log.specs.declared.ids.BufId.{BufId}
-use Rattle.event_log.specs.declared.ids.CpuId.{CpuId}
-use Rattle.event_log.specs.declared.ids.LockId.{LockId}
-use Rattle.event_log.specs.declared.ids.LockId.TheVariants.{Buffer}
-use Rattle.event_log.specs.declared.ids.Tid.{Tid}
-use Rattle.event_log.specs.declared.ids.TheConstants.{THREADS}
-use Rattle.layer_traits.specs.declared.conditions.CvEdit.{CvEdit}
-use Rattle.layer_traits.specs.declared.conditions.CvLeave.{CvLeave}
-use Rattle.layer_traits.specs.declared.conditions.CvOut.{CvOut}
-use Rattle.layer_traits.specs.declared.conditions.CvOut.TheVariants as answer
-use Rattle.layer_traits.specs.declared.locked.QEdit.{QEdit}
-use Rattle.layer_traits.specs.declared.locked.QOut.{QOut}
-use Rattle.layer_traits.specs.declared.locked.QOut.TheVariants.{Acquired, Queued, Did, Released}
-use Rattle.layer_traits.specs.declared.locked.Side.{Side}
-use Rattle.layer_traits.specs.declared.locked.Side.TheVariants.{Receivers, Senders}
-use Rattle.layer_traits.specs.declared.moves.WaitList.{WaitList}
-use Rattle.layer_traits.specs.declared.moves.WaitList.TheVariants as wait_list
-use Rattle.layer_traits.specs.declared.payloads.Parcel.{Parcel}
-use Rattle.layer_traits.specs.declared.queue_edits.QueueBlock.{QueueBlock}
-use Rattle.layer_traits.specs.declared.queues.QueueEvent.{QueueEvent}
-use Rattle.layer_traits.specs.declared.scheds.SchedCall.{SchedCall}
-use Rattle.layer_traits.specs.declared.scheds.SchedCall.TheVariants.{OnBuffer}
-use Rattle.layer_traits.specs.declared.sleeps.Outcome.{Outcome}
-use Rattle.layer_traits.specs.Conditions.{CvCall, MonitorRules, cv_rules}
-use Rattle.layer_traits.specs.CvLaw.{CvPolled, MayWait, WaitOver, Waiting, left_reported, left_waiting, waiting_at_start, waiting_with}
-use Rattle.layer_traits.specs.Locking.{LockState, wait_list_for, wait_list_slept, lock_caller, owner_in, owner_of}
-use Rattle.layer_traits.specs.LockLaw.{IsAcquire, Locking, MayGo, MayLock, lock_kernel, slept_for}
-use Rattle.layer_traits.specs.Payloads.{cv_meant, lock_meant}
-use Rattle.layer_traits.specs.Plans.{Left}
-use Rattle.layer_traits.specs.QueueBlocks.{inner}
-use Rattle.layer_traits.specs.Queues.{Kernel, buffer_sections}
-use Rattle.layer_traits.specs.SleepLaw.{MayCall}
+use Rattle.std.proofs.Common.{◌≡◌, ◌⊎◌, inl, inr, true, false, List, Option, Some, None, IsSome, is_some, slice_set, length, option_map, ◌<◌, refl, ap, sym}
+use Rattle.std.proofs.Common.{◌∙◌, subst}
+use Rattle.std.proofs.lemmas.{Option.same_Some, List.get_or-set_same, List.length-replicate, List.length-set}
+use Rattle.event_log.specs.declared.ids.{BufId.BufId, CpuId.CpuId, LockId.LockId, LockId.TheVariants.Buffer, Tid.Tid, TheConstants.THREADS}
+use Rattle.layer_traits.specs.declared.{conditions.CvEdit.CvEdit, conditions.CvLeave.CvLeave, conditions.CvOut.CvOut, locked.QEdit.QEdit, locked.QOut.QOut}
+use Rattle.layer_traits.specs.declared.{locked.QOut.TheVariants.Acquired, locked.QOut.TheVariants.Queued, locked.QOut.TheVariants.Did}
+use Rattle.layer_traits.specs.declared.{locked.QOut.TheVariants.Released, locked.Side.Side, locked.Side.TheVariants.Receivers, locked.Side.TheVariants.Senders}
+use Rattle.layer_traits.specs.declared.{moves.WaitList.WaitList, payloads.Parcel.Parcel, queue_edits.QueueBlock.QueueBlock, queues.QueueEvent.QueueEvent}
+use Rattle.layer_traits.specs.declared.{scheds.SchedCall.SchedCall, scheds.SchedCall.TheVariants.OnBuffer, sleeps.Outcome.Outcome}
+use Rattle.layer_traits.specs.{Conditions.CvCall, Conditions.MonitorRules, Conditions.cv_rules, CvLaw.CvPolled, CvLaw.MayWait, CvLaw.WaitOver, CvLaw.Waiting}
+use Rattle.layer_traits.specs.{CvLaw.left_reported, CvLaw.left_waiting, CvLaw.waiting_at_start, CvLaw.waiting_with, Locking.LockState, Locking.wait_list_for}
+use Rattle.layer_traits.specs.{Locking.wait_list_slept, Locking.lock_caller, Locking.owner_in, Locking.owner_of, LockLaw.IsAcquire, LockLaw.Locking}
+use Rattle.layer_traits.specs.{LockLaw.MayGo, LockLaw.MayLock, LockLaw.lock_kernel, LockLaw.slept_for, Payloads.cv_meant, Payloads.lock_meant, Plans.Left}
+use Rattle.layer_traits.specs.{QueueBlocks.inner, Queues.Kernel, Queues.buffer_sections, SleepLaw.MayCall}
 use Rattle.queuing_lock.proofs.SleptLemmas.{none_at}
 use Rattle.plain_layers.proofs.LockSectionLemmas.{After, after_polled}
-use Rattle.plain_layers.specs.CondSections.{CondHasEnded, IsCondReady, MayPollCondSection, WaitsAt}
-use Rattle.plain_layers.specs.LockSections.{call_alone, no_parcel}
+use Rattle.plain_layers.specs.{CondSections.CondHasEnded, CondSections.IsCondReady, CondSections.MayPollCondSection, CondSections.WaitsAt}
+use Rattle.plain_layers.specs.{LockSections.call_alone, LockSections.no_parcel}
+use Rattle.layer_traits.specs.declared.conditions.CvOut.TheVariants as answer
+use Rattle.layer_traits.specs.declared.moves.WaitList.TheVariants as wait_list
 
 module _ {G B O : Type 0} (monitor_rules : MonitorRules G B O) (opening : LockId → Option (QueueBlock (LockState B))) (ActsFor : CpuId → Type 0) (c : CpuId)
     (b : BufId) (call : CvCall G) where

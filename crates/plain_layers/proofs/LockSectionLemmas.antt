@@ -1,44 +1,24 @@
 -- How a thread stands after a poll of its call on a queuing lock, by the law of the layer alone.
-use Rattle.std.proofs.Common.{◌≡◌, ◌⊎◌, inl, inr, Bool, true, false, ◌&&◌, not, List, ◌∷◌, ◌++◌, Option, Some, None, IsSome, is_some, option_map}
-use Rattle.std.proofs.Common.{if◌then◌else◌, ◌<◌, refl, ap, sym, ◌∙◌, subst}
+use Rattle.std.proofs.Common.{◌≡◌, ◌⊎◌, inl, inr, Bool, true, false, ◌&&◌, not, List, ◌∷◌, ◌++◌, Option, Some, None, IsSome, is_some, option_map, if◌then◌else◌}
+use Rattle.std.proofs.Common.{◌<◌, refl, ap, sym, ◌∙◌, subst}
 use Rattle.std.proofs.lemmas.List.{get_or-set_same, length-replicate, length-set}
-use Rattle.event_log.specs.declared.ids.BufId.{BufId}
-use Rattle.event_log.specs.declared.ids.CpuId.{CpuId}
-use Rattle.event_log.specs.declared.ids.LockId.{LockId}
-use Rattle.event_log.specs.declared.ids.LockId.TheVariants.{Buffer}
-use Rattle.event_log.specs.declared.ids.Tid.{Tid}
-use Rattle.event_log.specs.declared.ids.TheConstants.{THREADS}
-use Rattle.event_log.proofs.Same.{same_lock_self}
-use Rattle.event_log.proofs.BoolLemmas.{none_of}
-use Rattle.layer_traits.specs.declared.locked.QEdit.{QEdit}
-use Rattle.layer_traits.specs.declared.locked.QEdit.TheVariants.{Acquire, Inside, Release}
-use Rattle.layer_traits.specs.declared.locked.QOut.{QOut}
-use Rattle.layer_traits.specs.declared.locked.QOut.TheVariants.{Acquired, Queued, Did, Released}
-use Rattle.layer_traits.specs.declared.moves.WaitList.{WaitList}
-use Rattle.layer_traits.specs.declared.moves.WaitList.TheVariants.{Sleepers}
-use Rattle.layer_traits.specs.declared.payloads.Parcel.{Parcel}
-use Rattle.layer_traits.specs.declared.queue_edits.QueueBlock.{QueueBlock}
-use Rattle.layer_traits.specs.declared.queues.QueueCall.TheVariants.{OnBuffer}
-use Rattle.layer_traits.specs.declared.queues.QueueEvent.{QueueEvent}
-use Rattle.layer_traits.specs.declared.scheds.SchedCall.{SchedCall}
-use Rattle.layer_traits.specs.declared.scheds.SchedCall.TheVariants as call
-use Rattle.layer_traits.specs.declared.sleeps.Outcome.{Outcome}
-use Rattle.layer_traits.specs.Locking.{LockRules, LockState, asked, wait_list_asked, wait_list_slept}
-use Rattle.layer_traits.specs.Locking.{lock_after, lock_answer, lock_caller, lock_edited, lock_moves}
-use Rattle.layer_traits.specs.Locking.{lock_out, lock_slept, owner_in, owner_of, asker_report}
-use Rattle.layer_traits.specs.LockLaw.{at_start, Handed, IsAcquire, LockPolled, Locking, Locks, MayGo, MayLock, left_after, left_locked, lock_kernel, locking}
-use Rattle.layer_traits.specs.LockLaw.{slept_for}
-use Rattle.layer_traits.specs.Passes.{own_slept, passed_on}
-use Rattle.layer_traits.specs.Payloads.{lock_meant}
-use Rattle.layer_traits.specs.Places.{Threads}
-use Rattle.layer_traits.specs.Plans.{Left}
-use Rattle.layer_traits.specs.QueueBlocks.{homes_in, inner}
-use Rattle.layer_traits.specs.Queues.{Kernel, buffer_sections, event}
-use Rattle.layer_traits.specs.Scheds.{own_answered}
-use Rattle.layer_traits.specs.SleepLaw.{MayCall, PollResult, Does, MayDo, Sends, Sleeping, Waits, left_with, must_send, seen_with}
+use Rattle.event_log.specs.declared.ids.{BufId.BufId, CpuId.CpuId, LockId.LockId, LockId.TheVariants.Buffer, Tid.Tid, TheConstants.THREADS}
+use Rattle.event_log.proofs.{Same.same_lock_self, BoolLemmas.none_of}
+use Rattle.layer_traits.specs.declared.locked.{QEdit.QEdit, QEdit.TheVariants.Acquire, QEdit.TheVariants.Inside, QEdit.TheVariants.Release, QOut.QOut}
+use Rattle.layer_traits.specs.declared.locked.{QOut.TheVariants.Acquired, QOut.TheVariants.Queued, QOut.TheVariants.Did, QOut.TheVariants.Released}
+use Rattle.layer_traits.specs.declared.{moves.WaitList.WaitList, moves.WaitList.TheVariants.Sleepers, payloads.Parcel.Parcel, queue_edits.QueueBlock.QueueBlock}
+use Rattle.layer_traits.specs.declared.{queues.QueueCall.TheVariants.OnBuffer, queues.QueueEvent.QueueEvent, scheds.SchedCall.SchedCall, sleeps.Outcome.Outcome}
+use Rattle.layer_traits.specs.Locking.{LockRules, LockState, asked, wait_list_asked, wait_list_slept, lock_after, lock_answer, lock_caller, lock_edited}
+use Rattle.layer_traits.specs.Locking.{lock_moves, lock_out, lock_slept, owner_in, owner_of, asker_report}
+use Rattle.layer_traits.specs.{LockLaw.at_start, LockLaw.Handed, LockLaw.IsAcquire, LockLaw.LockPolled, LockLaw.Locking, LockLaw.Locks, LockLaw.MayGo}
+use Rattle.layer_traits.specs.{LockLaw.MayLock, LockLaw.left_after, LockLaw.left_locked, LockLaw.lock_kernel, LockLaw.locking, LockLaw.slept_for}
+use Rattle.layer_traits.specs.{Passes.own_slept, Passes.passed_on, Payloads.lock_meant, Places.Threads, Plans.Left, QueueBlocks.homes_in, QueueBlocks.inner}
+use Rattle.layer_traits.specs.{Queues.Kernel, Queues.buffer_sections, Queues.event, Scheds.own_answered, SleepLaw.MayCall, SleepLaw.PollResult, SleepLaw.Does}
+use Rattle.layer_traits.specs.{SleepLaw.MayDo, SleepLaw.Sends, SleepLaw.Sleeping, SleepLaw.Waits, SleepLaw.left_with, SleepLaw.must_send, SleepLaw.seen_with}
 use Rattle.layer_traits.proofs.PlaceLemmas.{woken_current}
 use Rattle.queuing_lock.proofs.SleptLemmas.{none_at}
 use Rattle.plain_layers.specs.LockSections.{LockHasEnded, IsSteady, MayPollLockSection, SleepsFor, call_alone, no_parcel}
+use Rattle.layer_traits.specs.declared.scheds.SchedCall.TheVariants as call
 
 -- Who runs after a section.
 

@@ -1,7 +1,6 @@
 -- What follows of a machine from two things that hold of it where it was opened.
 use Rattle.std.proofs.Common.{◌<◌, lit<, Result, Ok, Err, IfOk}
-use Rattle.event_log.specs.declared.ids.CpuId.{CpuId}
-use Rattle.event_log.specs.declared.ids.TheConstants.{CPUS}
+use Rattle.event_log.specs.declared.ids.{CpuId.CpuId, TheConstants.CPUS}
 
 pub both_ok : {M F : Type 0} (r : Result M F) (P Q R : M → Type 0) → IfOk r P → IfOk r Q → ((m : M) → P m → Q m → R m) → IfOk r R
 both_ok (Ok m) P Q R p q follows = follows m p q

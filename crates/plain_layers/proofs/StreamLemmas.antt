@@ -1,11 +1,8 @@
 -- What one more call adds to what was sent and what was taken.
 use Rattle.std.proofs.Common.{◌≡◌, ◌==◌, ℕ, Bool, true, false, List, [], ◌∷◌, ◌++◌, refl, ap, ◌∙◌, if◌then◌else◌}
 use Rattle.std.proofs.lemmas.List.{append-nil}
-use Rattle.event_log.specs.declared.entries.Entry.{Entry}
-use Rattle.event_log.specs.declared.entries.Kind.{Kind}
-use Rattle.event_log.specs.declared.entries.Kind.TheVariants.{Send, Recv, Close, SendClosed, RecvClosed}
-use Rattle.event_log.specs.Messages.{Message}
-use Rattle.event_log.specs.Streams.{put_by, sent_to, taken_by, taken_from}
+use Rattle.event_log.specs.{declared.entries.Entry.Entry, Messages.Message, Streams.put_by, Streams.sent_to, Streams.taken_by, Streams.taken_from}
+use Rattle.event_log.specs.declared.entries.Kind.{Kind, TheVariants.Send, TheVariants.Recv, TheVariants.Close, TheVariants.SendClosed, TheVariants.RecvClosed}
 use Rattle.layer_traits.specs.BufferEffects.{entry}
 use Rattle.cpu_workers.specs.Callers.{CallerView, HasMade, IsSameCaller}
 

@@ -1,18 +1,9 @@
 -- A thread's calls on a lock with conditions, poll after poll: what it may poll, and how it stands after that.
 use Rattle.std.specs.Prelude.{◌≡◌, ◌<◌, List, length, Option, Some, None, IsSome}
-use Rattle.event_log.specs.declared.ids.BufId.{BufId}
-use Rattle.event_log.specs.declared.ids.CpuId.{CpuId}
-use Rattle.event_log.specs.declared.ids.Tid.{Tid}
-use Rattle.layer_traits.specs.declared.conditions.CvOut.{CvOut}
-use Rattle.layer_traits.specs.declared.locked.QOut.{QOut}
-use Rattle.layer_traits.specs.declared.queues.QueueEvent.{QueueEvent}
-use Rattle.layer_traits.specs.declared.scheds.SchedCall.{SchedCall}
-use Rattle.layer_traits.specs.declared.sleeps.Outcome.{Outcome}
-use Rattle.layer_traits.specs.Conditions.{CvCall, MonitorRules, cv_rules}
-use Rattle.layer_traits.specs.CvLaw.{MayCallCond, Waiting}
-use Rattle.layer_traits.specs.Locking.{LockState, lock_caller}
-use Rattle.layer_traits.specs.LockLaw.{slept_for}
-use Rattle.layer_traits.specs.Queues.{Kernel}
+use Rattle.event_log.specs.declared.ids.{BufId.BufId, CpuId.CpuId, Tid.Tid}
+use Rattle.layer_traits.specs.{declared.conditions.CvOut.CvOut, declared.locked.QOut.QOut, declared.queues.QueueEvent.QueueEvent}
+use Rattle.layer_traits.specs.{declared.scheds.SchedCall.SchedCall, declared.sleeps.Outcome.Outcome, Conditions.CvCall, Conditions.MonitorRules}
+use Rattle.layer_traits.specs.{Conditions.cv_rules, CvLaw.MayCallCond, CvLaw.Waiting, Locking.LockState, Locking.lock_caller, LockLaw.slept_for, Queues.Kernel}
 use Rattle.plain_layers.specs.LockSections.{IsSteady}
 
 -- the part has a place for the thread, and keeps no outcome of a call by which its caller fell asleep

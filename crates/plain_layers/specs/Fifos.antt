@@ -1,32 +1,16 @@
 -- Buffers in one section a call: which section a call is, what it leaves, and what a machine of such sections shows.
 use Rattle.std.specs.Prelude.{◌≡◌, ◌≢◌, ℕ, ◌<◌, List, [], ◌∷◌, ◌++◌, length, Option, Some, None, option_map, option_to_list, replicate, slice_get}
-use Rattle.event_log.specs.declared.entries.Entry.{Entry}
-use Rattle.event_log.specs.declared.ids.BufId.{BufId}
-use Rattle.event_log.specs.declared.ids.CpuId.{CpuId}
-use Rattle.event_log.specs.declared.ids.LockId.{LockId}
-use Rattle.event_log.specs.declared.ids.LockId.TheVariants.{Pending, Buffer}
-use Rattle.event_log.specs.declared.ids.Tid.{Tid}
-use Rattle.event_log.specs.declared.ids.TheConstants.{CPUS, THREADS}
-use Rattle.event_log.specs.Sections.{Section, block_after}
-use Rattle.layer_traits.specs.declared.calls.Call.{Call}
-use Rattle.layer_traits.specs.declared.calls.Call.TheVariants.{Send, Recv, Close}
-use Rattle.layer_traits.specs.declared.calls.Effect.{Effect}
-use Rattle.layer_traits.specs.declared.calls.Reply.{Reply}
-use Rattle.layer_traits.specs.declared.moves.WaitList.{WaitList}
-use Rattle.layer_traits.specs.declared.scheds.SchedCall.{SchedCall}
-use Rattle.layer_traits.specs.declared.call_states.Stage.TheVariants.{Idle, Waits}
-use Rattle.layer_traits.specs.declared.call_states.CallState.{CallState}
-use Rattle.layer_traits.specs.BufferLaw.{Buffering, buffering, entry_of, reply_of, call_state_of}
-use Rattle.layer_traits.specs.BufferProtocol.{BufferLock}
-use Rattle.layer_traits.specs.Places.{Threads}
-use Rattle.layer_traits.specs.Sleeping.{SleepState, wait_list_at, sleep_edited}
-use Rattle.layer_traits.specs.SleepLaw.{Sleeping}
-use Rattle.layer_traits.specs.Capacities.{caps_from}
-use Rattle.plain_layers.specs.declared.attempts.Ask.{Ask}
+use Rattle.event_log.specs.{declared.entries.Entry.Entry, declared.ids.BufId.BufId, declared.ids.CpuId.CpuId, declared.ids.LockId.LockId}
+use Rattle.event_log.specs.{declared.ids.LockId.TheVariants.Pending, declared.ids.LockId.TheVariants.Buffer, declared.ids.Tid.Tid}
+use Rattle.event_log.specs.{declared.ids.TheConstants.CPUS, declared.ids.TheConstants.THREADS, Sections.Section, Sections.block_after}
+use Rattle.layer_traits.specs.declared.calls.{Call.Call, Call.TheVariants.Send, Call.TheVariants.Recv, Call.TheVariants.Close, Effect.Effect, Reply.Reply}
+use Rattle.layer_traits.specs.{declared.moves.WaitList.WaitList, declared.scheds.SchedCall.SchedCall, declared.call_states.Stage.TheVariants.Idle}
+use Rattle.layer_traits.specs.{declared.call_states.Stage.TheVariants.Waits, declared.call_states.CallState.CallState, BufferLaw.Buffering, BufferLaw.buffering}
+use Rattle.layer_traits.specs.{BufferLaw.entry_of, BufferLaw.reply_of, BufferLaw.call_state_of, BufferProtocol.BufferLock, Places.Threads, Sleeping.SleepState}
+use Rattle.layer_traits.specs.{Sleeping.wait_list_at, Sleeping.sleep_edited, SleepLaw.Sleeping, Capacities.caps_from}
+use Rattle.plain_layers.specs.{declared.attempts.Ask.Ask, declared.attempts.Attempt.Attempt, declared.attempts.Tried.Tried, Attempts.PlainState}
+use Rattle.plain_layers.specs.{Attempts.attempts, Attempts.effect_in, Attempts.empty_buffer, Attempts.told}
 use Rattle.plain_layers.specs.declared.attempts.Ask.TheVariants as ask
-use Rattle.plain_layers.specs.declared.attempts.Attempt.{Attempt}
-use Rattle.plain_layers.specs.declared.attempts.Tried.{Tried}
-use Rattle.plain_layers.specs.Attempts.{PlainState, attempts, effect_in, empty_buffer, told}
 
 -- a buffer with the waiting lists of its lock
 abbrev pub PlainLocked : Type 0

@@ -1,19 +1,10 @@
 -- A thread's calls on a queuing lock, poll after poll: what it may poll, and how it stands after that.
 use Rattle.std.specs.Prelude.{◌≡◌, ◌<◌, List, length, Option, Some, None}
-use Rattle.event_log.specs.declared.ids.BufId.{BufId}
-use Rattle.event_log.specs.declared.ids.CpuId.{CpuId}
-use Rattle.event_log.specs.declared.ids.Tid.{Tid}
-use Rattle.event_log.specs.Messages.{no_message}
-use Rattle.layer_traits.specs.declared.locked.QEdit.{QEdit}
-use Rattle.layer_traits.specs.declared.locked.QOut.{QOut}
-use Rattle.layer_traits.specs.declared.payloads.Parcel.{Parcel}
-use Rattle.layer_traits.specs.declared.queues.QueueEvent.{QueueEvent}
-use Rattle.layer_traits.specs.declared.scheds.SchedCall.{SchedCall}
-use Rattle.layer_traits.specs.declared.sleeps.Outcome.{Outcome}
-use Rattle.layer_traits.specs.Locking.{LockRules, LockState, wait_list_slept, lock_caller}
-use Rattle.layer_traits.specs.LockLaw.{Locking, MayCallLock, slept_for}
-use Rattle.layer_traits.specs.Payloads.{lock_meant}
-use Rattle.layer_traits.specs.Queues.{Kernel}
+use Rattle.event_log.specs.{declared.ids.BufId.BufId, declared.ids.CpuId.CpuId, declared.ids.Tid.Tid, Messages.no_message}
+use Rattle.layer_traits.specs.{declared.locked.QEdit.QEdit, declared.locked.QOut.QOut, declared.payloads.Parcel.Parcel, declared.queues.QueueEvent.QueueEvent}
+use Rattle.layer_traits.specs.{declared.scheds.SchedCall.SchedCall, declared.sleeps.Outcome.Outcome, Locking.LockRules, Locking.LockState}
+use Rattle.layer_traits.specs.{Locking.wait_list_slept, Locking.lock_caller, LockLaw.Locking, LockLaw.MayCallLock, LockLaw.slept_for, Payloads.lock_meant}
+use Rattle.layer_traits.specs.{Queues.Kernel}
 
 -- a parcel with no message, and with zeros
 abbrev pub no_parcel : Parcel

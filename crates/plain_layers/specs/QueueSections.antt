@@ -1,7 +1,5 @@
 -- Who meets at a shared queue in the tests.
-use Rattle.event_log.specs.declared.ids.BufId.{BufId}
-use Rattle.event_log.specs.declared.ids.CpuId.{CpuId}
-use Rattle.event_log.specs.declared.ids.Tid.{Tid}
+use Rattle.event_log.specs.declared.ids.{BufId.BufId, CpuId.CpuId, Tid.Tid}
 
 abbrev pub buffer_zero : BufId
 buffer_zero = record { 0 = 0 }

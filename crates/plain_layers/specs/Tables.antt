@@ -1,13 +1,8 @@
 -- The list of the blocks of all locks, and the list of the sections that were done, newest first.
 use Rattle.std.specs.Prelude.{◌≡◌, ℕ, zero, suc, ◌-◌, true, false, List, [], ◌∷◌, length, map, reverse, Option}
-use Rattle.event_log.specs.declared.ids.LockId.{LockId}
-use Rattle.event_log.specs.History.{IsLawful, same_lock}
-use Rattle.event_log.specs.Log.{events_in, room_of}
-use Rattle.event_log.specs.Sections.{Section, block_after}
-use Rattle.layer_traits.specs.OneLock.{opened}
-use Rattle.layer_traits.specs.Protocol.{IsKnown, Rules, section}
-use Rattle.plain_layers.specs.declared.lock_table.LockTable.{LockTable}
-use Rattle.plain_layers.specs.declared.lock_table.Noted.{Noted}
+use Rattle.event_log.specs.{declared.ids.LockId.LockId, History.IsLawful, History.same_lock, Log.events_in, Log.room_of, Sections.Section, Sections.block_after}
+use Rattle.layer_traits.specs.{OneLock.opened, Protocol.IsKnown, Protocol.Rules, Protocol.section}
+use Rattle.plain_layers.specs.declared.lock_table.{LockTable.LockTable, Noted.Noted}
 
 -- the section that was noted
 abbrev pub section_noted : {E : Type 0} → Noted E → Section E

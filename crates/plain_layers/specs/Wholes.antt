@@ -1,17 +1,10 @@
 -- A whole section of a whole machine: the section itself, and where it woke a thread of another CPU while its caller goes on, that
 -- thread's way home.
 use Rattle.std.specs.Prelude.{◌≡◌, ◌⊎◌, true, false, List, ◌∷◌, Some, None}
-use Rattle.event_log.specs.declared.ids.BufId.{BufId}
-use Rattle.event_log.specs.declared.ids.CpuId.{CpuId}
-use Rattle.event_log.specs.declared.ids.Tid.{Tid}
-use Rattle.layer_traits.specs.declared.queues.QueueCall.TheVariants.{Push, OnBuffer}
-use Rattle.layer_traits.specs.declared.queues.QueueEvent.{QueueEvent}
-use Rattle.layer_traits.specs.declared.sleeps.Outcome.{Outcome}
-use Rattle.layer_traits.specs.Passes.{passed_on, queue_for}
-use Rattle.layer_traits.specs.Places.{Threads}
-use Rattle.layer_traits.specs.Queues.{Kernel, event, out_at}
-use Rattle.layer_traits.specs.Scheds.{own_answered}
-use Rattle.layer_traits.specs.SleepLaw.{Sleeping, must_send}
+use Rattle.event_log.specs.declared.ids.{BufId.BufId, CpuId.CpuId, Tid.Tid}
+use Rattle.layer_traits.specs.{declared.queues.QueueCall.TheVariants.Push, declared.queues.QueueCall.TheVariants.OnBuffer}
+use Rattle.layer_traits.specs.{declared.queues.QueueEvent.QueueEvent, declared.sleeps.Outcome.Outcome, Passes.passed_on, Passes.queue_for, Places.Threads}
+use Rattle.layer_traits.specs.{Queues.Kernel, Queues.event, Queues.out_at, Scheds.own_answered, SleepLaw.Sleeping, SleepLaw.must_send}
 
 -- a machine of which one poll is one call, and not one action
 abbrev pub IsCoarse : Type 0 → Type 0 → Type 0

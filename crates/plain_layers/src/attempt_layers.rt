@@ -15,13 +15,9 @@ use std::alloc::Global;
 /// A layer of sleep and wakeup for attempts, whose machine is opened with empty buffers, and of which
 /// each poll does a whole section where it may.
 pub trait OpensAttempts: OwnedThreadLayer<SleepLaw<Attempt>> {
-    ghost use Rattle.event_log.specs.declared.ids.CpuId.{CpuId};
-    ghost use Rattle.event_log.specs.declared.ids.LockId.TheVariants.{Pending};
-    ghost use Rattle.event_log.specs.declared.ids.TheConstants.{CPUS};
-    ghost use Rattle.layer_traits.specs.Openings.{AreOpenable};
-    ghost use Rattle.layer_traits.specs.QueueBlocks.{homes_in, inner};
-    ghost use Rattle.plain_layers.specs.Fifos.{fresh_buffers};
-    ghost use Rattle.plain_layers.specs.Wholes.{IsCoarse};
+    ghost use Rattle.event_log.specs.declared.ids.{CpuId.CpuId, LockId.TheVariants.Pending, TheConstants.CPUS};
+    ghost use Rattle.layer_traits.specs.{Openings.AreOpenable, QueueBlocks.homes_in, QueueBlocks.inner};
+    ghost use Rattle.plain_layers.specs.{Fifos.fresh_buffers, Wholes.IsCoarse};
 
     /// A machine of so many CPUs, with an empty buffer of each of these capacities and a thread of
     /// each of these homes, and with room for `room` events. All memory is taken here.

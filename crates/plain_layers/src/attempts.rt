@@ -2,13 +2,10 @@
 
 ghost use Rattle.std.specs.Prelude.{◌≡◌, ◌≤◌, true, [], is_some};
 ghost use Rattle.event_log.specs.declared.ids.TheConstants.{CAPACITY};
-ghost use Rattle.layer_traits.specs.Sleeping.{joined};
-ghost use Rattle.layer_traits.specs.declared.sleeps.Wake.TheVariants.{Nobody};
-ghost use Rattle.plain_layers.specs.Attempts.{PlainState, allows, closed_after, done, effect_at, effect_in, empty_buffer, leaving};
-ghost use Rattle.plain_layers.specs.Attempts.{attempt_side, waiting_on, waits, waking_by, wakes, attempt_woken};
-ghost use Rattle.plain_layers.specs.declared.attempts.Ask.{Ask};
-ghost use Rattle.plain_layers.specs.declared.attempts.Ask.TheVariants.{Close, Receive, Send};
-ghost use Rattle.plain_layers.specs.declared.attempts.Tried.TheVariants.{Acted};
+ghost use Rattle.layer_traits.specs.{Sleeping.joined, declared.sleeps.Wake.TheVariants.Nobody};
+ghost use Rattle.plain_layers.specs.Attempts.{PlainState, allows, closed_after, done, effect_at, effect_in, empty_buffer, leaving, attempt_side, waiting_on};
+ghost use Rattle.plain_layers.specs.Attempts.{waits, waking_by, wakes, attempt_woken};
+ghost use Rattle.plain_layers.specs.declared.attempts.{Ask.Ask, Ask.TheVariants.Close, Ask.TheVariants.Receive, Ask.TheVariants.Send, Tried.TheVariants.Acted};
 ghost use Rattle.thread_blocks.specs.Queues.{first};
 
 use arrayvec::ArrayVec;

@@ -2,15 +2,10 @@
 
 ghost use Rattle.std.specs.Prelude.{◌≡◌, ◌≢◌, ◌+◌, ◌<◌, ◌≤◌, true, Some, None, IsSome, OnSome};
 ghost use Rattle.event_log.specs.declared.ids.LockId.TheVariants.{Buffer};
-ghost use Rattle.layer_traits.specs.Conditions.{cv_rules};
-ghost use Rattle.layer_traits.specs.LockLaw.{IsAcquire, lock_kernel};
-ghost use Rattle.layer_traits.specs.Locking.{IsOwners, lock_caller, owner_of};
-ghost use Rattle.layer_traits.specs.QueueBlocks.{inner};
-ghost use Rattle.layer_traits.specs.Queues.{buffer_sections};
-ghost use Rattle.layer_traits.specs.Payloads.{cv_meant};
+ghost use Rattle.layer_traits.specs.{Conditions.cv_rules, LockLaw.IsAcquire, LockLaw.lock_kernel, Locking.IsOwners, Locking.lock_caller, Locking.owner_of};
+ghost use Rattle.layer_traits.specs.{QueueBlocks.inner, Queues.buffer_sections, Payloads.cv_meant};
 ghost use Rattle.plain_layers.specs.declared.cond_sections.PollSection.TheVariants.{Answered, GoesOn, Sleeps};
-ghost use Rattle.plain_layers.specs.CondSections.{CondHasEnded, MayPollCondSection, WaitsAt};
-ghost use Rattle.plain_layers.specs.LockSections.{call_alone};
+ghost use Rattle.plain_layers.specs.{CondSections.CondHasEnded, CondSections.MayPollCondSection, CondSections.WaitsAt, LockSections.call_alone};
 
 use event_log::{BufId, Tid};
 use layer_traits::{

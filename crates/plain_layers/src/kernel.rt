@@ -1,12 +1,10 @@
 //! The machine beneath one-step queues and schedulers: lists of threads and of blocks.
 
 ghost use Rattle.std.specs.Prelude.{◌≡◌, ◌+◌, ◌<◌, ◌∷◌, [], Some, IsSome, IfOk, length, option_map, replicate, slice_get};
-ghost use Rattle.event_log.specs.declared.ids.LockId.TheVariants.{Buffer, Pending};
-ghost use Rattle.event_log.specs.declared.ids.TheConstants.{CPUS};
+ghost use Rattle.event_log.specs.declared.ids.{LockId.TheVariants.Buffer, LockId.TheVariants.Pending, TheConstants.CPUS};
 ghost use Rattle.thread_blocks.specs.Queues.{is_in};
-ghost use Rattle.layer_traits.specs.QueueBlocks.{homes_in, inner};
-ghost use Rattle.layer_traits.specs.Queues.{CallAllowed, answer_of, event, kernel, lock_of};
-ghost use Rattle.layer_traits.specs.Payloads.{call_meant, queue_told};
+ghost use Rattle.layer_traits.specs.{QueueBlocks.homes_in, QueueBlocks.inner, Queues.CallAllowed, Queues.answer_of, Queues.event, Queues.kernel};
+ghost use Rattle.layer_traits.specs.{Queues.lock_of, Payloads.call_meant, Payloads.queue_told};
 ghost use Rattle.plain_layers.specs.Kernels.{CanDo, IsDone, IsKernel, calls_in, call_room, opening_of};
 ghost use Rattle.shared_queue.specs.Opening.{AreQueues};
 

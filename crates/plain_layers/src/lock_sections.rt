@@ -2,11 +2,8 @@
 
 ghost use Rattle.std.specs.Prelude.{◌≡◌, ◌≢◌, ◌+◌, ◌<◌, ◌≤◌, true, Some, None, IsSome, OnSome};
 ghost use Rattle.event_log.specs.declared.ids.LockId.TheVariants.{Buffer};
-ghost use Rattle.layer_traits.specs.LockLaw.{IsAcquire, lock_kernel};
-ghost use Rattle.layer_traits.specs.Locking.{lock_caller, owner_of};
-ghost use Rattle.layer_traits.specs.QueueBlocks.{inner};
-ghost use Rattle.layer_traits.specs.Queues.{buffer_sections};
-ghost use Rattle.layer_traits.specs.declared.locked.QEdit.TheVariants.{Release};
+ghost use Rattle.layer_traits.specs.{LockLaw.IsAcquire, LockLaw.lock_kernel, Locking.lock_caller, Locking.owner_of, QueueBlocks.inner, Queues.buffer_sections};
+ghost use Rattle.layer_traits.specs.{declared.locked.QEdit.TheVariants.Release};
 ghost use Rattle.plain_layers.specs.declared.lock_sections.PollSection.TheVariants.{Answered, GoesOn, Sleeps};
 ghost use Rattle.plain_layers.specs.LockSections.{LockHasEnded, MayPollLockSection, SleepsFor, call_alone};
 

@@ -1,12 +1,8 @@
 //! The machine beneath one-step critical sections: a list of blocks.
 
 ghost use Rattle.std.specs.Prelude.{◌≡◌, ◌+◌, ◌<◌, ◌∷◌, [], IsSome, IfOk, option_map, if◌then◌else◌};
-ghost use Rattle.event_log.specs.declared.ids.TheConstants.{CPUS};
-ghost use Rattle.event_log.specs.declared.ids.LockId.{LockId};
-ghost use Rattle.event_log.specs.History.{same_lock};
-ghost use Rattle.layer_traits.specs.OneLock.{opened};
-ghost use Rattle.layer_traits.specs.Protocol.{section};
-ghost use Rattle.layer_traits.specs.Polls.{Answers};
+ghost use Rattle.event_log.specs.{declared.ids.TheConstants.CPUS, declared.ids.LockId.LockId, History.same_lock};
+ghost use Rattle.layer_traits.specs.{OneLock.opened, Protocol.section, Polls.Answers};
 ghost use Rattle.plain_layers.specs.Tables.{IsSlot, IsTable, opening_in, room_in, sections_noted};
 
 use event_log::{CpuId, EventLog, LockId, NoMemory};

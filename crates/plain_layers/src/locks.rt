@@ -106,8 +106,7 @@ impl<E: SplitEdit> Layer<LockLaw<E>> for PlainLock<E> {
 
 impl<E: SplitEdit> OwnedLocks<E> for PlainLock<E> {
     ghost use Rattle.layer_traits.specs.OneLock.{AreDistinct, opened};
-    ghost use Rattle.plain_layers.specs.Laws.ShownLaws.{table_shown};
-    ghost use Rattle.plain_layers.specs.Tables.{opening_in, sections_noted};
+    ghost use Rattle.plain_layers.specs.{Laws.ShownLaws.table_shown, Tables.opening_in, Tables.sections_noted};
     ghost use Rattle.std.specs.Prelude.{◌<◌, IfOk};
     ghost use Rattle.event_log.specs.declared.ids.TheConstants.{CPUS};
 

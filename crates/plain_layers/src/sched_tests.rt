@@ -1,12 +1,9 @@
 //! Schedulers, run over ticket locks and over each one-step machine in its layer's place.
 
 ghost use Rattle.std.specs.Prelude.{◌≡◌, ◌≢◌, ◌+◌, ◌<◌, ◌≤◌, [], IsSome, IfOk, MatchOption, None, Some, is_some, true, length};
-ghost use Rattle.event_log.specs.declared.ids.CpuId.{CpuId};
-ghost use Rattle.event_log.specs.declared.ids.LockId.TheVariants.{Buffer, Pending};
-ghost use Rattle.event_log.specs.declared.ids.TheConstants.{CPUS, THREADS};
-ghost use Rattle.layer_traits.specs.declared.scheds.SchedCall.TheVariants.{Pass as ThePass};
-ghost use Rattle.layer_traits.specs.Passes.{MayPass};
-ghost use Rattle.layer_traits.specs.QueueBlocks.{StartsWell, homes_in, inner};
+ghost use Rattle.event_log.specs.declared.ids.{CpuId.CpuId, LockId.TheVariants.Buffer, LockId.TheVariants.Pending, TheConstants.CPUS, TheConstants.THREADS};
+ghost use Rattle.layer_traits.specs.{declared.scheds.SchedCall.TheVariants.Pass as ThePass, Passes.MayPass, QueueBlocks.StartsWell, QueueBlocks.homes_in};
+ghost use Rattle.layer_traits.specs.{QueueBlocks.inner};
 ghost use Rattle.plain_layers.specs.Naps.{waiters_of};
 ghost use Rattle.shared_queue.specs.Opening.{AreQueues};
 
@@ -75,8 +72,7 @@ impl SplitEdit for Nap {
 }
 
 impl Moves for Nap {
-    ghost use Rattle.plain_layers.specs.Laws.Naps.{naps_wake_sleepers};
-    ghost use Rattle.plain_layers.specs.Naps.{nap_moves};
+    ghost use Rattle.plain_layers.specs.{Laws.Naps.naps_wake_sleepers, Naps.nap_moves};
 
     ghost moves = { nap_moves (λ e. e.by) };
 

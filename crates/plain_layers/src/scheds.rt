@@ -22,8 +22,7 @@ pub struct PlainSched<E> {
 }
 
 impl<E: Moves> Layer<SchedLaw<E>> for PlainSched<E> {
-    ghost use Rattle.plain_layers.specs.Kernels.{HasKernel, calls_in, call_room, no_site, opening_of};
-    ghost use Rattle.plain_layers.specs.KernelParts.{HasThreads};
+    ghost use Rattle.plain_layers.specs.{Kernels.HasKernel, Kernels.calls_in, Kernels.call_room, Kernels.no_site, Kernels.opening_of, KernelParts.HasThreads};
 
     type Machine = PlainKernel<E>;
 
@@ -125,8 +124,7 @@ impl<E: Moves> Layer<SchedLaw<E>> for PlainSched<E> {
 
 impl<E: Moves> OwnedLayer<SchedLaw<E>> for PlainSched<E> {
     ghost use Rattle.std.specs.Prelude.{slice_get};
-    ghost use Rattle.plain_layers.specs.Kernels.{calls_in};
-    ghost use Rattle.plain_layers.specs.Laws.ShownLaws.{block_shown, queue_shown};
+    ghost use Rattle.plain_layers.specs.{Kernels.calls_in, Laws.ShownLaws.block_shown, Laws.ShownLaws.queue_shown};
 
     ghost block_at = { λ m b. slice_get m.lists.buffers.items b.0 };
 

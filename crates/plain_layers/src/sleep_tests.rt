@@ -1,13 +1,9 @@
 //! Threads that sleep and are woken, run over ticket locks and over one-step schedulers.
 
 ghost use Rattle.std.specs.Prelude.{◌≡◌, ◌≢◌, ◌+◌, ◌<◌, ◌≤◌, [], ◌∷◌, true, Some, None, IsSome, IfOk, is_some};
-ghost use Rattle.event_log.specs.declared.ids.CpuId.{CpuId};
-ghost use Rattle.event_log.specs.declared.ids.LockId.TheVariants.{Buffer, Pending};
-ghost use Rattle.event_log.specs.declared.ids.TheConstants.{CPUS};
-ghost use Rattle.layer_traits.specs.declared.scheds.SchedCall.TheVariants.{OnBuffer};
-ghost use Rattle.layer_traits.specs.QueueBlocks.{homes_in, inner};
-ghost use Rattle.layer_traits.specs.Renaming.{viewed};
-ghost use Rattle.layer_traits.specs.Sleeping.{NobodySleeps};
+ghost use Rattle.event_log.specs.declared.ids.{CpuId.CpuId, LockId.TheVariants.Buffer, LockId.TheVariants.Pending, TheConstants.CPUS};
+ghost use Rattle.layer_traits.specs.{declared.scheds.SchedCall.TheVariants.OnBuffer, QueueBlocks.homes_in, QueueBlocks.inner, Renaming.viewed};
+ghost use Rattle.layer_traits.specs.{Sleeping.NobodySleeps};
 ghost use Rattle.sleep_wakeup.specs.Nested.{state_of};
 
 use crate::PlainSched;
@@ -36,8 +32,7 @@ struct Nap {
 
 impl Sleeps for Nap {
     ghost use Rattle.std.specs.Prelude.{Some, None, if◌then◌else◌};
-    ghost use Rattle.layer_traits.specs.declared.moves.WaitList.TheVariants.{Receivers};
-    ghost use Rattle.layer_traits.specs.declared.sleeps.Wake.TheVariants.{Nobody, Receiver};
+    ghost use Rattle.layer_traits.specs.declared.{moves.WaitList.TheVariants.Receivers, sleeps.Wake.TheVariants.Nobody, sleeps.Wake.TheVariants.Receiver};
 
     type Block = u8;
 

@@ -1,11 +1,8 @@
 //! A whole section of sleep and wakeup at once, over a machine that does whole calls.
 
 ghost use Rattle.std.specs.Prelude.{◌≡◌, ◌≢◌, ◌+◌, ◌<◌, ◌≤◌, None, IsSome};
-ghost use Rattle.event_log.specs.declared.ids.CpuId.{CpuId};
-ghost use Rattle.event_log.specs.declared.ids.LockId.TheVariants.{Buffer};
-ghost use Rattle.event_log.specs.declared.ids.TheConstants.{CPUS};
-ghost use Rattle.layer_traits.specs.Payloads.{outcome_told};
-ghost use Rattle.layer_traits.specs.SleepLaw.{MaySleep, sleep_kernel};
+ghost use Rattle.event_log.specs.declared.ids.{CpuId.CpuId, LockId.TheVariants.Buffer, TheConstants.CPUS};
+ghost use Rattle.layer_traits.specs.{Payloads.outcome_told, SleepLaw.MaySleep, SleepLaw.sleep_kernel};
 ghost use Rattle.plain_layers.specs.Wholes.{IsDoneWhole, asked};
 
 use event_log::BufId;

@@ -1,10 +1,8 @@
 -- The grant words: what a give leaves in them.
-use Rattle.std.proofs.Common.{◌≡◌, ℕ, ◌+◌, ◌%◌, ◌^◌, ◌<◌, ◌==◌, Bool, true, false, List, arith}
-use Rattle.std.proofs.Common.{if◌then◌else◌, length, slice_index, slice_set, ap, sym, subst, ◌∙◌, refl}
-use Rattle.std.proofs.lemmas.Bool.{eqb-true, eqb-false}
-use Rattle.std.proofs.lemmas.List.{get_or-set_same, get_or-set_other}
-use Rattle.event_log.specs.declared.ids.TheConstants.{CPUS}
-use Rattle.event_log.specs.Grants.{WordFits, after_give}
+use Rattle.std.proofs.Common.{◌≡◌, ℕ, ◌+◌, ◌%◌, ◌^◌, ◌<◌, ◌==◌, Bool, true, false, List, arith, if◌then◌else◌, length, slice_index, slice_set, ap, sym, subst}
+use Rattle.std.proofs.Common.{◌∙◌, refl}
+use Rattle.std.proofs.lemmas.{Bool.eqb-true, Bool.eqb-false, List.get_or-set_same, List.get_or-set_other}
+use Rattle.event_log.specs.{declared.ids.TheConstants.CPUS, Grants.WordFits, Grants.after_give}
 use Rattle.event_log.proofs.GrantWords.{fits_after}
 
 next_word : (served : ℕ) → (served + 1) % 2 ^ 64 % CPUS ≡ (served + 1) % CPUS

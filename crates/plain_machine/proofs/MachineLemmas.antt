@@ -1,27 +1,19 @@
 -- Each action keeps the table of the owned machine in agreement with its log.
 use Rattle.std.proofs.Common.{◌≡◌, ℕ, ◌+◌, ◌%◌, ◌^◌, ◌<◌, ◌≤◌, Bool, true, false, List, [], ◌∷◌, ◌==◌, Option, Some, None, IsSome, IfSome, MatchOption}
 use Rattle.std.proofs.Common.{if◌then◌else◌, option_map, refl, ap, sym, ◌∙◌, subst}
-use Rattle.event_log.specs.declared.ids.CpuId.{CpuId}
-use Rattle.event_log.specs.declared.ids.LockId.{LockId}
-use Rattle.event_log.specs.declared.ids.TheConstants.{CPUS}
-use Rattle.event_log.specs.declared.events.Event.{Event}
-use Rattle.event_log.specs.declared.events.Event.TheVariants.{Draw, Look, Free}
-use Rattle.event_log.specs.Grants.{ticket_in}
-use Rattle.event_log.specs.History.{same_lock}
-use Rattle.event_log.specs.WordsLog.{IsLegalWords, Idle, Waiting, Holding, draws, frees, lock_phase}
-use Rattle.event_log.specs.Sections.{block_after}
+use Rattle.event_log.specs.{declared.ids.CpuId.CpuId, declared.ids.LockId.LockId, declared.ids.TheConstants.CPUS, declared.events.Event.Event}
+use Rattle.event_log.specs.{declared.events.Event.TheVariants.Draw, declared.events.Event.TheVariants.Look, declared.events.Event.TheVariants.Free}
+use Rattle.event_log.specs.{Grants.ticket_in, History.same_lock, WordsLog.IsLegalWords, WordsLog.Idle, WordsLog.Waiting, WordsLog.Holding, WordsLog.draws}
+use Rattle.event_log.specs.{WordsLog.frees, WordsLog.lock_phase, Sections.block_after}
 use Rattle.event_log.proofs.Same.{same_lock_self, same_lock_true}
-use Rattle.layer_traits.proofs.OneLockLemmas.{counts_elsewhere, event_lock, lock_phase_own, elsewhere, drew}
-use Rattle.layer_traits.proofs.OneLockLemmas.{missed, hit, freed, hit_finds, fresh, serves_exactly}
-use Rattle.layer_traits.proofs.Seen.{words_legal, sections_allowed}
-use Rattle.layer_traits.specs.declared.edits.Mark.{Mark}
-use Rattle.layer_traits.specs.OneLock.{HomeFits, opened}
-use Rattle.layer_traits.specs.Protocol.{Rules, StaysAllowed, section}
-use Rattle.layer_traits.specs.WordsProtocol.{MayCome, sections}
+use Rattle.layer_traits.proofs.{OneLockLemmas.counts_elsewhere, OneLockLemmas.event_lock, OneLockLemmas.lock_phase_own, OneLockLemmas.elsewhere}
+use Rattle.layer_traits.proofs.{OneLockLemmas.drew, OneLockLemmas.missed, OneLockLemmas.hit, OneLockLemmas.freed, OneLockLemmas.hit_finds, OneLockLemmas.fresh}
+use Rattle.layer_traits.proofs.{OneLockLemmas.serves_exactly, Seen.words_legal, Seen.sections_allowed}
+use Rattle.layer_traits.specs.{declared.edits.Mark.Mark, OneLock.HomeFits, OneLock.opened, Protocol.Rules, Protocol.StaysAllowed, Protocol.section}
+use Rattle.layer_traits.specs.{WordsProtocol.MayCome, WordsProtocol.sections}
 use Rattle.plain_machine.proofs.TableLemmas.{cell_within, cell_put, cell_other}
-use Rattle.plain_machine.specs.declared.cells.Cell.{Cell}
-use Rattle.plain_machine.specs.Machine.{HasCell, IsSound, looked}
-use Rattle.plain_machine.specs.Table.{cell_at, with_cell, worded_cell, looked_cell, given_cell, HasFresh, AreFresh}
+use Rattle.plain_machine.specs.{declared.cells.Cell.Cell, Machine.HasCell, Machine.IsSound, Machine.looked, Table.cell_at, Table.with_cell, Table.worded_cell}
+use Rattle.plain_machine.specs.{Table.looked_cell, Table.given_cell, Table.HasFresh, Table.AreFresh}
 
 -- what a filled table has for each lock that opens
 record Opens {K B : Type 0} (IsNew : K → Type 0) (blocks : List (LockId × B)) (cells : List (Option (Cell K B))) (lock : LockId) : Type 0 where

@@ -1,15 +1,11 @@
 -- A table of cells: what a write leaves, and that a table filled with fresh cells has them all.
-use Rattle.std.proofs.Common.{◌≡◌, ℕ, zero, suc, ◌⊎◌, inl, inr, ◌<◌, ◌≤◌, false, List, [], ◌∷◌, ◌++◌, length, get_or, Option, Some, None, IsSome}
-use Rattle.std.proofs.Common.{is_some, refl, ap, sym, ◌∙◌, subst, All, arith}
-use Rattle.std.proofs.lemmas.List.{get_or-set_same, get_or-set_other}
-use Rattle.std.proofs.lemmas.List.Elements.{All-head, All-tail}
-use Rattle.event_log.specs.declared.ids.LockId.{LockId}
-use Rattle.event_log.specs.History.{same_lock}
+use Rattle.std.proofs.Common.{◌≡◌, ℕ, zero, suc, ◌⊎◌, inl, inr, ◌<◌, ◌≤◌, false, List, [], ◌∷◌, ◌++◌, length, get_or, Option, Some, None, IsSome, is_some, refl}
+use Rattle.std.proofs.Common.{ap, sym, ◌∙◌, subst, All, arith}
+use Rattle.std.proofs.lemmas.List.{get_or-set_same, get_or-set_other, Elements.All-head, Elements.All-tail}
+use Rattle.event_log.specs.{declared.ids.LockId.LockId, History.same_lock, Locks.lock_number}
 use Rattle.layer_traits.specs.OneLock.{AreDistinct, IsMissing}
-use Rattle.plain_machine.specs.declared.cells.Cell.{Cell}
+use Rattle.plain_machine.specs.{declared.cells.Cell.Cell, Table.cell_at, Table.with_cell, Table.given_cell, Table.AreFresh}
 use Rattle.event_log.proofs.Same.{lock_number_other}
-use Rattle.event_log.specs.Locks.{lock_number}
-use Rattle.plain_machine.specs.Table.{cell_at, with_cell, given_cell, AreFresh}
 
 get_or_past : {X : Type 0} (xs : List X) (i : ℕ) (d : X) → length xs ≤ i → get_or xs i d ≡ d
 get_or_past [] i d past = refl

@@ -1,7 +1,6 @@
 -- The table of lock cells, by the locks' numbers, and what the actions make of a cell.
 use Rattle.std.specs.Prelude.{◌≡◌, Bool, List, [], ◌∷◌, Option, Some, None, if◌then◌else◌, slice_index_or, slice_set}
-use Rattle.event_log.specs.declared.ids.LockId.{LockId}
-use Rattle.event_log.specs.Locks.{lock_number}
+use Rattle.event_log.specs.{declared.ids.LockId.LockId, Locks.lock_number}
 use Rattle.plain_machine.specs.declared.cells.Cell.{Cell}
 
 -- the cell of a lock, None where the table has none

@@ -1,8 +1,7 @@
 //! The words and the block of each lock, in a table that is indexed by the lock.
 
 ghost use Rattle.std.specs.Prelude.{◌≡◌, ℕ, Bool, ◌+◌, ◌%◌, ◌^◌, ◌<◌, ◌≤◌, ◌==◌, IsSome, IfSome, IfOk, All, Some, None, option_map, if◌then◌else◌, length};
-ghost use Rattle.event_log.specs.Locks.{lock_number};
-ghost use Rattle.event_log.specs.declared.ids.TheConstants.{CPUS};
+ghost use Rattle.event_log.specs.{Locks.lock_number, declared.ids.TheConstants.CPUS};
 ghost use Rattle.layer_traits.specs.OneLock.{AreDistinct};
 ghost use Rattle.plain_machine.specs.Table.{cell_at, with_cell, worded_cell, looked_cell, given_cell, AreFresh};
 

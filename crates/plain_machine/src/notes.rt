@@ -41,8 +41,7 @@ pub struct Notes<M> {
 }
 
 impl<M> Notes<M> {
-    ghost use Rattle.event_log.specs.Grants.{ticket_in};
-    ghost use Rattle.event_log.specs.WordsLog.{draws, frees, lock_phase};
+    ghost use Rattle.event_log.specs.{Grants.ticket_in, WordsLog.draws, WordsLog.frees, WordsLog.lock_phase};
     ghost use Rattle.event_log.specs.declared.events.Event.TheVariants as event;
     ghost use Rattle.plain_machine.specs.Machine.{history, room_left};
 

@@ -26,13 +26,9 @@ pub struct Plain<E: SplitEdit, K: LineWords = LockWords> {
 pub type GrantPlain<E> = Plain<E, Granting>;
 
 impl<E: SplitEdit, K: LineWords> Plain<E, K> {
-    ghost use Rattle.event_log.specs.Sections.{block_after};
-    ghost use Rattle.event_log.specs.declared.ids.CpuId.{CpuId};
-    ghost use Rattle.event_log.specs.declared.ids.TheConstants.{CPUS};
-    ghost use Rattle.layer_traits.specs.OneLock.{AreDistinct, SomeoneInside, opened};
-    ghost use Rattle.layer_traits.specs.WordsProtocol.{sections};
-    ghost use Rattle.plain_machine.specs.Machine.{IsServed, history, room_left};
-    ghost use Rattle.plain_machine.specs.Table.{home_at};
+    ghost use Rattle.event_log.specs.{Sections.block_after, declared.ids.CpuId.CpuId, declared.ids.TheConstants.CPUS};
+    ghost use Rattle.layer_traits.specs.{OneLock.AreDistinct, OneLock.SomeoneInside, OneLock.opened, WordsProtocol.sections};
+    ghost use Rattle.plain_machine.specs.{Machine.IsServed, Machine.history, Machine.room_left, Table.home_at};
 
     /// A machine in which each lock has its block at home and nobody has been at its words, with
     /// room for `room` events.
@@ -98,8 +94,7 @@ impl<E: SplitEdit> Plain<E, LockWords> {
 
 impl<E: SplitEdit> Plain<E, Granting> {
     ghost use Rattle.std.specs.Prelude.{slice_index};
-    ghost use Rattle.event_log.specs.declared.ids.TheConstants.{CPUS};
-    ghost use Rattle.event_log.specs.Grants.{tickets, grant_word};
+    ghost use Rattle.event_log.specs.{declared.ids.TheConstants.CPUS, Grants.tickets, Grants.grant_word};
 
     /// The words of `lock`: how many tickets were taken, modulo 2^64, and what the gives left in
     /// each grant word.
@@ -167,9 +162,7 @@ impl<E: SplitEdit, K: LineWords> Words for Plain<E, K> {
 impl<E: SplitEdit, K: LineWords> OwnedWords for Plain<E, K> {
     ghost use Rattle.event_log.specs.declared.ids.TheConstants.{CPUS};
     ghost use Rattle.layer_traits.specs.OneLock.{AreDistinct, opened};
-    ghost use Rattle.plain_machine.specs.Laws.HomeLaws.{home_reads};
-    ghost use Rattle.plain_machine.specs.Machine.{history};
-    ghost use Rattle.plain_machine.specs.Table.{home_at};
+    ghost use Rattle.plain_machine.specs.{Laws.HomeLaws.home_reads, Machine.history, Table.home_at};
 
     ghost block_at = { λ w lock. home_at w.cells.items lock };
 

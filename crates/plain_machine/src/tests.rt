@@ -1,8 +1,7 @@
 //! The owned machine, run.
 
 ghost use Rattle.std.specs.Prelude.{◌≡◌, ◌+◌, ◌%◌, ◌^◌, ◌<◌, ◌≤◌, [], ◌∷◌, IsSome, IfOk, IfSome};
-ghost use Rattle.event_log.specs.Grants.{grant_lock_phase};
-ghost use Rattle.event_log.specs.WordsLog.{lock_phase, Idle};
+ghost use Rattle.event_log.specs.{Grants.grant_lock_phase, WordsLog.lock_phase, WordsLog.Idle};
 
 use crate::stored_words::StoredWords;
 use crate::{GrantLockWords, Granting, LineWords, LockWords, Plain};

@@ -1,20 +1,13 @@
 -- The locks of a machine at boot: nobody owns one, and nobody sleeps.
 use Rattle.std.proofs.Common.{◌≡◌, List, Option, Some, None, map, option_map, refl, ap, sym, ◌∙◌, subst, slice_get}
-use Rattle.event_log.specs.declared.ids.BufId.{BufId}
-use Rattle.event_log.specs.declared.ids.CpuId.{CpuId}
-use Rattle.event_log.specs.declared.ids.LockId.{LockId}
-use Rattle.event_log.specs.declared.ids.LockId.TheVariants.{Pending, Buffer}
-use Rattle.layer_traits.specs.declared.queue_edits.QueueBlock.{QueueBlock}
-use Rattle.layer_traits.specs.declared.queue_edits.QueueBlock.TheVariants as block
-use Rattle.layer_traits.specs.Locking.{AreAtRest, IsAtRest}
-use Rattle.layer_traits.specs.QueueBlocks.{StartsAs, StartsWell, above_of, inner}
-use Rattle.layer_traits.specs.Renaming.{viewed}
+use Rattle.event_log.specs.declared.ids.{BufId.BufId, CpuId.CpuId, LockId.LockId, LockId.TheVariants.Pending, LockId.TheVariants.Buffer}
+use Rattle.layer_traits.specs.{declared.queue_edits.QueueBlock.QueueBlock, Locking.AreAtRest, Locking.IsAtRest, QueueBlocks.StartsAs, QueueBlocks.StartsWell}
+use Rattle.layer_traits.specs.{QueueBlocks.above_of, QueueBlocks.inner, Renaming.viewed}
 use Rattle.layer_traits.proofs.KernelRenaming.{inner_viewed}
-use Rattle.sleep_wakeup.specs.declared.edits.SleepBlock.{SleepBlock}
-use Rattle.sleep_wakeup.specs.Nested.{resting, state_of}
+use Rattle.sleep_wakeup.specs.{declared.edits.SleepBlock.SleepBlock, Nested.resting, Nested.state_of}
 use Rattle.std.proofs.lemmas.Option.{slice_get-map}
-use Rattle.queuing_lock.specs.declared.edits.QBlock.{QBlock}
-use Rattle.queuing_lock.specs.Nested.{nested_lock_of, unowned}
+use Rattle.queuing_lock.specs.{declared.edits.QBlock.QBlock, Nested.nested_lock_of, Nested.unowned}
+use Rattle.layer_traits.specs.declared.queue_edits.QueueBlock.TheVariants as block
 
 at_rest : {B : Type 0} (o : Option B) → IsAtRest (option_map nested_lock_of (option_map state_of (option_map resting (option_map unowned o))))
 at_rest None = tt

@@ -1,41 +1,22 @@
 -- What is kept agrees with the call under way and the hand: an outcome is kept of a call inside or of a release alone.
 use Rattle.std.proofs.Common.{◌≡◌, Bool, true, false, ◌&&◌, not, if◌then◌else◌, List, [], Option, Some, None, option_map, is_some, IsSome, refl, ap, sym, ◌∙◌}
 use Rattle.std.proofs.Common.{subst}
-use Rattle.event_log.specs.declared.ids.BufId.{BufId}
-use Rattle.event_log.specs.declared.ids.CpuId.{CpuId}
-use Rattle.event_log.specs.declared.ids.LockId.{LockId}
-use Rattle.event_log.specs.declared.ids.LockId.TheVariants.{Buffer}
-use Rattle.event_log.specs.declared.ids.Tid.{Tid}
-use Rattle.event_log.specs.Sections.{block_after}
-use Rattle.layer_traits.specs.declared.locked.QEdit.{QEdit}
-use Rattle.layer_traits.specs.declared.locked.QEdit.TheVariants.{Acquire, Inside, Release}
-use Rattle.layer_traits.specs.declared.locked.QOut.{QOut}
-use Rattle.layer_traits.specs.declared.moves.WaitList.{WaitList}
-use Rattle.layer_traits.specs.declared.moves.WaitList.TheVariants.{Sleepers, Receivers, Senders}
-use Rattle.layer_traits.specs.declared.queue_edits.QueueBlock.{QueueBlock}
-use Rattle.layer_traits.specs.declared.queues.QueueEvent.{QueueEvent}
-use Rattle.layer_traits.specs.declared.scheds.SchedCall.{SchedCall}
-use Rattle.layer_traits.specs.declared.scheds.SchedCall.TheVariants.{Pass, OnBuffer}
-use Rattle.layer_traits.specs.declared.passes.Pass.{Pass as PassCall}
-use Rattle.layer_traits.specs.declared.sleeps.Outcome.{Outcome}
-use Rattle.layer_traits.specs.Locking.{AreAtRest, IsAtRest, LockRules, LockState, wait_list_asked}
-use Rattle.layer_traits.specs.Locking.{wait_list_slept, lock_answer, lock_edited, lock_moves, lock_out}
-use Rattle.layer_traits.specs.Locking.{asker_report}
-use Rattle.layer_traits.specs.LockLaw.{IsAcquire, lock_kernel}
-use Rattle.layer_traits.specs.Places.{Threads}
-use Rattle.layer_traits.specs.QueueBlocks.{inner}
-use Rattle.layer_traits.specs.Queues.{buffer_sections}
-use Rattle.layer_traits.specs.Renaming.{renamed_sched, viewed}
-use Rattle.layer_traits.specs.Passes.{own_slept, passed_on}
-use Rattle.layer_traits.specs.Plans.{Left}
-use Rattle.layer_traits.specs.Scheds.{own_answered}
-use Rattle.layer_traits.specs.SleepLaw.{PollResult, MayCall, MayDo, Sleeping, Waits, Does, Sends, left_with, must_send}
-use Rattle.layer_traits.specs.Sleeping.{NobodySleeps, SleepState, wait_list_at}
+use Rattle.event_log.specs.{declared.ids.BufId.BufId, declared.ids.CpuId.CpuId, declared.ids.LockId.LockId, declared.ids.LockId.TheVariants.Buffer}
+use Rattle.event_log.specs.{declared.ids.Tid.Tid, Sections.block_after}
+use Rattle.layer_traits.specs.declared.{locked.QEdit.QEdit, locked.QEdit.TheVariants.Acquire, locked.QEdit.TheVariants.Inside, locked.QEdit.TheVariants.Release}
+use Rattle.layer_traits.specs.declared.{locked.QOut.QOut, moves.WaitList.WaitList, moves.WaitList.TheVariants.Sleepers, moves.WaitList.TheVariants.Receivers}
+use Rattle.layer_traits.specs.declared.{moves.WaitList.TheVariants.Senders, queue_edits.QueueBlock.QueueBlock, queues.QueueEvent.QueueEvent}
+use Rattle.layer_traits.specs.declared.{scheds.SchedCall.SchedCall, scheds.SchedCall.TheVariants.Pass, scheds.SchedCall.TheVariants.OnBuffer}
+use Rattle.layer_traits.specs.declared.{passes.Pass.Pass as PassCall, sleeps.Outcome.Outcome}
+use Rattle.layer_traits.specs.{Locking.AreAtRest, Locking.IsAtRest, Locking.LockRules, Locking.LockState, Locking.wait_list_asked, Locking.wait_list_slept}
+use Rattle.layer_traits.specs.{Locking.lock_answer, Locking.lock_edited, Locking.lock_moves, Locking.lock_out, Locking.asker_report, LockLaw.IsAcquire}
+use Rattle.layer_traits.specs.{LockLaw.lock_kernel, Places.Threads, QueueBlocks.inner, Queues.buffer_sections, Renaming.renamed_sched, Renaming.viewed}
+use Rattle.layer_traits.specs.{Passes.own_slept, Passes.passed_on, Plans.Left, Scheds.own_answered, SleepLaw.PollResult, SleepLaw.MayCall, SleepLaw.MayDo}
+use Rattle.layer_traits.specs.{SleepLaw.Sleeping, SleepLaw.Waits, SleepLaw.Does, SleepLaw.Sends, SleepLaw.left_with, SleepLaw.must_send, Sleeping.NobodySleeps}
+use Rattle.layer_traits.specs.{Sleeping.SleepState, Sleeping.wait_list_at}
 use Rattle.layer_traits.proofs.KernelRenaming.{inner_viewed}
-use Rattle.queuing_lock.specs.declared.edits.QBlock.{QBlock}
-use Rattle.queuing_lock.specs.declared.edits.QLockEdit.{QLockEdit}
-use Rattle.queuing_lock.specs.Nested.{as_section, edit_in, nested_lock_of}
-use Rattle.queuing_lock.specs.Parts.{DeferredFits, is_queued}
+use Rattle.queuing_lock.specs.{declared.edits.QBlock.QBlock, declared.edits.QLockEdit.QLockEdit, Nested.as_section, Nested.edit_in, Nested.nested_lock_of}
+use Rattle.queuing_lock.specs.{Parts.DeferredFits, Parts.is_queued}
 
 nobody_in : {B : Type 0} (line : WaitList) (o : Option (SleepState (QBlock B))) → IsAtRest (option_map nested_lock_of o) → wait_list_at line o ≡ []
 nobody_in Sleepers None rest = refl

@@ -1,38 +1,22 @@
 -- A call that may begin here may begin beneath: what the owner may do it may do whatever others do, and who runs sleeps for no lock.
 use Rattle.std.proofs.Common.{◌≡◌, ◌≢◌, false, List, ◌++◌, Option, Some, None, map, ap, ◌∙◌, subst}
-use Rattle.event_log.specs.declared.ids.BufId.{BufId}
-use Rattle.event_log.specs.declared.ids.CpuId.{CpuId}
-use Rattle.event_log.specs.declared.ids.LockId.{LockId}
-use Rattle.event_log.specs.declared.ids.LockId.TheVariants.{Buffer}
-use Rattle.event_log.specs.declared.ids.Tid.{Tid}
-use Rattle.event_log.specs.History.{AreOthers, IsLawful}
-use Rattle.event_log.specs.Sections.{renamed_section}
-use Rattle.layer_traits.specs.declared.locked.QEdit.{QEdit}
-use Rattle.layer_traits.specs.declared.locked.QEdit.TheVariants.{Acquire, Inside, Release}
-use Rattle.layer_traits.specs.declared.moves.WaitList.TheVariants.{Sleepers}
-use Rattle.layer_traits.specs.declared.queue_edits.QueueBlock.{QueueBlock}
-use Rattle.layer_traits.specs.declared.queues.QueueEvent.{QueueEvent}
-use Rattle.layer_traits.specs.declared.scheds.SchedCall.TheVariants as call
-use Rattle.layer_traits.specs.Locking.{IsOwners, LockAllowed, LockRules, LockState, wait_list_in, lock_after, lock_caller, owner_in, owner_of}
-use Rattle.layer_traits.specs.LockLaw.{LocksAgree, MayLock, lock_kernel}
-use Rattle.layer_traits.specs.ListsAgree.{is_at}
-use Rattle.layer_traits.specs.Places.{AreMoves, Home, Stands, Threads, home_of, one_if, wait_channel_of, where_is}
-use Rattle.layer_traits.specs.QueueBlocks.{homes_in, inner}
-use Rattle.layer_traits.specs.Queues.{QueueAllowed, buffer_sections, cpu_of_queue_event, moves_in}
-use Rattle.layer_traits.specs.Renaming.{renamed_events, viewed}
-use Rattle.layer_traits.specs.Scheds.{EditStays}
-use Rattle.layer_traits.specs.SleepLaw.{MaySleep}
-use Rattle.layer_traits.specs.Sleeping.{SleepState}
-use Rattle.layer_traits.proofs.CountLemmas.{not_counted}
-use Rattle.layer_traits.proofs.KernelRenaming.{stays_renamed}
-use Rattle.layer_traits.proofs.PlaceLemmas.{current_at}
+use Rattle.event_log.specs.{declared.ids.BufId.BufId, declared.ids.CpuId.CpuId, declared.ids.LockId.LockId, declared.ids.LockId.TheVariants.Buffer}
+use Rattle.event_log.specs.{declared.ids.Tid.Tid, History.AreOthers, History.IsLawful, Sections.renamed_section}
+use Rattle.layer_traits.specs.{declared.locked.QEdit.QEdit, declared.locked.QEdit.TheVariants.Acquire, declared.locked.QEdit.TheVariants.Inside}
+use Rattle.layer_traits.specs.{declared.locked.QEdit.TheVariants.Release, declared.moves.WaitList.TheVariants.Sleepers}
+use Rattle.layer_traits.specs.{declared.queue_edits.QueueBlock.QueueBlock, declared.queues.QueueEvent.QueueEvent, Locking.IsOwners, Locking.LockAllowed}
+use Rattle.layer_traits.specs.{Locking.LockRules, Locking.LockState, Locking.wait_list_in, Locking.lock_after, Locking.lock_caller, Locking.owner_in}
+use Rattle.layer_traits.specs.{Locking.owner_of, LockLaw.LocksAgree, LockLaw.MayLock, LockLaw.lock_kernel, ListsAgree.is_at, Places.AreMoves, Places.Home}
+use Rattle.layer_traits.specs.{Places.Stands, Places.Threads, Places.home_of, Places.one_if, Places.wait_channel_of, Places.where_is, QueueBlocks.homes_in}
+use Rattle.layer_traits.specs.{QueueBlocks.inner, Queues.QueueAllowed, Queues.buffer_sections, Queues.cpu_of_queue_event, Queues.moves_in}
+use Rattle.layer_traits.specs.{Renaming.renamed_events, Renaming.viewed, Scheds.EditStays, SleepLaw.MaySleep, Sleeping.SleepState}
+use Rattle.layer_traits.proofs.{CountLemmas.not_counted, KernelRenaming.stays_renamed, PlaceLemmas.current_at}
 use Rattle.thread_blocks.specs.Queues.{is_in}
-use Rattle.queuing_lock.specs.declared.edits.QBlock.{QBlock}
-use Rattle.queuing_lock.specs.declared.edits.QLockEdit.{QLockEdit}
-use Rattle.queuing_lock.specs.Laws.NestedLaws.{beneath, here, inner_locks, locks_wrap}
-use Rattle.queuing_lock.specs.Laws.Steady.{keeps_nothing, keeps_owned, preserved_by_others}
-use Rattle.queuing_lock.specs.Nested.{as_section, edit_in, nested_lock_of}
-use Rattle.queuing_lock.specs.Steady.{HasNothing, IsPreserved, IsOwner}
+use Rattle.queuing_lock.specs.{declared.edits.QBlock.QBlock, declared.edits.QLockEdit.QLockEdit, Laws.NestedLaws.beneath, Laws.NestedLaws.here}
+use Rattle.queuing_lock.specs.{Laws.NestedLaws.inner_locks, Laws.NestedLaws.locks_wrap, Laws.Steady.keeps_nothing, Laws.Steady.keeps_owned}
+use Rattle.queuing_lock.specs.{Laws.Steady.preserved_by_others, Nested.as_section, Nested.edit_in, Nested.nested_lock_of, Steady.HasNothing, Steady.IsPreserved}
+use Rattle.queuing_lock.specs.{Steady.IsOwner}
+use Rattle.layer_traits.specs.declared.scheds.SchedCall.TheVariants as call
 
 module _ {F R B O : Type 0} (rules : LockRules F R B O) (opening : LockId → Option (QueueBlock (LockState B))) where
   -- who runs sleeps for no lock

@@ -1,55 +1,31 @@
 -- A part and its polls, from what the part beneath says of its own: what is owed beneath, and what was done here.
 use Rattle.std.proofs.Common.{◌≡◌, ◌≢◌, true, false, if◌then◌else◌, List, ◌++◌, length, ◌≤◌, Option, Some, None, option_map, is_some, map, refl, ap, sym, ◌∙◌}
 use Rattle.std.proofs.Common.{subst, ◌<◌, arith}
-use Rattle.std.proofs.Math.Path.{transport}
-use Rattle.std.proofs.lemmas.Option.{slice_get_within}
-use Rattle.event_log.specs.declared.ids.BufId.{BufId}
-use Rattle.event_log.specs.declared.ids.CpuId.{CpuId}
-use Rattle.event_log.specs.declared.ids.LockId.{LockId}
-use Rattle.event_log.specs.declared.ids.LockId.TheVariants.{Buffer}
-use Rattle.event_log.specs.declared.ids.TheConstants.{THREADS}
-use Rattle.event_log.specs.declared.ids.Tid.{Tid}
-use Rattle.event_log.specs.Actions.{Action, renamed}
-use Rattle.event_log.specs.History.{IsLawful}
+use Rattle.std.proofs.{Math.Path.transport, lemmas.Option.slice_get_within}
+use Rattle.event_log.specs.{declared.ids.BufId.BufId, declared.ids.CpuId.CpuId, declared.ids.LockId.LockId, declared.ids.LockId.TheVariants.Buffer}
+use Rattle.event_log.specs.{declared.ids.TheConstants.THREADS, declared.ids.Tid.Tid, Actions.Action, Actions.renamed, History.IsLawful}
 use Rattle.event_log.proofs.BoolLemmas.{none_of}
-use Rattle.layer_traits.specs.declared.locked.QEdit.{QEdit}
-use Rattle.layer_traits.specs.declared.locked.QEdit.TheVariants.{Acquire, Inside, Release}
-use Rattle.layer_traits.specs.declared.locked.QOut.{QOut}
-use Rattle.layer_traits.specs.declared.passes.Pass.{Pass}
-use Rattle.layer_traits.specs.declared.payloads.Parcel.{Parcel}
-use Rattle.layer_traits.specs.declared.queue_edits.QueueBlock.{QueueBlock}
-use Rattle.layer_traits.specs.declared.queue_edits.QueueEdit.{QueueEdit}
-use Rattle.layer_traits.specs.declared.queues.QueueEvent.{QueueEvent}
-use Rattle.layer_traits.specs.declared.scheds.SchedAnswer.{SchedAnswer}
-use Rattle.layer_traits.specs.declared.scheds.SchedCall.{SchedCall}
-use Rattle.layer_traits.specs.declared.scheds.SchedCall.TheVariants as call
-use Rattle.layer_traits.specs.declared.sleeps.Outcome.{Outcome}
-use Rattle.layer_traits.specs.ListsAgree.{ListsAgree}
-use Rattle.layer_traits.specs.Locking.{LockRules, lock_after, lock_caller, lock_moves, lock_rules}
-use Rattle.layer_traits.specs.LockLaw.{LockPolled, Locking, MayGo, MayLock, left_after, left_handed, lock_pass_plan, lock_plan, locks_passed, HasOrAwaits}
-use Rattle.layer_traits.specs.LockLaw.{plan_for, slept_for}
-use Rattle.layer_traits.specs.Payloads.{lock_meant}
-use Rattle.layer_traits.specs.Places.{AreMoves, Home, Stands, Threads, home_of, where_is}
-use Rattle.layer_traits.specs.Plans.{Follows, Left, table_of}
-use Rattle.layer_traits.specs.QueueBlocks.{StartsWell, homes_in, inner}
-use Rattle.layer_traits.specs.QueueRules.{queue_rules}
-use Rattle.layer_traits.specs.Queues.{QueueAllowed, buffer_sections, moves_in}
-use Rattle.layer_traits.specs.Renaming.{renamed_edit, renamed_events, renamed_sched, viewed}
-use Rattle.layer_traits.specs.Scheds.{SchedPolled}
-use Rattle.layer_traits.specs.SleepLaw.{MayCall, MaySleep, SleepPolled, Sleeping, pass_plan, sleep_plan}
-use Rattle.layer_traits.specs.Sleeping.{SleepState, sleep_moves, sleep_rules}
-use Rattle.layer_traits.proofs.CallLemmas.{follows_raised}
-use Rattle.layer_traits.proofs.KernelRenaming.{follows_named, homes_viewed, polled_renamed}
-use Rattle.layer_traits.proofs.PlaceLemmas.{current_at}
-use Rattle.layer_traits.proofs.SleepRenaming.{pass_plan_renamed, sleep_plan_renamed, sleeps_renamed}
-use Rattle.queuing_lock.specs.declared.edits.QBlock.{QBlock}
-use Rattle.queuing_lock.specs.declared.edits.QLockEdit.{QLockEdit}
+use Rattle.layer_traits.specs.{declared.locked.QEdit.QEdit, declared.locked.QEdit.TheVariants.Acquire, declared.locked.QEdit.TheVariants.Inside}
+use Rattle.layer_traits.specs.{declared.locked.QEdit.TheVariants.Release, declared.locked.QOut.QOut, declared.passes.Pass.Pass, declared.payloads.Parcel.Parcel}
+use Rattle.layer_traits.specs.{declared.queue_edits.QueueBlock.QueueBlock, declared.queue_edits.QueueEdit.QueueEdit, declared.queues.QueueEvent.QueueEvent}
+use Rattle.layer_traits.specs.{declared.scheds.SchedAnswer.SchedAnswer, declared.scheds.SchedCall.SchedCall, declared.sleeps.Outcome.Outcome}
+use Rattle.layer_traits.specs.{ListsAgree.ListsAgree, Locking.LockRules, Locking.lock_after, Locking.lock_caller, Locking.lock_moves, Locking.lock_rules}
+use Rattle.layer_traits.specs.{LockLaw.LockPolled, LockLaw.Locking, LockLaw.MayGo, LockLaw.MayLock, LockLaw.left_after, LockLaw.left_handed}
+use Rattle.layer_traits.specs.{LockLaw.lock_pass_plan, LockLaw.lock_plan, LockLaw.locks_passed, LockLaw.HasOrAwaits, LockLaw.plan_for, LockLaw.slept_for}
+use Rattle.layer_traits.specs.{Payloads.lock_meant, Places.AreMoves, Places.Home, Places.Stands, Places.Threads, Places.home_of, Places.where_is, Plans.Follows}
+use Rattle.layer_traits.specs.{Plans.Left, Plans.table_of, QueueBlocks.StartsWell, QueueBlocks.homes_in, QueueBlocks.inner, QueueRules.queue_rules}
+use Rattle.layer_traits.specs.{Queues.QueueAllowed, Queues.buffer_sections, Queues.moves_in, Renaming.renamed_edit, Renaming.renamed_events}
+use Rattle.layer_traits.specs.{Renaming.renamed_sched, Renaming.viewed, Scheds.SchedPolled, SleepLaw.MayCall, SleepLaw.MaySleep, SleepLaw.SleepPolled}
+use Rattle.layer_traits.specs.{SleepLaw.Sleeping, SleepLaw.pass_plan, SleepLaw.sleep_plan, Sleeping.SleepState, Sleeping.sleep_moves, Sleeping.sleep_rules}
+use Rattle.layer_traits.proofs.{CallLemmas.follows_raised, KernelRenaming.follows_named, KernelRenaming.homes_viewed, KernelRenaming.polled_renamed}
+use Rattle.layer_traits.proofs.{PlaceLemmas.current_at, SleepRenaming.pass_plan_renamed, SleepRenaming.sleep_plan_renamed, SleepRenaming.sleeps_renamed}
+use Rattle.queuing_lock.specs.{declared.edits.QBlock.QBlock, declared.edits.QLockEdit.QLockEdit, Nested.as_section, Nested.busy_rules, Nested.edit_in}
+use Rattle.queuing_lock.specs.{Nested.nested_lock_of, Parts.DeferredFits, Parts.SleptFits, Parts.asks_again, Parts.slept_left_by}
 use Rattle.queuing_lock.specs.Laws.NestedLaws.{beneath, here, locks_lawful, locks_lists, locks_moves_legal, locks_stand, locks_wrap}
-use Rattle.queuing_lock.specs.Nested.{as_section, busy_rules, edit_in, nested_lock_of}
-use Rattle.queuing_lock.specs.Parts.{DeferredFits, SleptFits, asks_again, slept_left_by}
-use Rattle.queuing_lock.proofs.DeferredLemmas.{DeferredIn, asks_none, deferred_result, deferred_goes, may_beneath}
-use Rattle.queuing_lock.proofs.OwnerLemmas.{locks_may, runs_awake}
-use Rattle.queuing_lock.proofs.PollLemmas.{SectionPoll, awaits_owner, slept_of_others, slept_polled, slept_queued}
+use Rattle.queuing_lock.proofs.{DeferredLemmas.DeferredIn, DeferredLemmas.asks_none, DeferredLemmas.deferred_result, DeferredLemmas.deferred_goes}
+use Rattle.queuing_lock.proofs.{DeferredLemmas.may_beneath, OwnerLemmas.locks_may, OwnerLemmas.runs_awake, PollLemmas.SectionPoll, PollLemmas.awaits_owner}
+use Rattle.queuing_lock.proofs.{PollLemmas.slept_of_others, PollLemmas.slept_polled, PollLemmas.slept_queued}
+use Rattle.layer_traits.specs.declared.scheds.SchedCall.TheVariants as call
 
 -- the call under way beneath is the one under way here, whatever the answer tells
 pub under_is : {F R A T : Type 0} (told : A → T) (under : Option (SchedCall (QLockEdit F R))) (answer : Option A) (b : BufId) (e : QEdit F R)

@@ -1,50 +1,28 @@
 -- One poll of a part: what it leaves of who slept, and that it is the poll which the law of the layer asks for.
 use Rattle.std.proofs.Common.{◌≡◌, ◌≢◌, inl, inr, ◌<◌, ◌≤◌, Bool, true, false, ◌&&◌, ◌||◌, not, nat_lt, if◌then◌else◌, List, [], ◌∷◌, ◌++◌, length, Option}
 use Rattle.std.proofs.Common.{Some, None, option_map, is_some, refl, ap, sym, ◌∙◌, subst, arith}
-use Rattle.std.proofs.lemmas.Bool.{lt-ltb}
-use Rattle.std.proofs.lemmas.Option.{slice_get_within}
-use Rattle.std.proofs.Math.Bool.{or-true}
-use Rattle.event_log.specs.declared.ids.BufId.{BufId}
-use Rattle.event_log.specs.declared.ids.CpuId.{CpuId}
-use Rattle.event_log.specs.declared.ids.LockId.{LockId}
-use Rattle.event_log.specs.declared.ids.LockId.TheVariants.{Buffer}
-use Rattle.event_log.specs.declared.ids.TheConstants.{THREADS}
-use Rattle.event_log.specs.declared.ids.Tid.{Tid}
-use Rattle.event_log.specs.History.{IsLawful, same_cpu}
-use Rattle.event_log.proofs.Foreign.{lawful_before}
-use Rattle.event_log.proofs.Same.{same_cpu_true, same_lock_self}
-use Rattle.layer_traits.specs.declared.locked.QEdit.{QEdit}
-use Rattle.layer_traits.specs.declared.locked.QEdit.TheVariants.{Acquire, Inside, Release}
-use Rattle.layer_traits.specs.declared.locked.QOut.{QOut}
-use Rattle.layer_traits.specs.declared.locked.QOut.TheVariants.{Acquired, Queued, Did, Released}
-use Rattle.layer_traits.specs.declared.moves.WaitList.TheVariants.{Sleepers}
-use Rattle.layer_traits.specs.declared.passes.Pass.{Pass as PassCall}
-use Rattle.layer_traits.specs.declared.passes.Pass.TheVariants as pass
-use Rattle.layer_traits.specs.declared.payloads.Parcel.{Parcel}
-use Rattle.layer_traits.specs.declared.queue_edits.QueueBlock.{QueueBlock}
-use Rattle.layer_traits.specs.declared.queues.QueueCall.TheVariants.{Push, OnBuffer}
-use Rattle.layer_traits.specs.declared.queues.QueueEvent.{QueueEvent}
-use Rattle.layer_traits.specs.declared.scheds.SchedAnswer.{SchedAnswer}
-use Rattle.layer_traits.specs.declared.scheds.SchedCall.TheVariants as call
-use Rattle.layer_traits.specs.declared.sleeps.Outcome.{Outcome}
-use Rattle.layer_traits.specs.Locking.{LockRules, LockState, asked, wait_list_in, lock_after, lock_answer, lock_caller, lock_edited, lock_moves, owner_in}
-use Rattle.layer_traits.specs.Locking.{asker_report}
-use Rattle.layer_traits.specs.LockLaw.{HasOrAwaits, left_locked, locking, lock_kernel, slept_for}
-use Rattle.layer_traits.specs.Passes.{queue_for}
-use Rattle.layer_traits.specs.Payloads.{lock_told, outcome_told}
-use Rattle.layer_traits.specs.Places.{Threads, home_of}
-use Rattle.layer_traits.specs.QueueBlocks.{homes_in, inner}
-use Rattle.layer_traits.specs.Queues.{QueueAllowed, buffer_sections, event}
-use Rattle.layer_traits.specs.Plans.{Left}
-use Rattle.layer_traits.specs.Scheds.{SchedPolled, events_of, own_answered, queue_call}
-use Rattle.layer_traits.specs.SleepLaw.{PollResult, MayDo, SleepPolled, Sleeping, Waits, Does, Sends, left_done, left_with, must_send, seen_with}
-use Rattle.layer_traits.specs.Sleeping.{joined}
+use Rattle.std.proofs.{lemmas.Bool.lt-ltb, lemmas.Option.slice_get_within, Math.Bool.or-true}
+use Rattle.event_log.specs.{declared.ids.BufId.BufId, declared.ids.CpuId.CpuId, declared.ids.LockId.LockId, declared.ids.LockId.TheVariants.Buffer}
+use Rattle.event_log.specs.{declared.ids.TheConstants.THREADS, declared.ids.Tid.Tid, History.IsLawful, History.same_cpu}
+use Rattle.event_log.proofs.{Foreign.lawful_before, Same.same_cpu_true, Same.same_lock_self}
+use Rattle.layer_traits.specs.declared.locked.{QEdit.QEdit, QEdit.TheVariants.Acquire, QEdit.TheVariants.Inside, QEdit.TheVariants.Release, QOut.QOut}
+use Rattle.layer_traits.specs.declared.locked.{QOut.TheVariants.Acquired, QOut.TheVariants.Queued, QOut.TheVariants.Did, QOut.TheVariants.Released}
+use Rattle.layer_traits.specs.{declared.moves.WaitList.TheVariants.Sleepers, declared.passes.Pass.Pass as PassCall, declared.payloads.Parcel.Parcel}
+use Rattle.layer_traits.specs.{declared.queue_edits.QueueBlock.QueueBlock, declared.queues.QueueCall.TheVariants.Push}
+use Rattle.layer_traits.specs.{declared.queues.QueueCall.TheVariants.OnBuffer, declared.queues.QueueEvent.QueueEvent, declared.scheds.SchedAnswer.SchedAnswer}
+use Rattle.layer_traits.specs.{declared.sleeps.Outcome.Outcome, Locking.LockRules, Locking.LockState, Locking.asked, Locking.wait_list_in, Locking.lock_after}
+use Rattle.layer_traits.specs.{Locking.lock_answer, Locking.lock_caller, Locking.lock_edited, Locking.lock_moves, Locking.owner_in, Locking.asker_report}
+use Rattle.layer_traits.specs.{LockLaw.HasOrAwaits, LockLaw.left_locked, LockLaw.locking, LockLaw.lock_kernel, LockLaw.slept_for, Passes.queue_for}
+use Rattle.layer_traits.specs.{Payloads.lock_told, Payloads.outcome_told, Places.Threads, Places.home_of, QueueBlocks.homes_in, QueueBlocks.inner}
+use Rattle.layer_traits.specs.{Queues.QueueAllowed, Queues.buffer_sections, Queues.event, Plans.Left, Scheds.SchedPolled, Scheds.events_of, Scheds.own_answered}
+use Rattle.layer_traits.specs.{Scheds.queue_call, SleepLaw.PollResult, SleepLaw.MayDo, SleepLaw.SleepPolled, SleepLaw.Sleeping, SleepLaw.Waits, SleepLaw.Does}
+use Rattle.layer_traits.specs.{SleepLaw.Sends, SleepLaw.left_done, SleepLaw.left_with, SleepLaw.must_send, SleepLaw.seen_with, Sleeping.joined}
 use Rattle.thread_blocks.specs.Queues.{is_in}
-use Rattle.thread_blocks.proofs.Distinct.{pushed_in}
-use Rattle.thread_blocks.proofs.Members.{same_tid_self}
+use Rattle.thread_blocks.proofs.{Distinct.pushed_in, Members.same_tid_self}
 use Rattle.queuing_lock.specs.Parts.{DeferredFits, SleptFits, is_queued, slept_left_by, slept_left_with, reported_with}
-use Rattle.queuing_lock.proofs.DeferredLemmas.{deferred_is}
-use Rattle.queuing_lock.proofs.SleptLemmas.{slept_result, slept_more, slept_others}
+use Rattle.queuing_lock.proofs.{DeferredLemmas.deferred_is, SleptLemmas.slept_result, SleptLemmas.slept_more, SleptLemmas.slept_others}
+use Rattle.layer_traits.specs.declared.passes.Pass.TheVariants as pass
+use Rattle.layer_traits.specs.declared.scheds.SchedCall.TheVariants as call
 
 -- who owns a lock or sleeps for it, and does not sleep, owns it
 pub awaits_owner : {B : Type 0} (t : Tid) (o : Option (LockState B)) → HasOrAwaits t o → is_in t (wait_list_in Sleepers o) ≡ false → owner_in o ≡ Some t

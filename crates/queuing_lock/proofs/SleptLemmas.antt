@@ -1,22 +1,13 @@
 -- Whoever slept for a lock owns it or sleeps for it still, whatever is called.
 use Rattle.std.proofs.Common.{◌≡◌, ◌⊎◌, inl, inr, ℕ, zero, suc, List, [], ◌∷◌, ◌++◌, Option, Some, None, slice_index_or, slice_set, replicate, refl, ap, sym}
 use Rattle.std.proofs.Common.{◌∙◌, subst}
-use Rattle.event_log.specs.declared.ids.BufId.{BufId}
-use Rattle.event_log.specs.declared.ids.CpuId.{CpuId}
-use Rattle.event_log.specs.declared.ids.LockId.{LockId}
-use Rattle.event_log.specs.declared.ids.LockId.TheVariants.{Buffer}
-use Rattle.event_log.specs.declared.ids.Tid.{Tid}
-use Rattle.event_log.specs.History.{AreOthers, IsLawful}
-use Rattle.layer_traits.specs.declared.locked.QEdit.{QEdit}
-use Rattle.layer_traits.specs.declared.locked.QOut.{QOut}
-use Rattle.layer_traits.specs.declared.queue_edits.QueueBlock.{QueueBlock}
-use Rattle.layer_traits.specs.declared.queues.QueueEvent.{QueueEvent}
-use Rattle.layer_traits.specs.Locking.{LockRules, LockState, lock_caller}
-use Rattle.layer_traits.specs.LockLaw.{HasOrAwaits, lock_kernel, slept_for}
-use Rattle.layer_traits.specs.Queues.{QueueAllowed, cpu_of_queue_event}
-use Rattle.layer_traits.specs.SleepLaw.{PollResult, Waits, Does, Sends, seen_with}
-use Rattle.queuing_lock.specs.Laws.Steady.{keeps_awaits, preserved_by, preserved_by_others}
-use Rattle.queuing_lock.specs.Parts.{SleptFits, SleptOne}
+use Rattle.event_log.specs.{declared.ids.BufId.BufId, declared.ids.CpuId.CpuId, declared.ids.LockId.LockId, declared.ids.LockId.TheVariants.Buffer}
+use Rattle.event_log.specs.{declared.ids.Tid.Tid, History.AreOthers, History.IsLawful}
+use Rattle.layer_traits.specs.{declared.locked.QEdit.QEdit, declared.locked.QOut.QOut, declared.queue_edits.QueueBlock.QueueBlock}
+use Rattle.layer_traits.specs.{declared.queues.QueueEvent.QueueEvent, Locking.LockRules, Locking.LockState, Locking.lock_caller, LockLaw.HasOrAwaits}
+use Rattle.layer_traits.specs.{LockLaw.lock_kernel, LockLaw.slept_for, Queues.QueueAllowed, Queues.cpu_of_queue_event, SleepLaw.PollResult, SleepLaw.Waits}
+use Rattle.layer_traits.specs.{SleepLaw.Does, SleepLaw.Sends, SleepLaw.seen_with}
+use Rattle.queuing_lock.specs.{Laws.Steady.keeps_awaits, Laws.Steady.preserved_by, Laws.Steady.preserved_by_others, Parts.SleptFits, Parts.SleptOne}
 
 -- what stands in a list in which one was set stands there because it was set, or stood there before
 pub set_reads : {A : Type 0} (xs : List (Option A)) (i j : ℕ) (v : Option A) (a : A) → slice_index_or (slice_set xs i v) j None ≡ Some a

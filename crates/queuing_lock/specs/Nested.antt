@@ -1,22 +1,14 @@
 -- The calls on a queuing lock as sections of the layer that lets threads sleep: what they do to the busy word and to what lies above.
 use Rattle.std.specs.Prelude.{map, Option, Some, None, option_map}
-use Rattle.event_log.specs.declared.ids.LockId.{LockId}
-use Rattle.event_log.specs.declared.ids.Tid.{Tid}
-use Rattle.event_log.specs.Sections.{renamed_section}
-use Rattle.layer_traits.specs.declared.locked.QEdit.{QEdit}
-use Rattle.layer_traits.specs.declared.locked.QEdit.TheVariants.{Acquire, Inside, Release}
-use Rattle.layer_traits.specs.declared.locked.QOut.{QOut}
-use Rattle.layer_traits.specs.declared.locked.QOut.TheVariants.{Acquired, Queued, Did, Released}
-use Rattle.layer_traits.specs.declared.locked.WakeWaiter.{WakeWaiter}
+use Rattle.event_log.specs.{declared.ids.LockId.LockId, declared.ids.Tid.Tid, Sections.renamed_section}
+use Rattle.layer_traits.specs.declared.locked.{QEdit.QEdit, QEdit.TheVariants.Acquire, QEdit.TheVariants.Inside, QEdit.TheVariants.Release, QOut.QOut}
+use Rattle.layer_traits.specs.declared.locked.{QOut.TheVariants.Acquired, QOut.TheVariants.Queued, QOut.TheVariants.Did, QOut.TheVariants.Released}
+use Rattle.layer_traits.specs.declared.locked.{WakeWaiter.WakeWaiter}
+use Rattle.layer_traits.specs.{declared.payloads.Parcel.Parcel, Locking.LockAllowed, Locking.LockRules, Locking.LockState, Locking.wait_list_slept}
+use Rattle.layer_traits.specs.{Locking.lock_caller, Locking.asker_report, Payloads.lock_meant, Sleeping.SleepRules, Sleeping.SleepState}
+use Rattle.layer_traits.specs.declared.sleeps.Wake.{Wake, TheVariants.Nobody, TheVariants.FirstSleeper, TheVariants.Receiver, TheVariants.Sender}
+use Rattle.queuing_lock.specs.declared.edits.{QBlock.QBlock, QLockEdit.QLockEdit}
 use Rattle.layer_traits.specs.declared.locked.WakeWaiter.TheVariants as signal
-use Rattle.layer_traits.specs.declared.payloads.Parcel.{Parcel}
-use Rattle.layer_traits.specs.declared.sleeps.Wake.{Wake}
-use Rattle.layer_traits.specs.declared.sleeps.Wake.TheVariants.{Nobody, FirstSleeper, Receiver, Sender}
-use Rattle.layer_traits.specs.Locking.{LockAllowed, LockRules, LockState, wait_list_slept, lock_caller, asker_report}
-use Rattle.layer_traits.specs.Payloads.{lock_meant}
-use Rattle.layer_traits.specs.Sleeping.{SleepRules, SleepState}
-use Rattle.queuing_lock.specs.declared.edits.QBlock.{QBlock}
-use Rattle.queuing_lock.specs.declared.edits.QLockEdit.{QLockEdit}
 
 -- the call that a section is
 abbrev pub edit_in : {F R : Type 0} → QLockEdit F R → QEdit F R

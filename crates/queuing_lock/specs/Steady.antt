@@ -1,13 +1,8 @@
 -- What is true of a lock and stays so while other threads call.
 use Rattle.std.specs.Prelude.{◌≡◌, ◌≢◌, false, Option, Some, None}
-use Rattle.event_log.specs.declared.ids.CpuId.{CpuId}
-use Rattle.event_log.specs.declared.ids.LockId.{LockId}
-use Rattle.event_log.specs.declared.ids.Tid.{Tid}
-use Rattle.layer_traits.specs.declared.locked.QEdit.{QEdit}
-use Rattle.layer_traits.specs.declared.queue_edits.QueueBlock.{QueueBlock}
-use Rattle.layer_traits.specs.Locking.{IsOwners, LockRules, LockState, lock_caller, lock_edited, owner_in}
-use Rattle.layer_traits.specs.Places.{home_of}
-use Rattle.layer_traits.specs.QueueBlocks.{homes_in}
+use Rattle.event_log.specs.declared.ids.{CpuId.CpuId, LockId.LockId, Tid.Tid}
+use Rattle.layer_traits.specs.{declared.locked.QEdit.QEdit, declared.queue_edits.QueueBlock.QueueBlock, Locking.IsOwners, Locking.LockRules, Locking.LockState}
+use Rattle.layer_traits.specs.{Locking.lock_caller, Locking.lock_edited, Locking.owner_in, Places.home_of, QueueBlocks.homes_in}
 use Rattle.thread_blocks.specs.Queues.{is_in}
 
 -- what is true of a lock stays so by each call of the owner that another thread makes

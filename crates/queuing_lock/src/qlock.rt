@@ -24,8 +24,7 @@ impl<F: Locked, S: ThreadLayer<SleepLaw<QLockEdit<F, F::Release>>>> ThreadLayer<
     ghost use Rattle.layer_traits.specs.Renaming.{renamed_edit, renamed_events, renamed_sched, viewed};
     ghost use Rattle.layer_traits.proofs.KernelRenaming.{known_renamed, proper_renamed, seen_renamed, starts_viewed};
     ghost use Rattle.queuing_lock.specs.Laws.NestedLaws.{locks_busy, locks_lawful, locks_lists, locks_moves_legal, locks_stand, none_beneath};
-    ghost use Rattle.queuing_lock.specs.Nested.{edit_in, nested_lock_of};
-    ghost use Rattle.queuing_lock.specs.Parts.{DeferredFits, SleptFits};
+    ghost use Rattle.queuing_lock.specs.{Nested.edit_in, Nested.nested_lock_of, Parts.DeferredFits, Parts.SleptFits};
 
     type Machine = S::Machine;
 
@@ -158,10 +157,8 @@ impl<F: Locked, S: OwnedThreadLayer<SleepLaw<QLockEdit<F, F::Release>>>> OwnedTh
 > for QLock<S> {
     ghost use Rattle.std.specs.Prelude.{option_map};
     ghost use Rattle.event_log.specs.declared.ids.LockId.TheVariants.{Buffer, Pending};
-    ghost use Rattle.layer_traits.proofs.KernelRenaming.{there_viewed};
-    ghost use Rattle.layer_traits.proofs.OwnedLemmas.{parts_on};
-    ghost use Rattle.queuing_lock.specs.Laws.OwnedLaws.{locks_queues, locks_shown};
-    ghost use Rattle.queuing_lock.specs.Nested.{nested_lock_of};
+    ghost use Rattle.layer_traits.proofs.{KernelRenaming.there_viewed, OwnedLemmas.parts_on};
+    ghost use Rattle.queuing_lock.specs.{Laws.OwnedLaws.locks_queues, Laws.OwnedLaws.locks_shown, Nested.nested_lock_of};
 
     ghost block_at = { λ m b. option_map nested_lock_of (S.block_at m b) };
 

@@ -1,11 +1,8 @@
 -- The threads at home on a CPU, home by home.
 use Rattle.std.proofs.Common.{◌≡◌, ℕ, ◌+◌, ◌<◌, ◌≤◌, min, Bool, true, false, ◌||◌, List, [], ◌∷◌, ◌++◌, length, take, get_or, if◌then◌else◌, refl, ap, ◌∙◌}
 use Rattle.std.proofs.Common.{arith}
-use Rattle.std.proofs.lemmas.Bool.{eq-eqb, ne_eqb}
-use Rattle.std.proofs.lemmas.List.{take_more, length-take}
-use Rattle.event_log.specs.declared.ids.CpuId.{CpuId}
-use Rattle.event_log.specs.declared.ids.Tid.{Tid}
-use Rattle.event_log.specs.History.{same_cpu}
+use Rattle.std.proofs.lemmas.{Bool.eq-eqb, Bool.ne_eqb, List.take_more, List.length-take}
+use Rattle.event_log.specs.{declared.ids.CpuId.CpuId, declared.ids.Tid.Tid, History.same_cpu}
 use Rattle.thread_blocks.specs.Queues.{is_in}
 use Rattle.thread_blocks.proofs.Members.{tid_numbered}
 use Rattle.layer_traits.specs.Places.{homed}

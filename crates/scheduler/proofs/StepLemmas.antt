@@ -2,45 +2,31 @@
 -- its own goes on agreeing with the places.
 use Rattle.std.proofs.Common.{◌≡◌, ℕ, zero, suc, ◌<◌, true, false, List, [], ◌∷◌, ◌++◌, Option, Some, None, IsSome, option_map, length, slice_get, refl, ap}
 use Rattle.std.proofs.Common.{sym, ◌∙◌, subst, subst₂, arith}
-use Rattle.event_log.specs.declared.ids.BufId.{BufId}
-use Rattle.event_log.specs.declared.ids.CpuId.{CpuId}
-use Rattle.event_log.specs.declared.ids.LockId.{LockId}
-use Rattle.event_log.specs.declared.ids.LockId.TheVariants.{Pending, Buffer}
-use Rattle.event_log.specs.declared.ids.Tid.{Tid}
-use Rattle.event_log.specs.declared.ids.TheConstants.{THREADS}
-use Rattle.event_log.specs.Actions.{Action}
-use Rattle.event_log.specs.History.{AreOthers, Grows, IsLawful, same_cpu}
+use Rattle.event_log.specs.{declared.ids.BufId.BufId, declared.ids.CpuId.CpuId, declared.ids.LockId.LockId, declared.ids.LockId.TheVariants.Pending}
+use Rattle.event_log.specs.{declared.ids.LockId.TheVariants.Buffer, declared.ids.Tid.Tid, declared.ids.TheConstants.THREADS, Actions.Action, History.AreOthers}
+use Rattle.event_log.specs.{History.Grows, History.IsLawful, History.same_cpu}
 use Rattle.layer_traits.specs.declared.passes.Pass.TheVariants.{Switch, YieldNow, Drain, MakeReady, End}
-use Rattle.layer_traits.specs.declared.queue_edits.QueueBlock.{QueueBlock}
-use Rattle.layer_traits.specs.declared.queue_edits.QueueEdit.{QueueEdit}
-use Rattle.layer_traits.specs.declared.queues.QueueAnswer.{QueueAnswer}
-use Rattle.layer_traits.specs.declared.queues.QueueAnswer.TheVariants as told
-use Rattle.layer_traits.specs.declared.queues.QueueCall.{QueueCall}
-use Rattle.layer_traits.specs.declared.queues.QueueCall.TheVariants.{Push, TakeAll, OnBuffer}
-use Rattle.layer_traits.specs.declared.queues.QueueEvent.{QueueEvent}
-use Rattle.layer_traits.specs.declared.scheds.SchedAnswer.{SchedAnswer}
-use Rattle.layer_traits.specs.declared.scheds.SchedAnswer.TheVariants.{Done, Answer}
-use Rattle.layer_traits.specs.declared.scheds.SchedCall.{SchedCall}
-use Rattle.layer_traits.specs.declared.scheds.SchedCall.TheVariants as call
-use Rattle.layer_traits.specs.MoveRules.{MoveRules, WakesSleepers, edit_move}
-use Rattle.layer_traits.specs.Passes.{or_else, queue_for}
-use Rattle.layer_traits.specs.Places.{AreMoves, Where, Home, Hand, Pend, Asleep, MayEdit, MayMove, Stands, Threads, home_of, is_asleep, is_home, pending_by}
-use Rattle.layer_traits.specs.Places.{step, where_is}
-use Rattle.layer_traits.specs.Plans.{Follows, Table, answered}
-use Rattle.layer_traits.specs.Protocol.{Rules, section}
-use Rattle.layer_traits.specs.QueueBlocks.{StartsWell, homes_in}
-use Rattle.layer_traits.specs.Queues.{CallAllowed, Kernel, buffer_sections, MayQueue, QueueAllowed}
-use Rattle.layer_traits.specs.Queues.{QueuePolled, answer_of, call_move, event, cpu_of_queue_event}
-use Rattle.layer_traits.specs.Queues.{kernel, lock_of, moves_in, out_at, queue_plan}
-use Rattle.layer_traits.specs.Scheds.{BufferIsThere, EditStays, IsLocal, MaySched, SchedPolled, StateFor, answer_by, answer_to, events_of, left, left_by}
-use Rattle.layer_traits.specs.Scheds.{left_local, own_after, own_answered, own_by, plan_by, queue_call, sched_plan}
-use Rattle.layer_traits.proofs.CallLemmas.{follows_raised, moves_append, moves_lawful, moves_others, moves_over, woken_sleeps}
-use Rattle.layer_traits.proofs.CountLemmas.{not_counted}
+use Rattle.layer_traits.specs.{declared.queue_edits.QueueBlock.QueueBlock, declared.queue_edits.QueueEdit.QueueEdit, declared.queues.QueueAnswer.QueueAnswer}
+use Rattle.layer_traits.specs.{declared.queues.QueueCall.QueueCall, declared.queues.QueueCall.TheVariants.Push, declared.queues.QueueCall.TheVariants.TakeAll}
+use Rattle.layer_traits.specs.{declared.queues.QueueCall.TheVariants.OnBuffer, declared.queues.QueueEvent.QueueEvent, declared.scheds.SchedAnswer.SchedAnswer}
+use Rattle.layer_traits.specs.{declared.scheds.SchedAnswer.TheVariants.Done, declared.scheds.SchedAnswer.TheVariants.Answer}
+use Rattle.layer_traits.specs.{declared.scheds.SchedCall.SchedCall, MoveRules.MoveRules, MoveRules.WakesSleepers, MoveRules.edit_move, Passes.or_else}
+use Rattle.layer_traits.specs.{Passes.queue_for, Places.AreMoves, Places.Where, Places.Home, Places.Hand, Places.Pend, Places.Asleep, Places.MayEdit}
+use Rattle.layer_traits.specs.{Places.MayMove, Places.Stands, Places.Threads, Places.home_of, Places.is_asleep, Places.is_home, Places.pending_by, Places.step}
+use Rattle.layer_traits.specs.{Places.where_is, Plans.Follows, Plans.Table, Plans.answered, Protocol.Rules, Protocol.section, QueueBlocks.StartsWell}
+use Rattle.layer_traits.specs.{QueueBlocks.homes_in, Queues.CallAllowed, Queues.Kernel, Queues.buffer_sections, Queues.MayQueue, Queues.QueueAllowed}
+use Rattle.layer_traits.specs.{Queues.QueuePolled, Queues.answer_of, Queues.call_move, Queues.event, Queues.cpu_of_queue_event, Queues.kernel, Queues.lock_of}
+use Rattle.layer_traits.specs.{Queues.moves_in, Queues.out_at, Queues.queue_plan, Scheds.BufferIsThere, Scheds.EditStays, Scheds.IsLocal, Scheds.MaySched}
+use Rattle.layer_traits.specs.{Scheds.SchedPolled, Scheds.StateFor, Scheds.answer_by, Scheds.answer_to, Scheds.events_of, Scheds.left, Scheds.left_by}
+use Rattle.layer_traits.specs.{Scheds.left_local, Scheds.own_after, Scheds.own_answered, Scheds.own_by, Scheds.plan_by, Scheds.queue_call, Scheds.sched_plan}
+use Rattle.layer_traits.proofs.{CallLemmas.follows_raised, CallLemmas.moves_append, CallLemmas.moves_lawful, CallLemmas.moves_others, CallLemmas.moves_over}
+use Rattle.layer_traits.proofs.{CallLemmas.woken_sleeps, CountLemmas.not_counted}
 use Rattle.layer_traits.proofs.PlaceLemmas.{away_from, away_known, current_at, current_new, hand_free, hand_at, pending_at, stands_finished, stands_moved}
-use Rattle.layer_traits.proofs.PlaceLemmas.{stands_others, stands_pushed, stands_switched, stands_taken}
-use Rattle.layer_traits.proofs.PlaceLemmas.{home_there}
-use Rattle.scheduler.specs.Owns.{MayFinish, MayJoin, MaySettle, MayTake, local_after}
-use Rattle.scheduler.specs.Parts.{IsCalling, PartFits, UnderFits, sched_call, sched_under}
+use Rattle.layer_traits.proofs.PlaceLemmas.{stands_others, stands_pushed, stands_switched, stands_taken, home_there}
+use Rattle.scheduler.specs.{Owns.MayFinish, Owns.MayJoin, Owns.MaySettle, Owns.MayTake, Owns.local_after, Parts.IsCalling, Parts.PartFits, Parts.UnderFits}
+use Rattle.scheduler.specs.{Parts.sched_call, Parts.sched_under}
+use Rattle.layer_traits.specs.declared.queues.QueueAnswer.TheVariants as told
+use Rattle.layer_traits.specs.declared.scheds.SchedCall.TheVariants as call
 
 -- a thread that has a home is one of those that the list of homes counts
 known_within : (homes : List CpuId) (n : ℕ) (c : CpuId) → slice_get homes n ≡ Some c → n < length homes

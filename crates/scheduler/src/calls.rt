@@ -4,10 +4,7 @@
 
 ghost use Rattle.std.specs.Prelude.{◌≡◌, Some, None, IfOk, IfErr};
 ghost use Rattle.layer_traits.specs.declared.scheds.SchedCall.TheVariants as calls;
-ghost use Rattle.layer_traits.specs.declared.payloads.Payload.{Payload};
-ghost use Rattle.layer_traits.specs.Passes.{queue_for};
-ghost use Rattle.layer_traits.specs.Payloads.{call_meant, sched_meant};
-ghost use Rattle.layer_traits.specs.Scheds.{queue_call};
+ghost use Rattle.layer_traits.specs.{declared.payloads.Payload.Payload, Passes.queue_for, Payloads.call_meant, Payloads.sched_meant, Scheds.queue_call};
 
 use event_log::{CpuId, Tid};
 use layer_traits::{Moves, Pass, QueueCall, SchedCall};

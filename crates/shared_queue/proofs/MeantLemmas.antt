@@ -1,14 +1,9 @@
 -- The section of a call that is handed on means that of the call that is meant.
 use Rattle.std.proofs.Common.{◌≡◌, refl, ap, ◌∙◌}
-use Rattle.event_log.specs.declared.ids.CpuId.{CpuId}
-use Rattle.event_log.specs.declared.ids.LockId.{LockId}
-use Rattle.layer_traits.specs.declared.payloads.Payload.{Payload}
-use Rattle.layer_traits.specs.declared.queue_edits.QueueEdit.{QueueEdit}
-use Rattle.layer_traits.specs.declared.queues.QueueCall.{QueueCall}
-use Rattle.layer_traits.specs.declared.queues.QueueCall.TheVariants.{Push, TakeAll, OnBuffer}
-use Rattle.layer_traits.specs.Payloads.{call_meant, queue_meant}
-use Rattle.layer_traits.specs.Protocol.{section}
-use Rattle.layer_traits.specs.Queues.{edit_of, lock_of}
+use Rattle.event_log.specs.declared.ids.{CpuId.CpuId, LockId.LockId}
+use Rattle.layer_traits.specs.{declared.payloads.Payload.Payload, declared.queue_edits.QueueEdit.QueueEdit, Payloads.call_meant, Payloads.queue_meant}
+use Rattle.layer_traits.specs.{Protocol.section, Queues.edit_of, Queues.lock_of}
+use Rattle.layer_traits.specs.declared.queues.QueueCall.{QueueCall, TheVariants.Push, TheVariants.TakeAll, TheVariants.OnBuffer}
 
 module _ {H E : Type 0} (meant : H → Payload → E) (payload : Payload) where
   -- the lock is the same

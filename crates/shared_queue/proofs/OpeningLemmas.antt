@@ -1,20 +1,13 @@
 -- The locks with which shared queues open are distinct, and each opens with its block.
-use Rattle.std.proofs.Common.{◌≡◌, ◌≢◌, ◌≤◌, ◌<◌, ℕ, zero, suc, ◌+◌, Bool, true, false, All, List, [], ◌∷◌, ◌++◌, length, Option, Some, None, IsSome}
-use Rattle.std.proofs.Common.{Result, Ok, Err, IfOk, if◌then◌else◌, refl, ap, sym, ◌∙◌, subst, arith, append-nil, slice_get, ◌==◌}
-use Rattle.std.proofs.lemmas.Bool.{eq-eqb, eqb-false, ne_eqb}
-use Rattle.std.proofs.lemmas.Option.{get_or_from_slice_get, slice_get_within}
-use Rattle.event_log.specs.declared.ids.BufId.{BufId}
-use Rattle.event_log.specs.declared.ids.CpuId.{CpuId}
-use Rattle.event_log.specs.declared.ids.LockId.{LockId}
-use Rattle.event_log.specs.declared.ids.LockId.TheVariants.{Pending, Buffer}
-use Rattle.event_log.specs.declared.ids.TheConstants.{THREADS}
-use Rattle.event_log.specs.History.{same_lock}
+use Rattle.std.proofs.Common.{◌≡◌, ◌≢◌, ◌≤◌, ◌<◌, ℕ, zero, suc, ◌+◌, Bool, true, false, All, List, [], ◌∷◌, ◌++◌, length, Option, Some, None, IsSome, Result}
+use Rattle.std.proofs.Common.{Ok, Err, IfOk, if◌then◌else◌, refl, ap, sym, ◌∙◌, subst, arith, append-nil, slice_get, ◌==◌}
+use Rattle.std.proofs.lemmas.{Bool.eq-eqb, Bool.eqb-false, Bool.ne_eqb, Option.get_or_from_slice_get, Option.slice_get_within}
+use Rattle.event_log.specs.{declared.ids.BufId.BufId, declared.ids.CpuId.CpuId, declared.ids.LockId.LockId, declared.ids.LockId.TheVariants.Pending}
+use Rattle.event_log.specs.{declared.ids.LockId.TheVariants.Buffer, declared.ids.TheConstants.THREADS, History.same_lock}
 use Rattle.event_log.proofs.Same.{same_lock_true}
-use Rattle.layer_traits.specs.declared.queue_edits.QueueBlock.{QueueBlock}
-use Rattle.layer_traits.specs.declared.queue_edits.QueueBlock.TheVariants.{Queue, Above}
-use Rattle.layer_traits.specs.OneLock.{AreDistinct, IsMissing, opened}
-use Rattle.layer_traits.specs.Places.{home_of}
-use Rattle.layer_traits.specs.QueueBlocks.{StartsAs, StartsWell, above_of, homes_in, homes_of, inner}
+use Rattle.layer_traits.specs.declared.queue_edits.QueueBlock.{QueueBlock, TheVariants.Queue, TheVariants.Above}
+use Rattle.layer_traits.specs.{OneLock.AreDistinct, OneLock.IsMissing, OneLock.opened, Places.home_of, QueueBlocks.StartsAs, QueueBlocks.StartsWell}
+use Rattle.layer_traits.specs.{QueueBlocks.above_of, QueueBlocks.homes_in, QueueBlocks.homes_of, QueueBlocks.inner}
 use Rattle.shared_queue.specs.Opening.{AreEmptyQueues, AreQueues, IsEmptyQueue, buffers_from}
 
 each_within : (n : ℕ) (homes : List CpuId) (i : ℕ) (home : CpuId) → All (λ h. h.0 < n) homes → slice_get homes i ≡ Some home → home.0 < n

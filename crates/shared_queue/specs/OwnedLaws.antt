@@ -1,17 +1,8 @@
 -- What is read off a lock's block, a buffer's block or a queue's threads; and who tells of blocks.
 use Rattle.std.specs.Prelude.{List, Option, Some, None}
-use Rattle.event_log.specs.declared.ids.CpuId.{CpuId}
-use Rattle.event_log.specs.declared.ids.LockId.{LockId}
-use Rattle.event_log.specs.declared.ids.Tid.{Tid}
-use Rattle.event_log.specs.History.{IsLawful}
-use Rattle.event_log.specs.Sections.{Section}
-use Rattle.layer_traits.specs.declared.queue_edits.QueueBlock.{QueueBlock}
-use Rattle.layer_traits.specs.declared.queue_edits.QueueBlock.TheVariants.{Queue, Above}
-use Rattle.layer_traits.specs.declared.queue_edits.QueueEdit.{QueueEdit}
-use Rattle.layer_traits.specs.MoveRules.{MoveRules}
-use Rattle.layer_traits.specs.Protocol.{Rules}
-use Rattle.layer_traits.specs.QueueBlocks.{StartsWell}
-use Rattle.layer_traits.specs.QueueRules.{SectionAllowed}
+use Rattle.event_log.specs.{declared.ids.CpuId.CpuId, declared.ids.LockId.LockId, declared.ids.Tid.Tid, History.IsLawful, Sections.Section}
+use Rattle.layer_traits.specs.declared.queue_edits.QueueBlock.{QueueBlock, TheVariants.Queue, TheVariants.Above}
+use Rattle.layer_traits.specs.{declared.queue_edits.QueueEdit.QueueEdit, MoveRules.MoveRules, Protocol.Rules, QueueBlocks.StartsWell, QueueRules.SectionAllowed}
 
 -- the block of the layer above, where it is one
 abbrev pub above_in : {B : Type 0} → QueueBlock B → Option B

@@ -1,20 +1,13 @@
 -- The blocks of a machine at boot: nobody sleeps, and each buffer is there.
 use Rattle.std.proofs.Common.{◌≡◌, List, [], Option, Some, None, IsSome, Result, Ok, Err, IfOk, map, option_map, refl, ap, ◌∙◌, slice_get}
-use Rattle.event_log.specs.declared.ids.CpuId.{CpuId}
-use Rattle.event_log.specs.declared.ids.BufId.{BufId}
-use Rattle.event_log.specs.declared.ids.LockId.{LockId}
-use Rattle.event_log.specs.declared.ids.LockId.TheVariants.{Pending, Buffer}
-use Rattle.layer_traits.specs.declared.moves.WaitList.{WaitList}
-use Rattle.layer_traits.specs.declared.moves.WaitList.TheVariants.{Sleepers, Receivers, Senders}
-use Rattle.layer_traits.specs.declared.queue_edits.QueueBlock.{QueueBlock}
-use Rattle.layer_traits.specs.declared.queue_edits.QueueBlock.TheVariants as block
-use Rattle.layer_traits.specs.QueueBlocks.{StartsAs, StartsWell, above_of, inner}
-use Rattle.layer_traits.specs.Renaming.{viewed}
-use Rattle.layer_traits.specs.Sleeping.{NobodySleeps, wait_list_at}
+use Rattle.event_log.specs.declared.ids.{CpuId.CpuId, BufId.BufId, LockId.LockId, LockId.TheVariants.Pending, LockId.TheVariants.Buffer}
+use Rattle.layer_traits.specs.{declared.moves.WaitList.WaitList, declared.moves.WaitList.TheVariants.Sleepers, declared.moves.WaitList.TheVariants.Receivers}
+use Rattle.layer_traits.specs.{declared.moves.WaitList.TheVariants.Senders, declared.queue_edits.QueueBlock.QueueBlock, QueueBlocks.StartsAs}
+use Rattle.layer_traits.specs.{QueueBlocks.StartsWell, QueueBlocks.above_of, QueueBlocks.inner, Renaming.viewed, Sleeping.NobodySleeps, Sleeping.wait_list_at}
 use Rattle.layer_traits.proofs.KernelRenaming.{inner_viewed}
 use Rattle.std.proofs.lemmas.Option.{slice_get-map}
-use Rattle.sleep_wakeup.specs.declared.edits.SleepBlock.{SleepBlock}
-use Rattle.sleep_wakeup.specs.Nested.{resting, state_of}
+use Rattle.sleep_wakeup.specs.{declared.edits.SleepBlock.SleepBlock, Nested.resting, Nested.state_of}
+use Rattle.layer_traits.specs.declared.queue_edits.QueueBlock.TheVariants as block
 
 -- what follows from what an Ok value is
 pub if_ok : {A E : Type 0} (r : Result A E) (P Q : A → Type 0) → IfOk r P → ((x : A) → P x → Q x) → IfOk r Q

@@ -1,41 +1,25 @@
 -- One poll of a part: what it owes the scheduler, and what the scheduler's poll is here.
 use Rattle.std.proofs.Common.{◌≡◌, Bool, true, false, List, Option, Some, None, option_map, if◌then◌else◌, map, refl, ap, sym, ◌∙◌, subst}
-use Rattle.event_log.specs.declared.ids.BufId.{BufId}
-use Rattle.event_log.specs.declared.ids.CpuId.{CpuId}
-use Rattle.event_log.specs.declared.ids.LockId.{LockId}
-use Rattle.event_log.specs.declared.ids.Tid.{Tid}
-use Rattle.event_log.specs.History.{IsLawful}
-use Rattle.event_log.specs.Actions.{Action, renamed}
-use Rattle.layer_traits.specs.declared.passes.Pass.{Pass}
-use Rattle.layer_traits.specs.declared.payloads.Parcel.{Parcel}
-use Rattle.layer_traits.specs.declared.payloads.Payload.{Payload}
-use Rattle.layer_traits.specs.declared.queue_edits.QueueBlock.{QueueBlock}
-use Rattle.layer_traits.specs.declared.queue_edits.QueueEdit.{QueueEdit}
-use Rattle.layer_traits.specs.declared.queues.QueueEvent.{QueueEvent}
-use Rattle.layer_traits.specs.declared.scheds.SchedAnswer.{SchedAnswer}
-use Rattle.layer_traits.specs.declared.scheds.SchedAnswer.TheVariants.{Done, Answer}
-use Rattle.layer_traits.specs.declared.scheds.SchedCall.{SchedCall}
+use Rattle.event_log.specs.{declared.ids.BufId.BufId, declared.ids.CpuId.CpuId, declared.ids.LockId.LockId, declared.ids.Tid.Tid, History.IsLawful}
+use Rattle.event_log.specs.{Actions.Action, Actions.renamed}
+use Rattle.layer_traits.specs.{declared.passes.Pass.Pass, declared.payloads.Parcel.Parcel, declared.payloads.Payload.Payload}
+use Rattle.layer_traits.specs.{declared.queue_edits.QueueBlock.QueueBlock, declared.queue_edits.QueueEdit.QueueEdit, declared.queues.QueueEvent.QueueEvent}
+use Rattle.layer_traits.specs.{declared.scheds.SchedAnswer.SchedAnswer, declared.scheds.SchedAnswer.TheVariants.Done}
+use Rattle.layer_traits.specs.{declared.scheds.SchedAnswer.TheVariants.Answer, declared.scheds.SchedCall.SchedCall, declared.sleeps.Outcome.Outcome}
+use Rattle.layer_traits.specs.{Payloads.outcome_told, Payloads.sched_told, Payloads.told_by, Places.Stands, Places.Threads, Plans.Follows, Plans.Left}
+use Rattle.layer_traits.specs.{Plans.table_of, QueueBlocks.StartsWell, QueueBlocks.homes_in, QueueBlocks.inner, QueueRules.queue_rules, Queues.QueueAllowed}
+use Rattle.layer_traits.specs.{Queues.moves_in, Renaming.renamed_edit, Renaming.renamed_events, Renaming.renamed_sched, Renaming.viewed, Scheds.MaySched}
+use Rattle.layer_traits.specs.{Scheds.SchedPolled, Scheds.left, Scheds.sched_plan, SleepLaw.MayCall, SleepLaw.MaySleep, SleepLaw.SleepPolled, SleepLaw.Sleeping}
+use Rattle.layer_traits.specs.{SleepLaw.done_if, SleepLaw.due, SleepLaw.left_passed, SleepLaw.left_reported, SleepLaw.pass_plan, SleepLaw.sleep_plan}
+use Rattle.layer_traits.specs.{Sleeping.NobodySleeps, Sleeping.SleepRules, Sleeping.wait_list_at, Sleeping.sleep_moves, Sleeping.sleep_rules}
+use Rattle.layer_traits.proofs.{CallLemmas.follows_raised, KernelRenaming.follows_named, KernelRenaming.homes_viewed, KernelRenaming.inner_viewed}
+use Rattle.layer_traits.proofs.{KernelRenaming.plan_renamed, KernelRenaming.polled_renamed, SleepLemmas.HandDefers, SleepLemmas.sleep_polled}
+use Rattle.sleep_wakeup.specs.{declared.edits.SleepBlock.SleepBlock, declared.edits.SleepEdit.SleepEdit, declared.deferred.DeferredOutcome.DeferredOutcome}
+use Rattle.sleep_wakeup.specs.{Laws.NestedLaws.beneath, Laws.NestedLaws.here, Laws.NestedLaws.nested_stays, Laws.NestedLaws.nested_wraps, Nested.edit_in}
+use Rattle.sleep_wakeup.specs.{Nested.nested_moves, Nested.nested_rules, Nested.nested_told, Nested.state_of, Nested.states, Parts.Deferred, Parts.DeferredFits}
+use Rattle.sleep_wakeup.specs.{Parts.answer_reported, Parts.as_edit, Parts.deferred_of_answer, Parts.deferred_told, Parts.done_of, Parts.parcel_reported}
+use Rattle.sleep_wakeup.specs.{Parts.must_wait, Parts.outcome_in, Parts.own_of, Parts.under_of}
 use Rattle.layer_traits.specs.declared.scheds.SchedCall.TheVariants as call
-use Rattle.layer_traits.specs.declared.sleeps.Outcome.{Outcome}
-use Rattle.layer_traits.specs.Payloads.{outcome_told, sched_told, told_by}
-use Rattle.layer_traits.specs.Places.{Stands, Threads}
-use Rattle.layer_traits.specs.Plans.{Follows, Left, table_of}
-use Rattle.layer_traits.specs.QueueBlocks.{StartsWell, homes_in, inner}
-use Rattle.layer_traits.specs.QueueRules.{queue_rules}
-use Rattle.layer_traits.specs.Queues.{QueueAllowed, moves_in}
-use Rattle.layer_traits.specs.Renaming.{renamed_edit, renamed_events, renamed_sched, viewed}
-use Rattle.layer_traits.specs.Scheds.{MaySched, SchedPolled, left, sched_plan}
-use Rattle.layer_traits.specs.SleepLaw.{MayCall, MaySleep, SleepPolled, Sleeping, done_if, due, left_passed, left_reported, pass_plan, sleep_plan}
-use Rattle.layer_traits.specs.Sleeping.{NobodySleeps, SleepRules, wait_list_at, sleep_moves, sleep_rules}
-use Rattle.layer_traits.proofs.CallLemmas.{follows_raised}
-use Rattle.layer_traits.proofs.KernelRenaming.{follows_named, homes_viewed, inner_viewed, plan_renamed, polled_renamed}
-use Rattle.layer_traits.proofs.SleepLemmas.{HandDefers, sleep_polled}
-use Rattle.sleep_wakeup.specs.declared.edits.SleepBlock.{SleepBlock}
-use Rattle.sleep_wakeup.specs.declared.edits.SleepEdit.{SleepEdit}
-use Rattle.sleep_wakeup.specs.declared.deferred.DeferredOutcome.{DeferredOutcome}
-use Rattle.sleep_wakeup.specs.Laws.NestedLaws.{beneath, here, nested_stays, nested_wraps}
-use Rattle.sleep_wakeup.specs.Nested.{edit_in, nested_moves, nested_rules, nested_told, state_of, states}
-use Rattle.sleep_wakeup.specs.Parts.{Deferred, DeferredFits, answer_reported, as_edit, deferred_of_answer, deferred_told, done_of, parcel_reported, must_wait, outcome_in, own_of, under_of}
 
 -- where nobody sleeps at the opening here, nobody does beneath
 pub nobody_beneath : {B : Type 0} (opening : LockId → Option (QueueBlock (SleepBlock B))) → NobodySleeps (inner (viewed state_of opening))

@@ -1,21 +1,11 @@
 -- A part of the layer: the call under way, its own state, and what the scheduler's answer leaves.
 use Rattle.std.specs.Prelude.{◌≡◌, Bool, not, ◌&&◌, Option, Some, None, is_some, option_map, if◌then◌else◌}
-use Rattle.event_log.specs.declared.ids.BufId.{BufId}
-use Rattle.event_log.specs.declared.ids.Tid.{Tid}
-use Rattle.layer_traits.specs.declared.passes.Pass.TheVariants.{MakeReady}
-use Rattle.layer_traits.specs.declared.payloads.Parcel.{Parcel}
-use Rattle.layer_traits.specs.declared.scheds.SchedAnswer.{SchedAnswer}
-use Rattle.layer_traits.specs.declared.scheds.SchedAnswer.TheVariants.{Done, Answer}
-use Rattle.layer_traits.specs.declared.scheds.SchedCall.{SchedCall}
+use Rattle.event_log.specs.declared.ids.{BufId.BufId, Tid.Tid}
+use Rattle.layer_traits.specs.{declared.passes.Pass.TheVariants.MakeReady, declared.payloads.Parcel.Parcel, declared.scheds.SchedCall.SchedCall}
+use Rattle.layer_traits.specs.{declared.sleeps.Outcome.Outcome, Payloads.outcome_told, Places.Threads, Renaming.renamed_sched, SleepLaw.Sleeping}
+use Rattle.layer_traits.specs.declared.scheds.SchedAnswer.{SchedAnswer, TheVariants.Done, TheVariants.Answer}
+use Rattle.sleep_wakeup.specs.{declared.edits.SleepEdit.SleepEdit, declared.deferred.DeferredOutcome.DeferredOutcome, Nested.edit_in}
 use Rattle.layer_traits.specs.declared.scheds.SchedCall.TheVariants as call
-use Rattle.layer_traits.specs.declared.sleeps.Outcome.{Outcome}
-use Rattle.layer_traits.specs.Payloads.{outcome_told}
-use Rattle.layer_traits.specs.Places.{Threads}
-use Rattle.layer_traits.specs.Renaming.{renamed_sched}
-use Rattle.layer_traits.specs.SleepLaw.{Sleeping}
-use Rattle.sleep_wakeup.specs.declared.edits.SleepEdit.{SleepEdit}
-use Rattle.sleep_wakeup.specs.declared.deferred.DeferredOutcome.{DeferredOutcome}
-use Rattle.sleep_wakeup.specs.Nested.{edit_in}
 
 -- an edit of the layer above as an edit here
 abbrev pub as_edit : {E : Type 0} → E → SleepEdit E

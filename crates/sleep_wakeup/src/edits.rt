@@ -2,9 +2,8 @@
 
 ghost use Rattle.std.specs.Prelude.{◌≡◌};
 ghost use Rattle.layer_traits.specs.declared.moves.WaitList.TheVariants.{Sleepers, Receivers, Senders};
-ghost use Rattle.layer_traits.specs.Owned.{wait_list_with};
+ghost use Rattle.layer_traits.specs.{Owned.wait_list_with, Sleeping.joined, Sleeping.left, Sleeping.wait_list_joined, Sleeping.woken};
 ghost use Rattle.sleep_wakeup.specs.Nested.{state_of};
-ghost use Rattle.layer_traits.specs.Sleeping.{joined, left, wait_list_joined, woken};
 
 use event_log::{THREADS, Tid};
 use layer_traits::{Edit, Moves, Outcome, Payload, Sleeps, SplitEdit, WaitList, Wake, WholeSleeps};
@@ -166,8 +165,7 @@ impl<E: Sleeps> SplitEdit for SleepEdit<E> {
 }
 
 impl<E: Sleeps> Moves for SleepEdit<E> {
-    ghost use Rattle.sleep_wakeup.specs.Laws.NestedLaws.{nested_wakes};
-    ghost use Rattle.sleep_wakeup.specs.Nested.{nested_moves};
+    ghost use Rattle.sleep_wakeup.specs.{Laws.NestedLaws.nested_wakes, Nested.nested_moves};
 
     ghost moves = { nested_moves E.rules };
 

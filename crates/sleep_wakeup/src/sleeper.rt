@@ -21,13 +21,10 @@ impl<E: Sleeps, S: Layer<SchedLaw<SleepEdit<E>>>> ThreadLayer<SleepLaw<E>> for S
     ghost use Rattle.std.proofs.Common.{map, option_map, ap, ◌∙◌};
     ghost use Rattle.event_log.specs.Actions.{renamed};
     ghost use Rattle.event_log.proofs.Renaming.{legal_renamed};
-    ghost use Rattle.layer_traits.specs.QueueBlocks.{inner};
-    ghost use Rattle.layer_traits.specs.Renaming.{renamed_edit, renamed_events, viewed};
+    ghost use Rattle.layer_traits.specs.{QueueBlocks.inner, Renaming.renamed_edit, Renaming.renamed_events, Renaming.viewed, Sleeping.NobodySleeps};
     ghost use Rattle.layer_traits.proofs.KernelRenaming.{known_renamed, proper_renamed, seen_renamed, starts_viewed};
-    ghost use Rattle.layer_traits.specs.Sleeping.{NobodySleeps};
     ghost use Rattle.sleep_wakeup.specs.Laws.NestedLaws.{nested_busy, nested_idle, nested_lawful, nested_lists, nested_moves_legal, nested_stands};
-    ghost use Rattle.sleep_wakeup.specs.Nested.{edit_in, state_of, states};
-    ghost use Rattle.sleep_wakeup.specs.Parts.{DeferredFits, deferred_told, own_of, under_of};
+    ghost use Rattle.sleep_wakeup.specs.{Nested.edit_in, Nested.state_of, Nested.states, Parts.DeferredFits, Parts.deferred_told, Parts.own_of, Parts.under_of};
 
     type Machine = S::Machine;
 
@@ -163,10 +160,8 @@ impl<E: Sleeps, S: OwnedLayer<SchedLaw<SleepEdit<E>>>> OwnedThreadLayer<SleepLaw
     for Sleeper<E, S> {
     ghost use Rattle.std.specs.Prelude.{option_map};
     ghost use Rattle.event_log.specs.declared.ids.LockId.TheVariants.{Buffer, Pending};
-    ghost use Rattle.layer_traits.proofs.KernelRenaming.{there_viewed};
-    ghost use Rattle.layer_traits.proofs.OwnedLemmas.{parts_on};
-    ghost use Rattle.sleep_wakeup.specs.Laws.OwnedLaws.{nested_queues, nested_shown};
-    ghost use Rattle.sleep_wakeup.specs.Nested.{state_of};
+    ghost use Rattle.layer_traits.proofs.{KernelRenaming.there_viewed, OwnedLemmas.parts_on};
+    ghost use Rattle.sleep_wakeup.specs.{Laws.OwnedLaws.nested_queues, Laws.OwnedLaws.nested_shown, Nested.state_of};
 
     ghost block_at = { λ m b. option_map state_of (S.block_at m b) };
 

@@ -1,25 +1,16 @@
 -- What one event of a machine is at the line: an action, put after foreign ones, by a CPU whose ticket tells its spot.
 use Rattle.std.proofs.Common.{◌≡◌, ℕ, ◌%◌, ◌^◌, false, List, [], ◌∷◌, ◌++◌, Option, Some, None, MatchOption, map, refl, ap, sym, subst, ◌∙◌, if◌then◌else◌}
 use Rattle.std.proofs.lemmas.List.{map-append}
-use Rattle.event_log.specs.declared.ids.CpuId.{CpuId}
-use Rattle.event_log.specs.declared.ids.LockId.{LockId}
-use Rattle.event_log.specs.declared.events.Event.{Event}
-use Rattle.event_log.specs.declared.events.Event.TheVariants.{Draw}
-use Rattle.event_log.specs.declared.grants.GrantEvent.{GrantEvent}
-use Rattle.event_log.specs.declared.grants.GrantEvent.TheVariants.{Take, Peek, Give}
-use Rattle.event_log.specs.Actions.{Waits, Holds, cpu_of_action, phase, spot_of, act_of, acts_of}
-use Rattle.event_log.specs.Grants.{IsLegalGrants, cpu_of_grant, grant_lock_phase, act_of_grant, acts_of_grants}
-use Rattle.event_log.specs.History.{Adds, AreOthers, same_cpu}
-use Rattle.event_log.specs.Sections.{block_after, sections_in}
-use Rattle.event_log.specs.WordsLog.{IsLegalWords, Waiting, Holding, cpu_of_event, lock_phase}
-use Rattle.event_log.proofs.GrantWords.{grant_ticket_at, phase_grants}
-use Rattle.event_log.proofs.Same.{same_cpu_self}
-use Rattle.event_log.proofs.Tickets.{cpu_of_action_is, phase_acts, ticket_at}
-use Rattle.event_log.proofs.Observed.{TicketOf, phase_of}
-use Rattle.layer_traits.proofs.OneLockLemmas.{lock_phase_own}
-use Rattle.layer_traits.proofs.PlanLemmas.{sections_acts}
-use Rattle.layer_traits.specs.declared.edits.Mark.{Mark}
-use Rattle.layer_traits.specs.WordsProtocol.{edit_of, sections}
+use Rattle.event_log.specs.{declared.ids.CpuId.CpuId, declared.ids.LockId.LockId, declared.events.Event.Event, declared.events.Event.TheVariants.Draw}
+use Rattle.event_log.specs.{declared.grants.GrantEvent.GrantEvent, declared.grants.GrantEvent.TheVariants.Take, declared.grants.GrantEvent.TheVariants.Peek}
+use Rattle.event_log.specs.{declared.grants.GrantEvent.TheVariants.Give, Actions.Waits, Actions.Holds, Actions.cpu_of_action, Actions.phase, Actions.spot_of}
+use Rattle.event_log.specs.{Actions.act_of, Actions.acts_of, Grants.IsLegalGrants, Grants.cpu_of_grant, Grants.grant_lock_phase, Grants.act_of_grant}
+use Rattle.event_log.specs.{Grants.acts_of_grants, History.Adds, History.AreOthers, History.same_cpu, Sections.block_after, Sections.sections_in}
+use Rattle.event_log.specs.{WordsLog.IsLegalWords, WordsLog.Waiting, WordsLog.Holding, WordsLog.cpu_of_event, WordsLog.lock_phase}
+use Rattle.event_log.proofs.{GrantWords.grant_ticket_at, GrantWords.phase_grants, Same.same_cpu_self, Tickets.cpu_of_action_is, Tickets.phase_acts}
+use Rattle.event_log.proofs.{Tickets.ticket_at, Observed.TicketOf, Observed.phase_of}
+use Rattle.layer_traits.proofs.{OneLockLemmas.lock_phase_own, PlanLemmas.sections_acts}
+use Rattle.layer_traits.specs.{declared.edits.Mark.Mark, WordsProtocol.edit_of, WordsProtocol.sections}
 use Rattle.spinlock.specs.Laws.LineLaws.{line_waiting_with}
 
 others_mapped : {X Y : Type 0} (f : X → Y) (by : X → CpuId) (reported_by : Y → CpuId) → ((e : X) → reported_by (f e) ≡ by e) → (c : CpuId) (others : List X)

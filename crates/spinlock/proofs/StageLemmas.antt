@@ -1,22 +1,16 @@
 -- What one action at the locks does to the stages of sections and to the history of sections.
-use Rattle.std.proofs.Common.{◌≡◌, ◌≢◌, ℕ, ◌%◌, ◌^◌, Bool, true, false, List, [], ◌∷◌, ◌++◌, Option, Some, None, IsSome, MatchOption, option_map}
-use Rattle.std.proofs.Common.{refl, ap, sym, ◌∙◌, subst, if◌then◌else◌}
-use Rattle.event_log.specs.declared.ids.CpuId.{CpuId}
-use Rattle.event_log.specs.declared.ids.LockId.{LockId}
+use Rattle.std.proofs.Common.{◌≡◌, ◌≢◌, ℕ, ◌%◌, ◌^◌, Bool, true, false, List, [], ◌∷◌, ◌++◌, Option, Some, None, IsSome, MatchOption, option_map, refl, ap, sym}
+use Rattle.std.proofs.Common.{◌∙◌, subst, if◌then◌else◌}
+use Rattle.event_log.specs.{declared.ids.CpuId.CpuId, declared.ids.LockId.LockId, History.Adds, History.Grows, History.AreOthers, History.same_cpu}
+use Rattle.event_log.specs.{History.same_lock, Sections.cpu_of_section, Sections.block_after, Sections.sections_in}
 use Rattle.event_log.specs.Actions.{Action, Take, Try, Give, Rests, Waits, Holds, AreLegal, action_in, cpu_of_action, phase, spot_of}
-use Rattle.event_log.specs.History.{Adds, Grows, AreOthers, same_cpu, same_lock}
-use Rattle.event_log.specs.Sections.{cpu_of_section, block_after, sections_in}
-use Rattle.event_log.proofs.Exclusion.{one_holds, phase_own}
-use Rattle.event_log.proofs.Foreign.{phase_others, spot_others, sections_in-append, others_sections_in}
-use Rattle.event_log.proofs.Same.{same_cpu_self, same_cpu_true, same_lock_true}
+use Rattle.event_log.proofs.{Exclusion.one_holds, Exclusion.phase_own, Foreign.phase_others, Foreign.spot_others, Foreign.sections_in-append}
+use Rattle.event_log.proofs.{Foreign.others_sections_in, Same.same_cpu_self, Same.same_cpu_true, Same.same_lock_true}
 use Rattle.layer_traits.proofs.Seen.{stays_on}
-use Rattle.layer_traits.specs.Looks.{Tries}
-use Rattle.layer_traits.specs.Plans.{Follows, table_of, at_give, section_plan, answered, is_in_section}
-use Rattle.layer_traits.specs.Protocol.{Rules, StaysAllowed, section}
-use Rattle.layer_traits.specs.Polls.{Polled}
-use Rattle.spinlock.specs.declared.stages.TicketPhase.{TicketPhase}
-use Rattle.spinlock.specs.declared.stages.TicketPhase.TheVariants.{Out, Waiting, Holding}
-use Rattle.spinlock.specs.Stages.{StageFits, hit_by}
+use Rattle.layer_traits.specs.{Looks.Tries, Plans.Follows, Plans.table_of, Plans.at_give, Plans.section_plan, Plans.answered, Plans.is_in_section}
+use Rattle.layer_traits.specs.{Protocol.Rules, Protocol.StaysAllowed, Protocol.section, Polls.Polled}
+use Rattle.spinlock.specs.{declared.stages.TicketPhase.TicketPhase, declared.stages.TicketPhase.TheVariants.Out}
+use Rattle.spinlock.specs.{declared.stages.TicketPhase.TheVariants.Waiting, declared.stages.TicketPhase.TheVariants.Holding, Stages.StageFits, Stages.hit_by}
 
 cpu_differs : (a b : CpuId) → b ≢ a → same_cpu a b ≡ false
 cpu_differs a b other = go (same_cpu a b) refl

@@ -1,8 +1,6 @@
 -- Who holds a lock.
 use Rattle.std.specs.Prelude.{◌≡◌, List}
-use Rattle.event_log.specs.declared.ids.CpuId.{CpuId}
-use Rattle.event_log.specs.declared.ids.LockId.{LockId}
-use Rattle.event_log.specs.Actions.{Action, Holds, phase}
+use Rattle.event_log.specs.{declared.ids.CpuId.CpuId, declared.ids.LockId.LockId, Actions.Action, Actions.Holds, Actions.phase}
 
 -- some CPU holds this lock
 abbrev pub SomeoneHolds : {N : Type 0} → LockId → List (Action N) → Type 0

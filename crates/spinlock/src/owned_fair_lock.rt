@@ -12,10 +12,8 @@ use std::alloc::Global;
 /// A machine at whose locks CPUs stand in line, that is opened with its blocks and tells of those
 /// that are at home.
 pub trait OwnedFairLock<LockProtocol>: FairLock<LockProtocol> {
-    ghost use Rattle.event_log.specs.declared.ids.CpuId.{CpuId};
-    ghost use Rattle.event_log.specs.declared.ids.LockId.{LockId};
-    ghost use Rattle.event_log.specs.declared.ids.TheConstants.{CPUS};
-    ghost use Rattle.event_log.specs.Sections.{block_after, sections_in};
+    ghost use Rattle.event_log.specs.{declared.ids.CpuId.CpuId, declared.ids.LockId.LockId, declared.ids.TheConstants.CPUS, Sections.block_after};
+    ghost use Rattle.event_log.specs.{Sections.sections_in};
     ghost use Rattle.layer_traits.specs.OneLock.{AreDistinct, opened};
     ghost use Rattle.spinlock.specs.OwnedLaws.{SomeoneHolds};
 

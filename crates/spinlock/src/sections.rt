@@ -1,12 +1,8 @@
 //! A whole section at once, where no CPU has a ticket.
 
 ghost use Rattle.std.specs.Prelude.{◌≡◌, ◌≢◌, ◌+◌, ◌<◌, ◌≤◌, ◌∷◌, true, IsSome, OnSome, is_some, if◌then◌else◌};
-ghost use Rattle.event_log.specs.declared.ids.CpuId.{CpuId};
-ghost use Rattle.event_log.specs.Actions.{Take, Try, Give, Rests, phase, next_action};
-ghost use Rattle.layer_traits.specs.Payloads.{told_by};
-ghost use Rattle.layer_traits.specs.Plans.{table_of, reply};
-ghost use Rattle.layer_traits.specs.Protocol.{section, StaysAllowed};
-ghost use Rattle.layer_traits.specs.Polls.{MayPoll, Answers};
+ghost use Rattle.event_log.specs.{declared.ids.CpuId.CpuId, Actions.Take, Actions.Try, Actions.Give, Actions.Rests, Actions.phase, Actions.next_action};
+ghost use Rattle.layer_traits.specs.{Payloads.told_by, Plans.table_of, Plans.reply, Protocol.section, Protocol.StaysAllowed, Polls.MayPoll, Polls.Answers};
 
 use event_log::{CPUS, LockId};
 use layer_traits::{Edit, LockCall, LockLayer, Payload};

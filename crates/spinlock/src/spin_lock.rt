@@ -34,13 +34,11 @@ pub type Grant<W> = SpinLock<W, UsesGrants>;
 
 impl<M: FairLock<LockProtocol>, LockProtocol> Layer<LockLaw<M::Edit>>
     for SpinLock<M, LockProtocol> {
-    ghost use Rattle.event_log.specs.Actions.{phase};
-    ghost use Rattle.event_log.specs.Sections.{sections_in};
+    ghost use Rattle.event_log.specs.{Actions.phase, Sections.sections_in};
     ghost use Rattle.layer_traits.specs.Plans.{is_in_section};
-    ghost use Rattle.spinlock.specs.Stages.{stage_section, StageFits};
+    ghost use Rattle.spinlock.specs.{Stages.stage_section, Stages.StageFits, Laws.StageLaws.sections_known, Laws.StageLaws.stage_busy};
     ghost use Rattle.std.specs.Prelude.{is_some, refl, true};
     ghost use Rattle.std.proofs.Common.{ap};
-    ghost use Rattle.spinlock.specs.Laws.StageLaws.{sections_known, stage_busy};
 
     type Machine = M;
 
@@ -175,8 +173,7 @@ impl<M: OwnedFairLock<LockProtocol>, LockProtocol> OwnedLocks<M::Edit>
     ghost use Rattle.std.specs.Prelude.{◌<◌, [], IfOk};
     ghost use Rattle.event_log.specs.declared.ids.TheConstants.{CPUS};
     ghost use Rattle.layer_traits.specs.OneLock.{AreDistinct, opened};
-    ghost use Rattle.spinlock.specs.Laws.OwnedLaws.{spin_lock_shows};
-    ghost use Rattle.spinlock.specs.Stages.{held_block};
+    ghost use Rattle.spinlock.specs.{Laws.OwnedLaws.spin_lock_shows, Stages.held_block};
 
     ghost block_at = { λ m lock. M.block_at m lock };
 

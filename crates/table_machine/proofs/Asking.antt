@@ -1,30 +1,16 @@
 -- What the steps of a key ask of the table, and what they tell.
 use Rattle.std.proofs.Common.{◌≡◌, ℕ, ◌+◌, ◌<◌, ◌%◌, ◌^◌, List, [], ◌∷◌, ◌++◌, IsSome, refl, ap, sym, ◌∙◌, subst, arith, length}
-use mathlib.Core.Option.{none}
-use Rattle.atomic_table.specs.Seated.{TableId}
-use Rattle.atomic_table.specs.Table.{Me, step, Allows}
-use Rattle.event_log.specs.declared.ids.CpuId.{CpuId}
-use Rattle.event_log.specs.declared.ids.LockId.{LockId}
-use Rattle.event_log.specs.declared.events.Event.{Event}
-use Rattle.event_log.specs.declared.events.Event.TheVariants.{Draw}
-use Rattle.event_log.specs.History.{Adds, Grows, IsLawful}
-use Rattle.event_log.specs.WordsLog.{cpu_of_event, lock_phase, LockPhase, Idle, Waiting, Holding}
-use Rattle.layer_traits.specs.declared.edits.Mark.{Mark}
-use Rattle.layer_traits.specs.Protocol.{Rules}
-use Rattle.layer_traits.specs.WordsProtocol.{MayCome}
-use Rattle.layer_traits.specs.OneLock.{opened}
-use Rattle.table_machine.specs.declared.views.Home.{Home}
-use Rattle.table_machine.specs.declared.views.View.{View}
-use Rattle.table_machine.specs.Kinds.{WordKind, IsWordKind}
-use Rattle.table_machine.specs.Layout.{rank_of, word_at, word_count}
-use Rattle.table_machine.specs.Views.{mine, owner, IsCpu}
-use Rattle.table_machine.specs.Rule.{TableInv}
-use Rattle.table_machine.specs.Plays.{Moves, Drew}
-use Rattle.table_machine.specs.SeatViews.{TableView, SeatView, IsOf, Carries, IsKey, Remembers}
+use Rattle.atomic_table.specs.{Seated.TableId, Table.Me, Table.step, Table.Allows}
+use Rattle.event_log.specs.{declared.ids.CpuId.CpuId, declared.ids.LockId.LockId, declared.events.Event.Event, declared.events.Event.TheVariants.Draw}
+use Rattle.event_log.specs.{History.Adds, History.Grows, History.IsLawful, WordsLog.cpu_of_event, WordsLog.lock_phase, WordsLog.LockPhase, WordsLog.Idle}
+use Rattle.event_log.specs.{WordsLog.Waiting, WordsLog.Holding}
+use Rattle.layer_traits.specs.{declared.edits.Mark.Mark, Protocol.Rules, WordsProtocol.MayCome, OneLock.opened}
+use Rattle.table_machine.specs.{declared.views.Home.Home, declared.views.View.View, Kinds.WordKind, Kinds.IsWordKind, Layout.rank_of, Layout.word_at}
+use Rattle.table_machine.specs.{Layout.word_count, Views.mine, Views.owner, Views.IsCpu, Rule.TableInv, Plays.Moves, Plays.Drew, SeatViews.TableView}
+use Rattle.table_machine.specs.{SeatViews.SeatView, SeatViews.IsOf, SeatViews.Carries, SeatViews.IsKey, SeatViews.Remembers}
 use Rattle.layer_traits.proofs.OneLockLemmas.{lock_phase_own}
-use Rattle.table_machine.proofs.Finding.{rank_same}
-use Rattle.table_machine.proofs.Showing.{next_reads, within_table}
-use Rattle.table_machine.proofs.Stepping.{draws_allowed}
+use Rattle.table_machine.proofs.{Finding.rank_same, Showing.next_reads, Showing.within_table, Stepping.draws_allowed}
+use mathlib.Core.Option.{none}
 
 abbrev pub seat_view_of : {E B : Type 0} → CpuId → TableId → Me (Home E B) (View E B) → SeatView E B
 seat_view_of cpu table me = record { cpu = cpu; table = table; start = me.0.start; seen = me.0.seen }

@@ -1,40 +1,22 @@
 -- What is known once all keys are back.
-use Rattle.std.proofs.Common.{◌≡◌, ℕ, ◌<◌, ◌≤◌, inl, inr, ⊎_elim, List, [], ◌∷◌, ◌++◌, length, map, slice_get, Some, IsSome}
-use Rattle.std.proofs.Common.{is_some, if◌then◌else◌}
-use Rattle.std.proofs.Common.{refl, ap, sym, ◌∙◌, subst, append_assoc, lt_of_not-le}
+use Rattle.std.proofs.Common.{◌≡◌, ℕ, ◌<◌, ◌≤◌, inl, inr, ⊎_elim, List, [], ◌∷◌, ◌++◌, length, map, slice_get, Some, IsSome, is_some, if◌then◌else◌, refl, ap}
+use Rattle.std.proofs.Common.{sym, ◌∙◌, subst, append_assoc, lt_of_not-le}
+use Rattle.atomic_table.specs.{Seated.TableId, Table.Step, Table.Me, Table.step, Table.Final, Table.Seen}
+use Rattle.atomic_table.proofs.Lists.{at_map}
+use Rattle.event_log.specs.{declared.ids.CpuId.CpuId, declared.ids.LockId.LockId, declared.events.Event.Event, History.AreOthers, History.IsLawful}
+use Rattle.event_log.specs.{History.own_events, WordsLog.cpu_of_event, WordsLog.lock_phase, WordsLog.left_by, WordsLog.Idle, Sections.block_after}
+use Rattle.layer_traits.specs.{declared.edits.Mark.Mark, Protocol.Rules, WordsProtocol.MayCome, WordsProtocol.sections, OneLock.HomeFits, OneLock.NobodyInside}
+use Rattle.layer_traits.specs.{OneLock.opened, OneLock.AreDistinct}
+use Rattle.table_machine.specs.{declared.views.Home.Home, declared.views.View.View, Kinds.WordKind, Views.viewed, Views.Has, Views.IsSince, Rule.home_block}
+use Rattle.table_machine.specs.{Rule.TableInv, Plays.Met, SeatViews.TableView, SeatViews.SeatView, SeatViews.IsKey, SeatViews.Carries, SeatViews.Gathered}
+use Rattle.table_machine.specs.{SeatViews.Covers, SeatViews.IsIn, SeatViews.Closes}
+use Rattle.layer_traits.proofs.OneLockLemmas.{all_home}
+use Rattle.table_machine.proofs.{Elements.got, Elements.there_for, Logs.lock_phase_since, Logs.own_since, Finding.rank_at, Seeing.at_end, Showing.home_of}
+use Rattle.table_machine.proofs.{Asking.seat_view_of, Asking.table_view_of, Meeting.joined}
+use Rattle.event_log.proofs.{Foreign.others_both, Foreign.own_none, ListLemmas.there_is}
 use mathlib.Core.Option.{none, some}
 use native.Mathlib.Decide.{dec_le}
 use lib.ListN.{get_elem?, length-map}
-use Rattle.atomic_table.specs.Seated.{TableId}
-use Rattle.atomic_table.specs.Table.{Step, Me, step, Final, Seen}
-use Rattle.atomic_table.proofs.Lists.{at_map}
-use Rattle.event_log.specs.declared.ids.CpuId.{CpuId}
-use Rattle.event_log.specs.declared.ids.LockId.{LockId}
-use Rattle.event_log.specs.declared.events.Event.{Event}
-use Rattle.event_log.specs.History.{AreOthers, IsLawful, own_events}
-use Rattle.event_log.specs.WordsLog.{cpu_of_event, lock_phase, left_by, Idle}
-use Rattle.event_log.specs.Sections.{block_after}
-use Rattle.layer_traits.specs.declared.edits.Mark.{Mark}
-use Rattle.layer_traits.specs.Protocol.{Rules}
-use Rattle.layer_traits.specs.WordsProtocol.{MayCome, sections}
-use Rattle.layer_traits.specs.OneLock.{HomeFits, NobodyInside, opened, AreDistinct}
-use Rattle.table_machine.specs.declared.views.Home.{Home}
-use Rattle.table_machine.specs.declared.views.View.{View}
-use Rattle.table_machine.specs.Kinds.{WordKind}
-use Rattle.table_machine.specs.Views.{viewed, Has, IsSince}
-use Rattle.table_machine.specs.Rule.{home_block, TableInv}
-use Rattle.table_machine.specs.Plays.{Met}
-use Rattle.table_machine.specs.SeatViews.{TableView, SeatView, IsKey, Carries, Gathered, Covers, IsIn, Closes}
-use Rattle.layer_traits.proofs.OneLockLemmas.{all_home}
-use Rattle.table_machine.proofs.Elements.{got, there_for}
-use Rattle.event_log.proofs.Foreign.{others_both, own_none}
-use Rattle.event_log.proofs.ListLemmas.{there_is}
-use Rattle.table_machine.proofs.Logs.{lock_phase_since, own_since}
-use Rattle.table_machine.proofs.Finding.{rank_at}
-use Rattle.table_machine.proofs.Seeing.{at_end}
-use Rattle.table_machine.proofs.Showing.{home_of}
-use Rattle.table_machine.proofs.Asking.{seat_view_of, table_view_of}
-use Rattle.table_machine.proofs.Meeting.{joined}
 
 module _ {M : Type 0} where
   pub since_trans : (c : CpuId) (a b d : List (Event M)) → IsSince a b c → IsSince b d c → IsSince a d c

@@ -1,25 +1,14 @@
 -- How a table begins, and how its keys are dealt.
-use Rattle.std.proofs.Common.{◌≡◌, ◌≢◌, ℕ, zero, suc, ◌+◌, ◌<◌, ◌≤◌, inl, inr, ⊎_elim, List, [], ◌∷◌, length, set, map, refl, ap, sym, ◌∙◌, subst}
-use Rattle.std.proofs.Common.{arith}
-use mathlib.Core.Option.{some, some-injective, some-ne-none}
-use lib.ListN.{get_elem?}
+use Rattle.std.proofs.Common.{◌≡◌, ◌≢◌, ℕ, zero, suc, ◌+◌, ◌<◌, ◌≤◌, inl, inr, ⊎_elim, List, [], ◌∷◌, length, set, map, refl, ap, sym, ◌∙◌, subst, arith}
 use Rattle.atomic_table.specs.Table.{Splits, opening}
 use Rattle.atomic_table.proofs.Lists.{at_set}
-use Rattle.event_log.specs.declared.ids.TheConstants.{CPUS}
-use Rattle.event_log.specs.declared.ids.CpuId.{CpuId}
-use Rattle.event_log.specs.declared.ids.LockId.{LockId}
-use Rattle.event_log.specs.declared.events.Event.{Event}
-use Rattle.layer_traits.specs.declared.edits.Mark.{Mark}
-use Rattle.layer_traits.specs.Protocol.{Rules}
-use Rattle.table_machine.specs.declared.views.Home.{Home}
-use Rattle.table_machine.specs.declared.views.View.{View}
-use Rattle.table_machine.specs.Kinds.{WordKind, IsWordKind}
-use Rattle.table_machine.specs.Layout.{AreFirst}
-use Rattle.table_machine.specs.Views.{viewed, mine, owner, cpus_from, Has, Owns, Fits, Sees}
-use Rattle.table_machine.specs.Rule.{TableInv, fresh_home}
-use Rattle.table_machine.proofs.Logs.{ends_nil}
-use Rattle.table_machine.proofs.Seeing.{sees_less, sees_dealt, owns_viewed, fits_viewed}
-use Rattle.table_machine.proofs.Showing.{shows_opening}
+use Rattle.event_log.specs.declared.{ids.TheConstants.CPUS, ids.CpuId.CpuId, ids.LockId.LockId, events.Event.Event}
+use Rattle.layer_traits.specs.{declared.edits.Mark.Mark, Protocol.Rules}
+use Rattle.table_machine.specs.{declared.views.Home.Home, declared.views.View.View, Kinds.WordKind, Kinds.IsWordKind, Layout.AreFirst, Views.viewed, Views.mine}
+use Rattle.table_machine.specs.{Views.owner, Views.cpus_from, Views.Has, Views.Owns, Views.Fits, Views.Sees, Rule.TableInv, Rule.fresh_home}
+use Rattle.table_machine.proofs.{Logs.ends_nil, Seeing.sees_less, Seeing.sees_dealt, Seeing.owns_viewed, Seeing.fits_viewed, Showing.shows_opening}
+use mathlib.Core.Option.{some, some-injective, some-ne-none}
+use lib.ListN.{get_elem?}
 
 pub has_from : (c : CpuId) (k m : ℕ) → Has c (cpus_from k m) → (k ≤ c.0) × (c.0 < k + m)
 has_from c k zero h = absurd h

@@ -1,13 +1,12 @@
 -- Where a lock lies among those of the opening.
 use Rattle.std.proofs.Common.{◌≡◌, ℕ, zero, suc, pred, ◌<◌, Bool, true, false, if◌then◌else◌, List, [], ◌∷◌, length, map, Some, IsSome, refl, ap, sym, ◌∙◌}
 use Rattle.std.proofs.Common.{subst, arith}
-use mathlib.Core.Option.{some, some-injective, some-ne-none}
-use lib.ListN.{get_elem?}
-use Rattle.event_log.specs.declared.ids.LockId.{LockId}
-use Rattle.event_log.specs.History.{same_lock}
+use Rattle.event_log.specs.{declared.ids.LockId.LockId, History.same_lock}
 use Rattle.event_log.proofs.Same.{same_lock_true, same_lock_self}
 use Rattle.layer_traits.specs.OneLock.{opened, IsMissing, AreDistinct}
 use Rattle.table_machine.specs.Layout.{rank_of}
+use mathlib.Core.Option.{some, some-injective, some-ne-none}
+use lib.ListN.{get_elem?}
 
 module _ {B : Type 0} where
   -- two locks of the opening with one rank are one lock

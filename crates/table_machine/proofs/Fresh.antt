@@ -1,19 +1,16 @@
 -- The keys of a table at which nothing has happened, and those of a table of two.
 use Rattle.std.proofs.Common.{◌≡◌, ◌≢◌, ℕ, zero, suc, ◌<◌, List, [], ◌∷◌, length, get_or, All, refl, ap, sym, ◌∙◌, subst, length-append, arith}
+use Rattle.event_log.specs.{declared.ids.CpuId.CpuId, declared.events.Event.Event, History.Grows, WordsLog.cpu_of_event, WordsLog.lock_phase, WordsLog.Idle}
+use Rattle.event_log.proofs.Foreign.{lock_phase_others}
+use Rattle.layer_traits.specs.declared.edits.Mark.{Mark}
+use Rattle.table_machine.specs.{Views.IsCpu, SeatViews.TableView, SeatViews.SeatView, SeatViews.new_seat_view, SeatViews.new_seat_views, SeatViews.Covers}
+use Rattle.table_machine.specs.{SeatViews.IsOver}
+use Rattle.table_machine.proofs.Elements.{got}
+use Rattle.atomic_table.proofs.Lists.{at_longer, at_last}
 use mathlib.Core.Logic.{dite}
 use native.Mathlib.Decide.{ℕ_discrete}
 use mathlib.Core.Option.{some, some-injective, some-ne-none}
 use lib.ListN.{get_elem?}
-use Rattle.event_log.specs.declared.ids.CpuId.{CpuId}
-use Rattle.event_log.specs.declared.events.Event.{Event}
-use Rattle.event_log.specs.History.{Grows}
-use Rattle.event_log.specs.WordsLog.{cpu_of_event, lock_phase, Idle}
-use Rattle.event_log.proofs.Foreign.{lock_phase_others}
-use Rattle.layer_traits.specs.declared.edits.Mark.{Mark}
-use Rattle.table_machine.specs.Views.{IsCpu}
-use Rattle.table_machine.specs.SeatViews.{TableView, SeatView, new_seat_view, new_seat_views, Covers, IsOver}
-use Rattle.table_machine.proofs.Elements.{got}
-use Rattle.atomic_table.proofs.Lists.{at_longer, at_last}
 
 pub length_new : (E : Type 0) {B : Type 0} (table_view : TableView B) (n : ℕ) → length (new_seat_views {E = E} table_view n) ≡ n
 length_new E table_view zero = refl

@@ -1,28 +1,15 @@
 -- What the looks and the frees of a key ask of the table, and what they tell.
-use Rattle.std.proofs.Common.{◌≡◌, ℕ, ◌<◌, inl, inr, true, false, List, [], ◌∷◌, Some, IsSome, option_map, refl, ap, sym}
-use Rattle.std.proofs.Common.{◌∙◌, subst}
-use Rattle.atomic_table.specs.Seated.{TableId}
-use Rattle.atomic_table.specs.Table.{Me, Allows, rest}
-use Rattle.event_log.specs.declared.ids.CpuId.{CpuId}
-use Rattle.event_log.specs.declared.ids.LockId.{LockId}
-use Rattle.event_log.specs.declared.events.Event.TheVariants.{Look, Free}
-use Rattle.event_log.specs.History.{Adds}
-use Rattle.event_log.specs.WordsLog.{cpu_of_event, lock_phase, LockPhase, Idle, Waiting, Holding}
-use Rattle.event_log.specs.Sections.{block_after}
-use Rattle.layer_traits.specs.Protocol.{Rules, StaysAllowed, section}
-use Rattle.layer_traits.specs.WordsProtocol.{sections, mark_of}
-use Rattle.layer_traits.specs.OneLock.{opened}
-use Rattle.table_machine.specs.declared.views.Home.{Home}
-use Rattle.table_machine.specs.declared.views.View.{View}
-use Rattle.table_machine.specs.Kinds.{WordKind, given_on}
-use Rattle.table_machine.specs.Layout.{rank_of, word_at}
-use Rattle.table_machine.specs.Views.{mine, owner, IsCpu}
-use Rattle.table_machine.specs.Rule.{TableInv}
-use Rattle.table_machine.specs.Plays.{Moves, Hits, Misses, Looked, Freed}
-use Rattle.table_machine.specs.SeatViews.{TableView, SeatView, IsOf, Carries, IsKey, Remembers}
-use Rattle.table_machine.proofs.Showing.{within_table}
-use Rattle.table_machine.proofs.Stepping.{looks_allowed, frees_allowed}
-use Rattle.table_machine.proofs.Asking.{AtWord, seat_view_of, table_view_of, went, me_is, stands_after}
+use Rattle.std.proofs.Common.{◌≡◌, ℕ, ◌<◌, inl, inr, true, false, List, [], ◌∷◌, Some, IsSome, option_map, refl, ap, sym, ◌∙◌, subst}
+use Rattle.atomic_table.specs.{Seated.TableId, Table.Me, Table.Allows, Table.rest}
+use Rattle.event_log.specs.{declared.ids.CpuId.CpuId, declared.ids.LockId.LockId, declared.events.Event.TheVariants.Look}
+use Rattle.event_log.specs.{declared.events.Event.TheVariants.Free, History.Adds, WordsLog.cpu_of_event, WordsLog.lock_phase, WordsLog.LockPhase, WordsLog.Idle}
+use Rattle.event_log.specs.{WordsLog.Waiting, WordsLog.Holding, Sections.block_after}
+use Rattle.layer_traits.specs.{Protocol.Rules, Protocol.StaysAllowed, Protocol.section, WordsProtocol.sections, WordsProtocol.mark_of, OneLock.opened}
+use Rattle.table_machine.specs.{declared.views.Home.Home, declared.views.View.View, Kinds.WordKind, Kinds.given_on, Layout.rank_of, Layout.word_at, Views.mine}
+use Rattle.table_machine.specs.{Views.owner, Views.IsCpu, Rule.TableInv, Plays.Moves, Plays.Hits, Plays.Misses, Plays.Looked, Plays.Freed, SeatViews.TableView}
+use Rattle.table_machine.specs.{SeatViews.SeatView, SeatViews.IsOf, SeatViews.Carries, SeatViews.IsKey, SeatViews.Remembers}
+use Rattle.table_machine.proofs.{Showing.within_table, Stepping.looks_allowed, Stepping.frees_allowed, Asking.AtWord, Asking.seat_view_of, Asking.table_view_of}
+use Rattle.table_machine.proofs.{Asking.went, Asking.me_is, Asking.stands_after}
 
 lock_in : LockPhase → LockId → LockId
 lock_in Idle other = other

@@ -1,28 +1,15 @@
 -- How a table is laid out, and its keys dealt.
-use Rattle.std.proofs.Common.{◌≡◌, ◌≢◌, ℕ, suc, ◌+◌, ◌-◌, ◌<◌, ◌≤◌, Bool, true, false, if◌then◌else◌, List, [], ◌∷◌, ◌++◌, length, get_or, set, drop, map}
-use Rattle.std.proofs.Common.{◌^◌, zero-add, Some, IsSome, refl, ap, sym, ◌∙◌, subst, arith, add-one, get_or-set_same, get_or-set_other}
-use Rattle.std.proofs.Common.{drop-cons}
-use Rattle.atomic_table.specs.Seated.{TableId}
-use Rattle.atomic_table.specs.Table.{Me, Splits}
-use Rattle.event_log.specs.Locks.{lock_number}
-use Rattle.event_log.specs.declared.ids.TheConstants.{LOCKS}
-use Rattle.event_log.proofs.Same.{lock_number_same}
-use Rattle.event_log.specs.declared.ids.LockId.{LockId}
-use Rattle.event_log.specs.History.{same_lock}
-use Rattle.event_log.proofs.Same.{same_lock_true}
-use Rattle.layer_traits.specs.Protocol.{Rules}
-use Rattle.layer_traits.specs.OneLock.{opened}
-use Rattle.table_machine.specs.declared.views.Home.{Home}
-use Rattle.table_machine.specs.declared.views.View.{View}
+use Rattle.std.proofs.Common.{◌≡◌, ◌≢◌, ℕ, suc, ◌+◌, ◌-◌, ◌<◌, ◌≤◌, Bool, true, false, if◌then◌else◌, List, [], ◌∷◌, ◌++◌, length, get_or, set, drop, map, ◌^◌}
+use Rattle.std.proofs.Common.{zero-add, Some, IsSome, refl, ap, sym, ◌∙◌, subst, arith, add-one, get_or-set_same, get_or-set_other, drop-cons}
+use Rattle.atomic_table.specs.{Seated.TableId, Table.Me, Table.Splits}
+use Rattle.event_log.specs.{Locks.lock_number, declared.ids.TheConstants.LOCKS, declared.ids.LockId.LockId, History.same_lock}
+use Rattle.event_log.proofs.Same.{lock_number_same, same_lock_true}
+use Rattle.layer_traits.specs.{Protocol.Rules, OneLock.opened}
+use Rattle.table_machine.specs.{declared.views.Home.Home, declared.views.View.View, Kinds.WordKind, Layout.rank_of, Layout.word_count, Layout.AreRanks}
+use Rattle.table_machine.specs.{Layout.IsLaidOut, Views.viewed, Views.mine, Views.owner, Views.cpus_from, Rule.TableInv, Rule.fresh_home, SeatViews.TableView}
+use Rattle.table_machine.specs.{SeatViews.new_seat_view, SeatViews.new_seat_views}
+use Rattle.table_machine.proofs.{Dealing.deals_split, Asking.table_view_of, Meeting.has_words}
 use lib.ListN.{length-map}
-use Rattle.table_machine.specs.Kinds.{WordKind}
-use Rattle.table_machine.specs.Layout.{rank_of, word_count, AreRanks, IsLaidOut}
-use Rattle.table_machine.specs.Views.{viewed, mine, owner, cpus_from}
-use Rattle.table_machine.specs.Rule.{TableInv, fresh_home}
-use Rattle.table_machine.specs.SeatViews.{TableView, new_seat_view, new_seat_views}
-use Rattle.table_machine.proofs.Dealing.{deals_split}
-use Rattle.table_machine.proofs.Asking.{table_view_of}
-use Rattle.table_machine.proofs.Meeting.{has_words}
 
 -- the row tells the ranks of the locks from this rank on
 abbrev pub AreRanksFrom : {B : Type 0} → List ℕ → List (LockId × B) → ℕ → Type 0

@@ -1,19 +1,12 @@
 -- What events of others leave alone.
 use Rattle.std.proofs.Common.{◌≡◌, ℕ, Bool, true, false, if◌then◌else◌, List, [], ◌∷◌, ◌++◌, Option, option_map, refl, ap, sym, ◌∙◌, subst, append_assoc}
 use Rattle.std.proofs.Common.{append-nil, eq-eqb}
-use Rattle.event_log.specs.declared.ids.CpuId.{CpuId}
-use Rattle.event_log.specs.declared.ids.LockId.{LockId}
-use Rattle.event_log.specs.declared.events.Event.{Event}
-use Rattle.event_log.specs.declared.events.Event.TheVariants.{Draw, Look, Free}
-use Rattle.event_log.specs.History.{same_cpu, same_lock, AreOthers, own_events}
-use Rattle.event_log.specs.WordsLog.{cpu_of_event, lock_phase, IsLegalWords, Holding}
-use Rattle.event_log.specs.Sections.{block_after}
-use Rattle.event_log.proofs.Same.{same_lock_true}
-use Rattle.event_log.proofs.Foreign.{others_both, lock_phase_others, own_others}
-use Rattle.layer_traits.specs.declared.edits.Mark.{Mark}
-use Rattle.layer_traits.specs.WordsProtocol.{sections}
+use Rattle.event_log.specs.{declared.ids.CpuId.CpuId, declared.ids.LockId.LockId, History.same_cpu, History.same_lock, History.AreOthers, History.own_events}
+use Rattle.event_log.specs.{WordsLog.cpu_of_event, WordsLog.lock_phase, WordsLog.IsLegalWords, WordsLog.Holding, Sections.block_after}
+use Rattle.event_log.specs.declared.events.Event.{Event, TheVariants.Draw, TheVariants.Look, TheVariants.Free}
+use Rattle.event_log.proofs.{Same.same_lock_true, Foreign.others_both, Foreign.lock_phase_others, Foreign.own_others, Tickets.one_inside}
+use Rattle.layer_traits.specs.{declared.edits.Mark.Mark, WordsProtocol.sections}
 use Rattle.table_machine.specs.Views.{EndsWith, IsSince}
-use Rattle.event_log.proofs.Tickets.{one_inside}
 
 module _ {M : Type 0} where
   -- events of others put on top of what stood since

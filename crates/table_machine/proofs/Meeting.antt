@@ -1,28 +1,14 @@
 -- What a meeting asks of the table, and what it tells.
 use Rattle.std.proofs.Common.{◌≡◌, ℕ, ◌<◌, inl, List, [], ◌∷◌, ◌++◌, length, refl, ap, sym, ◌∙◌, subst, arith}
+use Rattle.atomic_table.specs.{Seated.TableId, Table.Me, Table.step, Table.Allows}
+use Rattle.event_log.specs.{declared.ids.CpuId.CpuId, declared.ids.LockId.LockId, declared.events.Event.Event, History.AreOthers, History.Grows}
+use Rattle.event_log.specs.{History.IsLawful, WordsLog.cpu_of_event, WordsLog.lock_phase}
+use Rattle.layer_traits.specs.{declared.edits.Mark.Mark, Protocol.Rules, WordsProtocol.MayCome, OneLock.opened}
+use Rattle.table_machine.specs.{declared.views.Home.Home, declared.views.View.View, Kinds.WordKind, Layout.word_count, Layout.IsLaidOut, Views.viewed}
+use Rattle.table_machine.specs.{Views.mine, Views.Has, Views.IsCpu, Views.EndsWith, Views.IsSince, Rule.TableInv, Plays.Met, SeatViews.TableView}
+use Rattle.table_machine.specs.{SeatViews.SeatView, SeatViews.IsOf, SeatViews.Carries, SeatViews.IsKey, SeatViews.Remembers}
+use Rattle.table_machine.proofs.{Logs.lock_phase_since, Stepping.meets_allowed, Asking.seat_view_of, Asking.table_view_of}
 use mathlib.Core.Option.{none}
-use Rattle.atomic_table.specs.Seated.{TableId}
-use Rattle.atomic_table.specs.Table.{Me, step, Allows}
-use Rattle.event_log.specs.declared.ids.CpuId.{CpuId}
-use Rattle.event_log.specs.declared.ids.LockId.{LockId}
-use Rattle.event_log.specs.declared.events.Event.{Event}
-use Rattle.event_log.specs.History.{AreOthers, Grows, IsLawful}
-use Rattle.event_log.specs.WordsLog.{cpu_of_event, lock_phase}
-use Rattle.layer_traits.specs.declared.edits.Mark.{Mark}
-use Rattle.layer_traits.specs.Protocol.{Rules}
-use Rattle.layer_traits.specs.WordsProtocol.{MayCome}
-use Rattle.layer_traits.specs.OneLock.{opened}
-use Rattle.table_machine.specs.declared.views.Home.{Home}
-use Rattle.table_machine.specs.declared.views.View.{View}
-use Rattle.table_machine.specs.Kinds.{WordKind}
-use Rattle.table_machine.specs.Layout.{word_count, IsLaidOut}
-use Rattle.table_machine.specs.Views.{viewed, mine, Has, IsCpu, EndsWith, IsSince}
-use Rattle.table_machine.specs.Rule.{TableInv}
-use Rattle.table_machine.specs.Plays.{Met}
-use Rattle.table_machine.specs.SeatViews.{TableView, SeatView, IsOf, Carries, IsKey, Remembers}
-use Rattle.table_machine.proofs.Logs.{lock_phase_since}
-use Rattle.table_machine.proofs.Stepping.{meets_allowed}
-use Rattle.table_machine.proofs.Asking.{seat_view_of, table_view_of}
 
 -- a view that was told what another has seen
 abbrev pub joined : {E B : Type 0} → View E B → View E B → View E B

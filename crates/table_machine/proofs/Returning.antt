@@ -1,13 +1,13 @@
 -- The loops that take in the keys and give back the blocks.
 use Rattle.std.proofs.Common.{◌≡◌, ◌≢◌, ℕ, zero, suc, ◌+◌, ◌<◌, ◌≤◌, Bool, true, false, List, [], ◌∷◌, ◌++◌, length, get_or, set, All, Some, None, IsSome}
 use Rattle.std.proofs.Common.{is_some, ap, sym, ◌∙◌, subst, append_assoc, append-nil, get_or-set_same, get_or-set_other, arith}
+use Rattle.atomic_table.proofs.Lists.{at_longer, at_last}
+use Rattle.event_log.specs.declared.ids.LockId.{LockId}
+use Rattle.table_machine.specs.declared.views.Home.{Home}
 use mathlib.Core.Option.{some, some-injective, some-ne-none}
 use mathlib.Core.Logic.{dite}
 use native.Mathlib.Decide.{ℕ_discrete}
 use lib.ListN.{get_elem?}
-use Rattle.atomic_table.proofs.Lists.{at_longer, at_last}
-use Rattle.event_log.specs.declared.ids.LockId.{LockId}
-use Rattle.table_machine.specs.declared.views.Home.{Home}
 
 module _ {A : Type 0} where
   pub yield_more : (ys xs rest all : List A) (x : A) → ys ++ xs ≡ all → xs ≡ x ∷ rest → (ys ++ x ∷ []) ++ rest ≡ all

@@ -1,18 +1,13 @@
 -- How the views change with a step.
 use Rattle.std.proofs.Common.{◌≡◌, ◌≢◌, ◌==◌, ℕ, zero, suc, ◌<◌, ◌⊎◌, inl, inr, ⊎_elim, if◌then◌else◌, List, [], ◌∷◌, ◌++◌, length, set, refl, ap, sym, ◌∙◌}
 use Rattle.std.proofs.Common.{subst, eq-eqb, ne_eqb}
+use Rattle.atomic_table.proofs.Lists.{at_set, set_else}
+use Rattle.event_log.specs.{declared.ids.CpuId.CpuId, declared.ids.LockId.LockId, declared.events.Event.Event, History.AreOthers, WordsLog.cpu_of_event}
+use Rattle.layer_traits.specs.declared.edits.Mark.{Mark}
+use Rattle.table_machine.specs.{declared.views.View.View, Views.viewed, Views.Has, Views.Owns, Views.Fits, Views.Sees}
+use Rattle.table_machine.proofs.Logs.{since_more, since_all, ends_nil, ends_more, ends_all}
 use mathlib.Core.Option.{some, some-injective, some-ne-none}
 use lib.ListN.{get_elem?}
-use Rattle.atomic_table.proofs.Lists.{at_set, set_else}
-use Rattle.event_log.specs.declared.ids.CpuId.{CpuId}
-use Rattle.event_log.specs.declared.ids.LockId.{LockId}
-use Rattle.event_log.specs.declared.events.Event.{Event}
-use Rattle.event_log.specs.History.{AreOthers}
-use Rattle.event_log.specs.WordsLog.{cpu_of_event}
-use Rattle.layer_traits.specs.declared.edits.Mark.{Mark}
-use Rattle.table_machine.specs.declared.views.View.{View}
-use Rattle.table_machine.specs.Views.{viewed, Has, Owns, Fits, Sees}
-use Rattle.table_machine.proofs.Logs.{since_more, since_all, ends_nil, ends_more, ends_all}
 
 -- one element more, with its rank
 pub at_end : {A : Type 0} (l : List A) (a b : A) (j : ℕ) → get_elem? (l ++ a ∷ []) j ≡ some b → (get_elem? l j ≡ some b) ⊎ ((j ≡ length l) × (a ≡ b))

@@ -1,24 +1,17 @@
 -- How the words and the slots change with a step.
-use Rattle.std.proofs.Common.{length-set, ◌≡◌, ◌≢◌, ℕ, zero, suc, ◌+◌, ◌<◌, ◌≤◌, ◌==◌, if◌then◌else◌, Bool, true, false, List, [], ◌∷◌}
-use Rattle.std.proofs.Common.{length, set, get_or, map, replicate, Option, Some}
-use Rattle.std.proofs.Common.{None, IsSome, slice_index, refl, ap, sym, ◌∙◌, subst, arith, get_or-set_same, get_or-set_other}
+use Rattle.std.proofs.Common.{length-set, ◌≡◌, ◌≢◌, ℕ, zero, suc, ◌+◌, ◌<◌, ◌≤◌, ◌==◌, if◌then◌else◌, Bool, true, false, List, [], ◌∷◌, length, set, get_or}
+use Rattle.std.proofs.Common.{map, replicate, Option, Some, None, IsSome, slice_index, refl, ap, sym, ◌∙◌, subst, arith, get_or-set_same, get_or-set_other}
 use Rattle.std.proofs.lemmas.Bool.{eqb-true, eqb-false}
+use Rattle.event_log.specs.{declared.ids.LockId.LockId, declared.events.Event.Event, History.same_lock, WordsLog.MayFollow, WordsLog.draws, WordsLog.frees}
+use Rattle.event_log.specs.{declared.ids.TheConstants.CPUS}
+use Rattle.event_log.proofs.Same.{same_lock_true, same_lock_self}
+use Rattle.layer_traits.specs.{declared.edits.Mark.Mark, OneLock.opened}
+use Rattle.layer_traits.proofs.OneLockLemmas.{counts_elsewhere, event_lock, elsewhere, fresh}
+use Rattle.table_machine.specs.{declared.views.Home.Home, Kinds.WordKind, Kinds.IsWordKind, Kinds.first_words, Layout.AreFirst, Layout.rank_of, Layout.word_at}
+use Rattle.table_machine.specs.{Layout.words_of, Layout.word_count, Rule.home_block, Rule.fresh_home, Rule.ShowsLock, Rule.Shows}
+use Rattle.table_machine.proofs.Finding.{rank_same, rank_below, opened_there}
 use mathlib.Core.Option.{Option as Maybe, none, some}
 use lib.ListN.{get_elem?, length-replicate, length-map}
-use Rattle.event_log.specs.declared.ids.LockId.{LockId}
-use Rattle.event_log.specs.declared.events.Event.{Event}
-use Rattle.event_log.specs.History.{same_lock}
-use Rattle.event_log.specs.WordsLog.{MayFollow, draws, frees}
-use Rattle.event_log.specs.declared.ids.TheConstants.{CPUS}
-use Rattle.event_log.proofs.Same.{same_lock_true, same_lock_self}
-use Rattle.layer_traits.specs.declared.edits.Mark.{Mark}
-use Rattle.layer_traits.specs.OneLock.{opened}
-use Rattle.layer_traits.proofs.OneLockLemmas.{counts_elsewhere, event_lock, elsewhere, fresh}
-use Rattle.table_machine.specs.declared.views.Home.{Home}
-use Rattle.table_machine.specs.Kinds.{WordKind, IsWordKind, first_words}
-use Rattle.table_machine.specs.Layout.{AreFirst, rank_of, word_at, words_of, word_count}
-use Rattle.table_machine.specs.Rule.{home_block, fresh_home, ShowsLock, Shows}
-use Rattle.table_machine.proofs.Finding.{rank_same, rank_below, opened_there}
 
 -- words of two locks, and two words of one lock, lie apart
 pub locks_apart : (j k a b : ℕ) → j ≢ k → a ≤ CPUS → b ≤ CPUS → word_at j a ≢ word_at k b

@@ -1,42 +1,28 @@
 -- Each atomic step keeps the rule, and tells what it tells.
 use Rattle.std.proofs.Common.{length-set, ◌≡◌, ◌==◌, ℕ, ◌+◌, ◌<◌, ◌%◌, ◌^◌, ◌⊎◌, inl, inr, ⊎_elim, Bool, true, false, if◌then◌else◌, List, [], ◌∷◌, ◌++◌}
-use Rattle.std.proofs.Common.{length, set, Some, IsSome, option_map, slice_index, refl, ap, sym, ◌∙◌, subst, arith}
-use Rattle.std.proofs.Common.{lt_of_lt_of_le, ne_eqb}
+use Rattle.std.proofs.Common.{length, set, Some, IsSome, option_map, slice_index, refl, ap, sym, ◌∙◌, subst, arith, lt_of_lt_of_le, ne_eqb}
+use Rattle.atomic_table.specs.Table.{State, Me, Step, step, Act, keeps, takes, gives, stepped, Allows, Splits, Joins, Enters}
+use Rattle.atomic_table.proofs.Lists.{set_here, set_else}
+use Rattle.event_log.specs.{declared.ids.TheConstants.CPUS, declared.ids.CpuId.CpuId, declared.ids.LockId.LockId, declared.events.Event.Event}
+use Rattle.event_log.specs.{declared.events.Event.TheVariants.Draw, declared.events.Event.TheVariants.Look, declared.events.Event.TheVariants.Free}
+use Rattle.event_log.specs.{History.AreOthers, History.IsLawful, WordsLog.IsLegalWords, WordsLog.cpu_of_event, WordsLog.draws, WordsLog.frees}
+use Rattle.event_log.specs.{WordsLog.lock_phase, WordsLog.Idle, WordsLog.Waiting, WordsLog.Holding, Actions.Holds, Actions.acts_of}
+use Rattle.event_log.specs.{Actions.gives as given_times, Actions.phase, Actions.spot_of, Sections.block_after}
+use Rattle.event_log.proofs.{Exclusion.is_holding, Exclusion.line_at, Same.same_lock_self, Tickets.gives_acts, Tickets.legal_acts, Tickets.phase_acts}
+use Rattle.event_log.proofs.{Tickets.ticket_at, Observed.TicketOf, Observed.phase_of}
+use Rattle.layer_traits.specs.{declared.edits.Mark.Mark, Protocol.Rules, Protocol.StaysAllowed, Protocol.section, WordsProtocol.MayCome, WordsProtocol.edit_of}
+use Rattle.layer_traits.specs.{WordsProtocol.sections, WordsProtocol.mark_of, OneLock.HomeFits, OneLock.opened}
+use Rattle.table_machine.specs.{declared.views.Home.Home, declared.views.View.View, Kinds.WordKind, Kinds.IsWordKind, Kinds.given_on, Layout.rank_of}
+use Rattle.table_machine.specs.{Layout.word_at, Layout.words_of, Views.viewed, Views.mine, Views.Has, Views.IsSince, Rule.home_block, Rule.ShowsLock}
+use Rattle.table_machine.specs.{Rule.Shows, Rule.TableInv, Plays.Moves, Plays.Drew, Plays.Looked, Plays.Freed, Plays.Met, Plays.Entered}
+use Rattle.layer_traits.proofs.OneLockLemmas.{lock_phase_own, drew, missed, hit, freed, hit_finds, serves_exactly}
+use Rattle.layer_traits.proofs.Seen.{words_legal, sections_allowed, sections-append, others_sections}
+use Rattle.table_machine.proofs.{Logs.lock_phase_since, Logs.inside_keeps, Logs.ends_nil, Finding.rank_below, Seeing.sees_moved, Seeing.sees_less}
+use Rattle.table_machine.proofs.{Seeing.sees_new, Seeing.sees_join, Seeing.one_event, Seeing.owns_viewed, Showing.home_of, Showing.shows_step}
+use Rattle.table_machine.proofs.{Showing.within_table, Showing.written}
 use mathlib.Core.Option.{Option as Maybe, none, some}
 use lib.ListN.{get_elem?}
 use lib.Seq.{set-get_or}
-use Rattle.atomic_table.specs.Table.{State, Me, Step, step, Act, keeps, takes, gives, stepped, Allows, Splits, Joins, Enters}
-use Rattle.atomic_table.proofs.Lists.{set_here, set_else}
-use Rattle.event_log.specs.declared.ids.TheConstants.{CPUS}
-use Rattle.event_log.specs.declared.ids.CpuId.{CpuId}
-use Rattle.event_log.specs.declared.ids.LockId.{LockId}
-use Rattle.event_log.specs.declared.events.Event.{Event}
-use Rattle.event_log.specs.declared.events.Event.TheVariants.{Draw, Look, Free}
-use Rattle.event_log.specs.History.{AreOthers, IsLawful}
-use Rattle.event_log.specs.WordsLog.{IsLegalWords, cpu_of_event, draws, frees, lock_phase, Idle, Waiting, Holding}
-use Rattle.event_log.specs.Actions.{Holds, acts_of, gives as given_times, phase, spot_of}
-use Rattle.event_log.proofs.Exclusion.{is_holding, line_at}
-use Rattle.event_log.proofs.Same.{same_lock_self}
-use Rattle.event_log.proofs.Tickets.{gives_acts, legal_acts, phase_acts, ticket_at}
-use Rattle.event_log.proofs.Observed.{TicketOf, phase_of}
-use Rattle.event_log.specs.Sections.{block_after}
-use Rattle.layer_traits.specs.declared.edits.Mark.{Mark}
-use Rattle.layer_traits.specs.Protocol.{Rules, StaysAllowed, section}
-use Rattle.layer_traits.specs.WordsProtocol.{MayCome, edit_of, sections, mark_of}
-use Rattle.layer_traits.specs.OneLock.{HomeFits, opened}
-use Rattle.table_machine.specs.declared.views.Home.{Home}
-use Rattle.table_machine.specs.declared.views.View.{View}
-use Rattle.table_machine.specs.Kinds.{WordKind, IsWordKind, given_on}
-use Rattle.table_machine.specs.Layout.{rank_of, word_at, words_of}
-use Rattle.table_machine.specs.Views.{viewed, mine, Has, IsSince}
-use Rattle.table_machine.specs.Rule.{home_block, ShowsLock, Shows, TableInv}
-use Rattle.table_machine.specs.Plays.{Moves, Drew, Looked, Freed, Met, Entered}
-use Rattle.layer_traits.proofs.OneLockLemmas.{lock_phase_own, drew, missed, hit, freed, hit_finds, serves_exactly}
-use Rattle.layer_traits.proofs.Seen.{words_legal, sections_allowed, sections-append, others_sections}
-use Rattle.table_machine.proofs.Logs.{lock_phase_since, inside_keeps, ends_nil}
-use Rattle.table_machine.proofs.Finding.{rank_below}
-use Rattle.table_machine.proofs.Seeing.{sees_moved, sees_less, sees_new, sees_join, one_event, owns_viewed}
-use Rattle.table_machine.proofs.Showing.{home_of, shows_step, within_table, written}
 
 module _ (K : WordKind) {E B O : Type 0} (R : Rules E B O) (n : ℕ) (start : List (LockId × B)) where
   -- what the step of one CPU knows of the log when it comes

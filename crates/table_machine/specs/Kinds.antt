@@ -1,7 +1,6 @@
 -- What the words of a lock are and do, as data: those of a ticket lock, and those of a lock with a grant word for each waiter.
 use Rattle.std.specs.Prelude.{◌≡◌, ◌≢◌, ℕ, ◌+◌, ◌%◌, ◌^◌, ◌<◌, ◌≤◌, ◌==◌, Bool, Option, Some, None, if◌then◌else◌}
-use Rattle.event_log.specs.declared.ids.TheConstants.{CPUS}
-use Rattle.event_log.specs.Grants.{WordFits}
+use Rattle.event_log.specs.{declared.ids.TheConstants.CPUS, Grants.WordFits}
 
 -- The words of a lock are numbered: word 0 is `next`, from which tickets come. What they are worth is said by two true counts.
 pub record WordKind : Type 1 where

@@ -1,14 +1,10 @@
 -- What a seat knows of the log, and which CPUs it acts for.
 use Rattle.std.specs.Prelude.{◌≡◌, ℕ, zero, suc, ◌+◌, ◌<◌, List, [], ◌∷◌, ◌++◌, ◌⊎◌}
-use mathlib.Core.Option.{some}
-use lib.ListN.{get_elem?}
-use Rattle.event_log.specs.declared.ids.CpuId.{CpuId}
-use Rattle.event_log.specs.declared.ids.LockId.{LockId}
-use Rattle.event_log.specs.declared.events.Event.{Event}
-use Rattle.event_log.specs.History.{AreOthers}
-use Rattle.event_log.specs.WordsLog.{cpu_of_event}
+use Rattle.event_log.specs.{declared.ids.CpuId.CpuId, declared.ids.LockId.LockId, declared.events.Event.Event, History.AreOthers, WordsLog.cpu_of_event}
 use Rattle.layer_traits.specs.declared.edits.Mark.{Mark}
 use Rattle.table_machine.specs.declared.views.View.{View}
+use mathlib.Core.Option.{some}
+use lib.ListN.{get_elem?}
 
 -- a view that has taken in all that it was told
 abbrev pub viewed : {E B : Type 0} → List (LockId × B) → List CpuId → List (Event (Mark E)) → View E B

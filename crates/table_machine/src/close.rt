@@ -5,8 +5,7 @@ ghost use Rattle.std.specs.Mem.Slots.{slots_items, slots_len, IsFull};
 ghost use mathlib.Core.Option.{some};
 ghost use lib.ListN.{get_elem?};
 ghost use Rattle.event_log.specs.declared.ids.LockId.{LockId};
-ghost use Rattle.table_machine.specs.declared.views.Home.{Home};
-ghost use Rattle.table_machine.specs.SeatViews.{SeatView, IsOver, Covers, Closes, Gathered};
+ghost use Rattle.table_machine.specs.{declared.views.Home.Home, SeatViews.SeatView, SeatViews.IsOver, SeatViews.Covers, SeatViews.Closes, SeatViews.Gathered};
 
 use crate::keys::Key;
 use crate::plays::{Copies, Enters, Meets};

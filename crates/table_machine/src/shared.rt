@@ -31,8 +31,7 @@ pub type GrantShared<E> = Shared<E, WaiterWords>;
 impl<E: SplitEdit, K: TableWords> Model for Shared<E, K> {
     ghost use Rattle.std.specs.Prelude.{◌≡◌, ◌≤◌, [], length, vec_capacity};
     ghost use Rattle.layer_traits.specs.OneLock.{AreDistinct};
-    ghost use Rattle.table_machine.specs.SeatViews.{TableView};
-    ghost use Rattle.table_machine.specs.Layout.{IsLaidOut};
+    ghost use Rattle.table_machine.specs.{SeatViews.TableView, Layout.IsLaidOut};
 
     ghost Value = { TableView E.Block };
 

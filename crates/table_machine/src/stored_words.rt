@@ -11,8 +11,7 @@ use crate::TableWords;
 pub struct StoredWords;
 
 impl TableWords for StoredWords {
-    ghost use Rattle.table_machine.specs.Laws.Stored.{stored_are};
-    ghost use Rattle.table_machine.specs.Stored.{stored_words};
+    ghost use Rattle.table_machine.specs.{Laws.Stored.stored_are, Stored.stored_words};
 
     ghost kind = { stored_words };
 

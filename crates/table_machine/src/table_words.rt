@@ -41,8 +41,7 @@ pub trait TableWords: Drop {
 pub struct TicketWords;
 
 impl TableWords for TicketWords {
-    ghost use Rattle.table_machine.specs.Kinds.{ticket_words};
-    ghost use Rattle.table_machine.specs.Laws.KindLaws.{tickets_are};
+    ghost use Rattle.table_machine.specs.{Kinds.ticket_words, Laws.KindLaws.tickets_are};
 
     ghost kind = { ticket_words };
 
@@ -80,8 +79,7 @@ impl TableWords for TicketWords {
 pub struct WaiterWords;
 
 impl TableWords for WaiterWords {
-    ghost use Rattle.table_machine.specs.Kinds.{grant_words};
-    ghost use Rattle.table_machine.specs.Laws.KindLaws.{grants_are};
+    ghost use Rattle.table_machine.specs.{Kinds.grant_words, Laws.KindLaws.grants_are};
 
     ghost kind = { grant_words };
 

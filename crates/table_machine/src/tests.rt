@@ -1,14 +1,10 @@
 //! Seats at one table, which a single thread takes in turn.
 
 ghost use Rattle.std.specs.Prelude.{◌≡◌, ◌+◌, ◌%◌, ◌^◌, ◌<◌, [], ◌∷◌, Some, IsSome, IfOk, MatchOption};
-ghost use Rattle.event_log.specs.WordsLog.{lock_phase, Idle, Waiting, Holding};
-ghost use Rattle.event_log.specs.Sections.{block_after};
-ghost use Rattle.event_log.specs.Grants.{grant_lock_phase};
-ghost use Rattle.layer_traits.specs.GrantProtocol.{grant_sections};
-ghost use Rattle.layer_traits.specs.OneLock.{AreDistinct};
-ghost use Rattle.layer_traits.specs.WordsProtocol.{sections};
-ghost use Rattle.table_machine.specs.SeatViews.{IsOver, new_seat_view, new_seat_views};
-ghost use Rattle.table_machine.specs.declared.tests.TheConstants.{LOCK, OTHER};
+ghost use Rattle.event_log.specs.{WordsLog.lock_phase, WordsLog.Idle, WordsLog.Waiting, WordsLog.Holding, Sections.block_after, Grants.grant_lock_phase};
+ghost use Rattle.layer_traits.specs.{GrantProtocol.grant_sections, OneLock.AreDistinct, WordsProtocol.sections};
+ghost use Rattle.table_machine.specs.{SeatViews.IsOver, SeatViews.new_seat_view, SeatViews.new_seat_views, declared.tests.TheConstants.LOCK};
+ghost use Rattle.table_machine.specs.{declared.tests.TheConstants.OTHER};
 
 use crate::stored_words::StoredWords;
 use crate::{GrantShared, Key, Shared, TableWords, TicketWords, WaiterWords, meet};

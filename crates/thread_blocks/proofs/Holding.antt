@@ -1,19 +1,15 @@
 -- What each step on the tables makes of the queue that they hold.
-use Rattle.std.proofs.Common.{◌≡◌, ℕ, ◌+◌, ◌-◌, ◌<◌, ◌≤◌, Bool, true, false, List, [], ◌∷◌, ◌++◌, length, refl, sym}
-use Rattle.std.proofs.Common.{ap, ◌∙◌, subst, arith, Option, Some, None, IfSome, slice_index_or, slice_set, ◌⊎◌, inl, inr, ◌||◌, length-append, length-set}
-use Rattle.std.proofs.lemmas.Bool.{cases_Bool, eqb-false, false_from_ne_true}
-use Rattle.std.proofs.lemmas.Grind.{get_or-set_at}
-use Rattle.std.proofs.lemmas.List.{get_or-set_other, get_or_default}
-use Rattle.event_log.specs.declared.ids.Tid.{Tid}
-use Rattle.event_log.specs.declared.ids.TheConstants.{THREADS}
-use Rattle.thread_blocks.specs.declared.links.Links.{Links}
-use Rattle.thread_blocks.specs.Queues.{same_tid, is_in, first, without, IsQueue}
-use Rattle.thread_blocks.specs.Links.{to, walk, Relinked, Hold}
-use Rattle.thread_blocks.proofs.Members.{same_tid_self, same_tid_true}
-use Rattle.thread_blocks.proofs.Distinct.{none, has_room, pushed, taken_out, without_parted, taken_absent}
-use Rattle.thread_blocks.proofs.Distinct.{others_stay, pushed_in, parts, off, all_off_end, all_distinct, all_below}
-use Rattle.thread_blocks.proofs.Linking.{AreBelow, walk_is, before_below, after_below, last_below}
-use Rattle.thread_blocks.proofs.Linking.{below_at, below_behind, linked_from, no_end, unlinked, linked_behind}
+use Rattle.std.proofs.Common.{◌≡◌, ℕ, ◌+◌, ◌-◌, ◌<◌, ◌≤◌, Bool, true, false, List, [], ◌∷◌, ◌++◌, length, refl, sym, ap, ◌∙◌, subst, arith, Option, Some, None}
+use Rattle.std.proofs.Common.{IfSome, slice_index_or, slice_set, ◌⊎◌, inl, inr, ◌||◌, length-append, length-set}
+use Rattle.std.proofs.lemmas.{Bool.cases_Bool, Bool.eqb-false, Bool.false_from_ne_true, Grind.get_or-set_at, List.get_or-set_other, List.get_or_default}
+use Rattle.event_log.specs.declared.ids.{Tid.Tid, TheConstants.THREADS}
+use Rattle.thread_blocks.specs.{declared.links.Links.Links, Queues.same_tid, Queues.is_in, Queues.first, Queues.without, Queues.IsQueue, Links.to, Links.walk}
+use Rattle.thread_blocks.specs.{Links.Relinked, Links.Hold}
+use Rattle.thread_blocks.proofs.{Members.same_tid_self, Members.same_tid_true, Distinct.none, Distinct.has_room, Distinct.pushed, Distinct.taken_out}
+use Rattle.thread_blocks.proofs.{Distinct.without_parted, Distinct.taken_absent, Distinct.others_stay, Distinct.pushed_in, Distinct.parts, Distinct.off}
+use Rattle.thread_blocks.proofs.{Distinct.all_off_end, Distinct.all_distinct, Distinct.all_below, Linking.AreBelow, Linking.walk_is, Linking.before_below}
+use Rattle.thread_blocks.proofs.{Linking.after_below, Linking.last_below, Linking.below_at, Linking.below_behind, Linking.linked_from, Linking.no_end}
+use Rattle.thread_blocks.proofs.{Linking.unlinked, Linking.linked_behind}
 
 -- the tables show the queue that they hold
 pub walk_held : {nexts prevs : Links} {members : List Bool} {count : ℕ} {queue : List Tid} → Hold nexts prevs members count queue

@@ -1,8 +1,7 @@
 -- What a changed link leaves of a queue in two tables of links.
 use Rattle.std.proofs.Common.{◌≡◌, ◌≢◌, ℕ, ◌<◌, List, [], ◌∷◌, ◌++◌, length, sym, ap, ◌∙◌, subst, Option, Some, None, IfSome}
 use Rattle.event_log.specs.declared.ids.Tid.{Tid}
-use Rattle.thread_blocks.specs.declared.links.Links.{Links}
-use Rattle.thread_blocks.specs.Links.{to, walk, AreLinked, Relinked}
+use Rattle.thread_blocks.specs.{declared.links.Links.Links, Links.to, Links.walk, Links.AreLinked, Links.Relinked}
 
 -- the node is none of these threads
 abbrev pub IsOff : Option Tid → List Tid → Type 0

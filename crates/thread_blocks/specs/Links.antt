@@ -1,10 +1,8 @@
 -- Queues that lie in two tables of links, one for each direction. A node is a thread, or the end: the node before the first
 -- thread and behind the last.
 use Rattle.std.specs.Prelude.{◌≡◌, ◌≢◌, ℕ, zero, suc, ◌<◌, Bool, false, List, [], ◌∷◌, length, Option, Some, None, slice_index_or}
-use Rattle.event_log.specs.declared.ids.Tid.{Tid}
-use Rattle.event_log.specs.declared.ids.TheConstants.{THREADS}
-use Rattle.thread_blocks.specs.Queues.{is_in, IsQueue}
-use Rattle.thread_blocks.specs.declared.links.Links.{Links}
+use Rattle.event_log.specs.declared.ids.{Tid.Tid, TheConstants.THREADS}
+use Rattle.thread_blocks.specs.{Queues.is_in, Queues.IsQueue, declared.links.Links.Links}
 
 -- what a node leads to
 abbrev pub to : Links → Option Tid → Option Tid

@@ -2,8 +2,7 @@
 
 ghost use Rattle.std.specs.Prelude.{◌≡◌, ◌+◌, ◌*◌, ◌<◌, ◌≤◌, ◌++◌, ◌∷◌, [], ℕ, List, false, length, MatchOption};
 ghost use Rattle.event_log.specs.declared.ids.TheConstants.{THREADS};
-ghost use Rattle.thread_blocks.specs.Queues.{is_in, first, rest, without, AreApart};
-ghost use Rattle.thread_blocks.specs.Links.{Hold};
+ghost use Rattle.thread_blocks.specs.{Queues.is_in, Queues.first, Queues.rest, Queues.without, Queues.AreApart, Links.Hold};
 
 use crate::links::Links;
 use crate::lists::ThreadList;

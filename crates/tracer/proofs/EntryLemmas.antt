@@ -1,29 +1,21 @@
 -- Each line of a trace text is taken where it may stand, and a line that is taken is spelled so.
-use Rattle.std.proofs.Common.{◌-◌, ◌≡◌, ℕ, ◌<◌, ◌≤◌, ◌^◌, Bool, true, false, cond, List, [], ◌∷◌, length, Result, Ok, Err, refl, sym, ap, ◌∙◌}
-use Rattle.std.proofs.Common.{subst, lit<, arith}
+use Rattle.std.proofs.Common.{◌-◌, ◌≡◌, ℕ, ◌<◌, ◌≤◌, ◌^◌, Bool, true, false, cond, List, [], ◌∷◌, length, Result, Ok, Err, refl, sym, ap, ◌∙◌, subst, lit<}
+use Rattle.std.proofs.Common.{arith}
 use Rattle.std.specs.Prelude.{decimal, codes}
 use Rattle.std.specs.Str.{bytes_eq}
 use Rattle.std.proofs.lemmas.Slice.Eq.{bytes_eq-Decides}
 use Rattle.event_log.specs.declared.ids.TheConstants.{CPUS, THREADS, BUFFERS, ENTRIES}
-use Rattle.event_log.specs.declared.entries.Kind.{Kind}
+use Rattle.event_log.specs.{declared.entries.Kind.Kind, declared.entries.Entry.Entry, Messages.Message, Messages.no_message, Digits.is_number, Reading.◌>>=◌}
 use Rattle.event_log.specs.declared.entries.Kind.TheVariants.{Send, Recv, Close, SendClosed, RecvClosed}
-use Rattle.event_log.specs.declared.entries.Entry.{Entry}
-use Rattle.event_log.specs.Messages.{Message, no_message}
-use Rattle.event_log.specs.Digits.{is_number}
-use Rattle.event_log.specs.Reading.{◌>>=◌}
 use Rattle.event_log.proofs.DigitsLemmas.{number_to-decimal}
-use Rattle.tracer.specs.declared.verdicts.Reason.{Reason}
-use Rattle.tracer.specs.declared.verdicts.Reason.TheVariants.{Spelling}
-use Rattle.tracer.specs.declared.next_lines.NextLine.{NextLine}
-use Rattle.tracer.specs.declared.versions.Version.{Version}
-use Rattle.tracer.specs.Versions.{covers, version_of_kind, version_of_message, version_of_entry, version_of}
-use Rattle.tracer.specs.TraceText.{kind_word, value_piece, IsValueOf}
-use Rattle.tracer.specs.Judging.{Digits, Progress, or_reason, piece_at, digits_at, ended, in_range, kind_in, spells_value, value_in, is_of_version}
-use Rattle.tracer.specs.Judging.{entry_digits, entry_in}
-use Rattle.tracer.proofs.ReadLemmas.{bind_ok, fine, same_ok, in_range_taken, decimal_is_number}
-use Rattle.tracer.proofs.KnownLemmas.{known_from}
-use Rattle.tracer.proofs.VersionLemmas.{covers_first_one, covers_first, covers_second}
-use Rattle.tracer.proofs.MessageLemmas.{message_again, spells_message_again, item_taken}
+use Rattle.tracer.specs.{declared.verdicts.Reason.Reason, declared.verdicts.Reason.TheVariants.Spelling, declared.next_lines.NextLine.NextLine}
+use Rattle.tracer.specs.{declared.versions.Version.Version, Versions.covers, Versions.version_of_kind, Versions.version_of_message, Versions.version_of_entry}
+use Rattle.tracer.specs.{Versions.version_of, TraceText.kind_word, TraceText.value_piece, TraceText.IsValueOf, Judging.Digits, Judging.Progress}
+use Rattle.tracer.specs.{Judging.or_reason, Judging.piece_at, Judging.digits_at, Judging.ended, Judging.in_range, Judging.kind_in, Judging.spells_value}
+use Rattle.tracer.specs.{Judging.value_in, Judging.is_of_version, Judging.entry_digits, Judging.entry_in}
+use Rattle.tracer.proofs.{ReadLemmas.bind_ok, ReadLemmas.fine, ReadLemmas.same_ok, ReadLemmas.in_range_taken, ReadLemmas.decimal_is_number}
+use Rattle.tracer.proofs.{KnownLemmas.known_from, VersionLemmas.covers_first_one, VersionLemmas.covers_first, VersionLemmas.covers_second}
+use Rattle.tracer.proofs.{MessageLemmas.message_again, MessageLemmas.spells_message_again, MessageLemmas.item_taken}
 
 -- behind the earlier entries, in a text of this version
 abbrev pub progress : Version → NextLine → List ℕ → List Entry → List (List Message) → Progress

@@ -1,15 +1,11 @@
 -- What a gathering keeps: the entries taken so far, and what is left of each trace.
-use Rattle.std.proofs.Common.{◌≡◌, ◌≢◌, ℕ, zero, suc, ◌+◌, ◌<◌, List, [], ◌∷◌, ◌++◌, length, get_or, set, drop, replicate, sum_by, Some, None, refl}
-use Rattle.std.proofs.Common.{sym, ap, ◌∙◌, subst, inl, inr, arith, add-one, append_assoc, Vec, Global}
-use Rattle.std.proofs.lemmas.List.{drop_more, drop_all, drop-drop, get_or-set_other, get_or-set_same, get_or_past, nil_from_length}
-use Rattle.std.proofs.lemmas.List.{length-replicate, length-set, length-append, append-nil}
-use Rattle.std.proofs.lemmas.List.Sums.{sum_by-cons, sum_by-set, get_or-le-sum_by}
-use Rattle.std.proofs.lemmas.Bool.{cases_eq, cases_lt}
-use Rattle.std.proofs.lemmas.Option.{get_or_from_slice_get, slice_get_within}
+use Rattle.std.proofs.Common.{◌≡◌, ◌≢◌, ℕ, zero, suc, ◌+◌, ◌<◌, List, [], ◌∷◌, ◌++◌, length, get_or, set, drop, replicate, sum_by, Some, None, refl, sym, ap}
+use Rattle.std.proofs.Common.{◌∙◌, subst, inl, inr, arith, add-one, append_assoc, Vec, Global}
+use Rattle.std.proofs.lemmas.List.{drop_more, drop_all, drop-drop, get_or-set_other, get_or-set_same, get_or_past, nil_from_length, length-replicate}
+use Rattle.std.proofs.lemmas.List.{length-set, length-append, append-nil, Sums.sum_by-cons, Sums.sum_by-set, Sums.get_or-le-sum_by}
+use Rattle.std.proofs.lemmas.{Bool.cases_eq, Bool.cases_lt, Option.get_or_from_slice_get, Option.slice_get_within}
 use Rattle.std.specs.Prelude.{slice_get}
-use Rattle.event_log.specs.declared.entries.Entry.{Entry}
-use Rattle.event_log.specs.Runs.{count_of}
-use Rattle.event_log.specs.Traces.{IsInterleaving, HasOpOrderFrom, HasOpOrder}
+use Rattle.event_log.specs.{declared.entries.Entry.Entry, Runs.count_of, Traces.IsInterleaving, Traces.HasOpOrderFrom, Traces.HasOpOrder}
 use Rattle.tracer.specs.Gather.{traces_in, IsOrder, IsFrontReady, TakesFirstReadyFrom, TakesFirstReady, HasNoOrder, next_entry, IsDue, NoneDueBelow}
 use Rattle.tracer.proofs.OrderLemmas.{at_head, head_at, head_within, count_more_same, count_more_other, CameFirst, may_come_first}
 

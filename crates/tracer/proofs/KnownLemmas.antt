@@ -1,19 +1,14 @@
 -- What the judge knows of the buffers is what the earlier entries and the contents say.
-use Rattle.std.proofs.Common.{◌≡◌, ◌≢◌, ℕ, zero, suc, ◌+◌, ◌<◌, ◌==◌, Bool, true, false, cond, List, [], ◌∷◌, ◌++◌, length, get_or, set, map, drop}
-use Rattle.std.proofs.Common.{Option, Some, None, Ok, refl, sym, ap, ◌∙◌, eq-eqb, ne_eqb, eqb-true, ltb-true, lt-ltb, add-zero, inl, inr, arith}
+use Rattle.std.proofs.Common.{◌≡◌, ◌≢◌, ℕ, zero, suc, ◌+◌, ◌<◌, ◌==◌, Bool, true, false, cond, List, [], ◌∷◌, ◌++◌, length, get_or, set, map, drop, Option}
+use Rattle.std.proofs.Common.{Some, None, Ok, refl, sym, ap, ◌∙◌, eq-eqb, ne_eqb, eqb-true, ltb-true, lt-ltb, add-zero, inl, inr, arith}
 use Rattle.std.specs.Prelude.{slice_get, slice_set, nat_lt}
 use Rattle.std.specs.Str.{bytes_eq}
-use Rattle.std.proofs.lemmas.Bool.{cases_eq}
-use Rattle.std.proofs.lemmas.Slice.Eq.{bytes_eq-Decides}
-use Rattle.std.proofs.lemmas.List.{get_or-set_same, get_or-set_other, length-set, nil_from_length, same_lists}
-use Rattle.std.proofs.lemmas.Option.{slice_get-get_or, slice_get_within}
-use Rattle.event_log.specs.Messages.{Message, no_message}
-use Rattle.event_log.specs.declared.entries.Kind.{Kind}
+use Rattle.std.proofs.lemmas.{Bool.cases_eq, Slice.Eq.bytes_eq-Decides, List.get_or-set_same, List.get_or-set_other, List.length-set, List.nil_from_length}
+use Rattle.std.proofs.lemmas.{List.same_lists, Option.slice_get-get_or, Option.slice_get_within}
+use Rattle.event_log.specs.{Messages.Message, Messages.no_message, declared.entries.Kind.Kind, declared.entries.Entry.Entry, Buffers.items_of}
+use Rattle.event_log.specs.{Buffers.empty_buffers, Buffers.IsAllowedEffect, Buffers.after_effect, Runs.kind_eq, Runs.group_of, Runs.count_of}
+use Rattle.event_log.specs.{Runs.count_of_kind, Runs.IsNext, Runs.after_entry, Reading.◌>>=◌}
 use Rattle.event_log.specs.declared.entries.Kind.TheVariants.{Send, Recv, Close, SendClosed, RecvClosed}
-use Rattle.event_log.specs.declared.entries.Entry.{Entry}
-use Rattle.event_log.specs.Buffers.{items_of, empty_buffers, IsAllowedEffect, after_effect}
-use Rattle.event_log.specs.Runs.{kind_eq, group_of, count_of, count_of_kind, IsNext, after_entry}
-use Rattle.event_log.specs.Reading.{◌>>=◌}
 use Rattle.event_log.proofs.RunLemmas.{count_more, count_kind_more, items_none}
 use Rattle.tracer.specs.declared.verdicts.Reason.TheVariants.{Op, Pos, Full, WrongValue, CloseState, NotEmpty}
 use Rattle.tracer.specs.Judging.{Seen, fresh, or_reason, or_range, was_closed, next_pos, bumped, counted, take_first, item_effect, entry_on, entry_among}

@@ -1,21 +1,14 @@
 -- A line's text as it is written, and lines that have the number of their item.
-use Rattle.std.proofs.Common.{◌-◌, ◌≡◌, ℕ, zero, suc, ◌+◌, ◌<◌, ◌≤◌, Bool, true, List, [], ◌∷◌, ◌++◌, Option, length, get_or, take, drop, map}
-use Rattle.std.proofs.Common.{refl, sym, ap, ◌∙◌}
-use Rattle.std.proofs.Common.{append_assoc, add-zero, zero-add, arith}
-use Rattle.std.specs.Io.KnownBytes.{Appends}
-use Rattle.tracer.specs.Sinks.{Outs}
+use Rattle.std.proofs.Common.{◌-◌, ◌≡◌, ℕ, zero, suc, ◌+◌, ◌<◌, ◌≤◌, Bool, true, List, [], ◌∷◌, ◌++◌, Option, length, get_or, take, drop, map, refl, sym, ap}
+use Rattle.std.proofs.Common.{◌∙◌, append_assoc, add-zero, zero-add, arith}
+use Rattle.std.specs.{Io.KnownBytes.Appends, List.flat_map, List.join_with_byte}
+use Rattle.tracer.specs.{Sinks.Outs, declared.writing.Piece.Piece, Pieces.text_of, Pieces.spaced, Pieces.behind_comma, Versions.version_of, TraceText.text_line}
+use Rattle.tracer.specs.{TraceText.numbered, TraceText.message_text, TraceText.head_pieces, TraceText.count_pieces, TraceText.cap_pieces}
+use Rattle.tracer.specs.{TraceText.entry_pieces, TraceText.left_pieces, TraceText.end_pieces, TraceText.spelling, TraceText.lines_of}
 use Rattle.tracer.proofs.SinkLemmas.{appends_then, outs_then, outs_before}
-use Rattle.std.proofs.lemmas.List.{append-nil, take_all}
-use Rattle.std.proofs.lemmas.List.Concat.{flat_map-append}
+use Rattle.std.proofs.lemmas.List.{append-nil, take_all, Concat.flat_map-append}
 use Rattle.std.specs.Prelude.{decimal}
-use Rattle.event_log.specs.Messages.{Message, first_word}
-use Rattle.std.specs.List.{flat_map, join_with_byte}
-use Rattle.tracer.specs.declared.writing.Piece.{Piece}
-use Rattle.tracer.specs.Pieces.{text_of, spaced, behind_comma}
-use Rattle.event_log.specs.declared.entries.Entry.{Entry}
-use Rattle.tracer.specs.Versions.{version_of}
-use Rattle.tracer.specs.TraceText.{text_line, numbered, message_text, head_pieces, count_pieces, cap_pieces, entry_pieces, left_pieces, end_pieces}
-use Rattle.tracer.specs.TraceText.{spelling, lines_of}
+use Rattle.event_log.specs.{Messages.Message, Messages.first_word, declared.entries.Entry.Entry}
 
 -- pieces with a space between each two: the first, and each other behind a space
 pub join_spaced : (w : List ℕ) (ps : List (List ℕ)) → join_with_byte 32 (w ∷ ps) ≡ w ++ flat_map spaced ps

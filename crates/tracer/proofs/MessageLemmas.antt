@@ -1,29 +1,20 @@
 -- A message is spelled and read again, and what is read as a message is spelled so.
-use Rattle.std.proofs.Common.{◌≡◌, ℕ, ◌<◌, ◌≤◌, ◌^◌, ◌==◌, Bool, true, false, not, ◌&&◌, List, [], ◌∷◌, length, map}
-use Rattle.std.proofs.Common.{Result, Ok, Err, Some, refl, sym, ap, subst, ◌∙◌, lt-ltb, lit<, arith}
+use Rattle.std.proofs.Common.{◌≡◌, ℕ, ◌<◌, ◌≤◌, ◌^◌, ◌==◌, Bool, true, false, not, ◌&&◌, List, [], ◌∷◌, length, map, Result, Ok, Err, Some, refl, sym, ap}
+use Rattle.std.proofs.Common.{subst, ◌∙◌, lt-ltb, lit<, arith}
 use Rattle.std.specs.Prelude.{decimal, nat_lt, nat_le}
-use Rattle.std.specs.Str.{bytes_eq}
-use Rattle.std.specs.List.{AllByRecursion, list_all, join_with_byte}
-use Rattle.std.proofs.lemmas.Bool.{and_parts}
-use Rattle.std.proofs.lemmas.List.{length-map}
-use Rattle.std.proofs.lemmas.List.Splits.{length-slice_split, join_with_byte-slice_split}
-use Rattle.std.proofs.lemmas.Slice.Eq.{bytes_eq-Decides}
-use Rattle.event_log.specs.declared.messages.TheConstants.{WORDS}
-use Rattle.event_log.specs.Messages.{Message, IsMessage, padded}
-use Rattle.event_log.specs.Digits.{is_number, number_to}
-use Rattle.event_log.specs.Reading.{◌>>=◌}
-use Rattle.event_log.specs.Rings.{first, rest}
-use Rattle.event_log.proofs.DigitsLemmas.{IsSpelled, number_to-Some, number_to-decimal, spelled_number}
-use Rattle.event_log.proofs.MessageLemmas.{padded_eq}
-use Rattle.tracer.specs.declared.verdicts.Reason.{Reason}
-use Rattle.tracer.specs.declared.verdicts.Reason.TheVariants.{Range}
-use Rattle.tracer.specs.declared.versions.Version.{Version}
-use Rattle.tracer.specs.declared.versions.Version.TheVariants.{One, Two, Three}
-use Rattle.tracer.specs.Versions.{covers, version_of_count}
-use Rattle.tracer.specs.TraceText.{message_text, IsItemOf}
-use Rattle.tracer.specs.Judging.{take_first, in_range, words_of, spells_message, numbers_in, message_in, is_same, is_message, is_within}
-use Rattle.tracer.proofs.ReadLemmas.{bind_ok, wanted_ok, same_ok, in_range_taken, decimal_is_number}
-use Rattle.tracer.proofs.SplitLemmas.{Lacks, digits_alone, split_join, join_lacks, decimal_lacks}
+use Rattle.std.specs.{Str.bytes_eq, List.AllByRecursion, List.list_all, List.join_with_byte}
+use Rattle.std.proofs.lemmas.{Bool.and_parts, List.length-map, List.Splits.length-slice_split, List.Splits.join_with_byte-slice_split}
+use Rattle.std.proofs.lemmas.{Slice.Eq.bytes_eq-Decides}
+use Rattle.event_log.specs.{declared.messages.TheConstants.WORDS, Messages.Message, Messages.IsMessage, Messages.padded, Digits.is_number, Digits.number_to}
+use Rattle.event_log.specs.{Reading.◌>>=◌, Rings.first, Rings.rest}
+use Rattle.event_log.proofs.{DigitsLemmas.IsSpelled, DigitsLemmas.number_to-Some, DigitsLemmas.number_to-decimal, DigitsLemmas.spelled_number}
+use Rattle.event_log.proofs.{MessageLemmas.padded_eq}
+use Rattle.tracer.specs.{declared.verdicts.Reason.Reason, declared.verdicts.Reason.TheVariants.Range, Versions.covers, Versions.version_of_count}
+use Rattle.tracer.specs.{TraceText.message_text, TraceText.IsItemOf, Judging.take_first, Judging.in_range, Judging.words_of, Judging.spells_message}
+use Rattle.tracer.specs.{Judging.numbers_in, Judging.message_in, Judging.is_same, Judging.is_message, Judging.is_within}
+use Rattle.tracer.specs.declared.versions.Version.{Version, TheVariants.One, TheVariants.Two, TheVariants.Three}
+use Rattle.tracer.proofs.{ReadLemmas.bind_ok, ReadLemmas.wanted_ok, ReadLemmas.same_ok, ReadLemmas.in_range_taken, ReadLemmas.decimal_is_number}
+use Rattle.tracer.proofs.{SplitLemmas.Lacks, SplitLemmas.digits_alone, SplitLemmas.split_join, SplitLemmas.join_lacks, SplitLemmas.decimal_lacks}
 
 -- words of 64 bits
 abbrev pub AreWords : List ℕ → Type 0

@@ -4,8 +4,7 @@ use Rattle.std.specs.Str.Parse.{digits_value}
 use Rattle.std.proofs.lemmas.Bool.{cases_Bool, cases_lt}
 use Rattle.event_log.specs.Digits.{is_number, number_to}
 use Rattle.event_log.proofs.DigitsLemmas.{is_number-spelled, number_to-beyond, number_to-not, number_to-Some, number_to-spelled, spelled_number}
-use Rattle.tracer.specs.declared.verdicts.Reason.TheVariants.{Range}
-use Rattle.tracer.specs.Judging.{in_range, or_range}
+use Rattle.tracer.specs.{declared.verdicts.Reason.TheVariants.Range, Judging.in_range, Judging.or_range}
 
 pub is_number_read : (text : List ℕ) (n : ℕ) → number_to 18446744073709551615 text ≡ Some n → is_number text ≡ true
 is_number_read text n is = is_number-spelled text (number_to-Some 18446744073709551615 text n is).spelled

@@ -2,28 +2,20 @@
 use Rattle.std.proofs.Common.{◌≡◌, ℕ, ◌+◌, ◌<◌, ◌≤◌, ◌^◌, Bool, true, false, cond, List, [], ◌∷◌, ◌++◌, length, map, Result, Ok, Err, refl, sym, ap, subst, ◌∙◌}
 use Rattle.std.proofs.Common.{lt-ltb, ltb-true, lit<, arith}
 use Rattle.std.specs.Prelude.{decimal, codes, nat_lt}
-use Rattle.std.specs.Str.{bytes_eq}
-use Rattle.std.specs.List.{join_with_byte}
-use Rattle.std.proofs.lemmas.List.{length-map, map_push}
-use Rattle.std.proofs.lemmas.Slice.Eq.{bytes_eq-Decides}
-use Rattle.event_log.specs.Buffers.{IsCapacity}
-use Rattle.event_log.specs.declared.ids.TheConstants.{BUFFERS, CAPACITY}
-use Rattle.event_log.specs.Reading.{◌>>=◌}
+use Rattle.std.specs.{Str.bytes_eq, List.join_with_byte}
+use Rattle.std.proofs.lemmas.{List.length-map, List.map_push, Slice.Eq.bytes_eq-Decides}
+use Rattle.event_log.specs.{Buffers.IsCapacity, declared.ids.TheConstants.BUFFERS, declared.ids.TheConstants.CAPACITY, Reading.◌>>=◌}
 use Rattle.event_log.proofs.DigitsLemmas.{number_to-decimal}
-use Rattle.tracer.specs.declared.verdicts.Reason.{Reason}
-use Rattle.tracer.specs.declared.verdicts.Reason.TheVariants.{Spelling, Range, OfVersion}
-use Rattle.tracer.specs.declared.next_lines.NextLine.{NextLine}
-use Rattle.tracer.specs.declared.next_lines.NextLine.TheVariants as wants
-use Rattle.tracer.specs.declared.versions.Version.{Version}
-use Rattle.tracer.specs.declared.versions.Version.TheVariants.{One, Two, Three}
-use Rattle.tracer.specs.Versions.{covers}
-use Rattle.tracer.specs.TraceText.{head_pieces, cap_pieces, count_pieces}
+use Rattle.tracer.specs.{declared.verdicts.Reason.Reason, declared.verdicts.Reason.TheVariants.Spelling, declared.verdicts.Reason.TheVariants.Range}
+use Rattle.tracer.specs.{declared.verdicts.Reason.TheVariants.OfVersion, declared.next_lines.NextLine.NextLine, declared.versions.Version.Version}
+use Rattle.tracer.specs.{declared.versions.Version.TheVariants.One, declared.versions.Version.TheVariants.Two, declared.versions.Version.TheVariants.Three}
+use Rattle.tracer.specs.{Versions.covers, TraceText.head_pieces, TraceText.cap_pieces, TraceText.count_pieces}
 use Rattle.tracer.specs.Judging.{Progress, fresh, or_reason, piece_at, word_at, digits_at, ended, in_range, is_value, count_digits, count_line, capacity_digits}
 use Rattle.tracer.specs.Judging.{capacity_line, version_in, head_line, end_line, step}
-use Rattle.tracer.proofs.SplitLemmas.{IsLine, decimal_lacks, pieces_again}
-use Rattle.tracer.proofs.ReadLemmas.{bind_ok, wanted_ok, same_ok, piece_taken, word_taken, digits_taken, ended_taken}
-use Rattle.tracer.proofs.ReadLemmas.{IsInRange, in_range_taken, is_value_taken}
-use Rattle.tracer.proofs.ReadLemmas.{decimal_is_number, is_value_again}
+use Rattle.tracer.proofs.{SplitLemmas.IsLine, SplitLemmas.decimal_lacks, SplitLemmas.pieces_again, ReadLemmas.bind_ok, ReadLemmas.wanted_ok, ReadLemmas.same_ok}
+use Rattle.tracer.proofs.{ReadLemmas.piece_taken, ReadLemmas.word_taken, ReadLemmas.digits_taken, ReadLemmas.ended_taken, ReadLemmas.IsInRange}
+use Rattle.tracer.proofs.{ReadLemmas.in_range_taken, ReadLemmas.is_value_taken, ReadLemmas.decimal_is_number, ReadLemmas.is_value_again}
+use Rattle.tracer.specs.declared.next_lines.NextLine.TheVariants as wants
 
 -- ---- the head and the last line
 

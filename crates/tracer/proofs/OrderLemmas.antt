@@ -1,20 +1,12 @@
 -- Orders of traces: an entry that is due at the head of its trace may come first.
 use Rattle.std.proofs.Common.{◌≡◌, ◌≢◌, ℕ, ◌+◌, ◌<◌, ◌≤◌, Bool, cond, eqb, ◌&&◌, List, [], ◌∷◌, ◌++◌, length, get_or, set, Some, sym, ap, ◌∙◌, subst, inl, inr}
 use Rattle.std.proofs.Common.{arith, count_by}
-use Rattle.std.proofs.lemmas.List.{set_comm, get_or-set_other}
-use Rattle.std.proofs.lemmas.List.Sums.{sum_by_push}
-use Rattle.std.proofs.lemmas.Bool.{cases_eq, cases_lt}
-use Rattle.std.proofs.lemmas.Bool.Decides.{nat_tests}
-use Rattle.std.proofs.lemmas.Option.{get_or_from_slice_get, slice_get-get_or}
-use Rattle.std.proofs.lemmas.List.{get_or_past}
+use Rattle.std.proofs.lemmas.{List.set_comm, List.get_or-set_other, List.Sums.sum_by_push, Bool.cases_eq, Bool.cases_lt, Bool.Decides.nat_tests}
+use Rattle.std.proofs.lemmas.{Option.get_or_from_slice_get, Option.slice_get-get_or, List.get_or_past}
 use Rattle.std.specs.Prelude.{nat_lt, slice_get, slice_index}
-use Rattle.event_log.specs.Messages.{Message}
-use Rattle.event_log.specs.declared.entries.Entry.{Entry}
-use Rattle.event_log.specs.declared.entries.Kind.{Kind}
-use Rattle.event_log.specs.declared.entries.Kind.TheVariants.{Close}
-use Rattle.event_log.specs.Buffers.{items_of, IsAllowedEffect, after_effect, empty_buffers}
-use Rattle.event_log.specs.Runs.{count_of, count_of_kind, is_closed, kind_eq, IsNext, IsRunFrom, after_entry}
-use Rattle.event_log.specs.Traces.{IsInterleaving, HasOpOrderFrom}
+use Rattle.event_log.specs.{Messages.Message, declared.entries.Entry.Entry, declared.entries.Kind.Kind, declared.entries.Kind.TheVariants.Close}
+use Rattle.event_log.specs.{Buffers.items_of, Buffers.IsAllowedEffect, Buffers.after_effect, Buffers.empty_buffers, Runs.count_of, Runs.count_of_kind}
+use Rattle.event_log.specs.{Runs.is_closed, Runs.kind_eq, Runs.IsNext, Runs.IsRunFrom, Runs.after_entry, Traces.IsInterleaving, Traces.HasOpOrderFrom}
 use Rattle.event_log.proofs.RunLemmas.{op_order_from, count_more, count_kind_more}
 use Rattle.tracer.specs.Gather.{RunsHaveOrder, OrdersRunAlike}
 

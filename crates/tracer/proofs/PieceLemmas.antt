@@ -1,15 +1,11 @@
 -- What it says of the pieces of a line that one was read, or that none was left.
-use Rattle.std.proofs.Common.{◌≡◌, ℕ, ◌<◌, ◌≤◌, ◌==◌, Bool, true, false, not, List, [], ◌∷◌, length, drop, Option, Some, None, Err, refl, sym, ap, ◌∙◌}
-use Rattle.std.proofs.Common.{arith}
+use Rattle.std.proofs.Common.{◌≡◌, ℕ, ◌<◌, ◌≤◌, ◌==◌, Bool, true, false, not, List, [], ◌∷◌, length, drop, Option, Some, None, Err, refl, sym, ap, ◌∙◌, arith}
 use Rattle.std.specs.Prelude.{is_none, is_some}
-use denote.Ref.{Bor}
-use Rattle.std.proofs.lemmas.List.{drop_more, drop_all}
-use Rattle.std.proofs.lemmas.List.Splits.{length-slice_split}
+use Rattle.std.proofs.lemmas.List.{drop_more, drop_all, Splits.length-slice_split}
 use Rattle.event_log.specs.Messages.{Message}
-use Rattle.tracer.specs.declared.verdicts.Reason.{Reason}
-use Rattle.tracer.specs.declared.pieces.Pieces.{Pieces}
-use Rattle.tracer.specs.Judging.{piece_at, line_pieces, are_values}
-use Rattle.tracer.specs.Lines.{left_of}
+use Rattle.tracer.specs.{declared.verdicts.Reason.Reason, declared.pieces.Pieces.Pieces, Judging.piece_at, Judging.line_pieces, Judging.are_values}
+use Rattle.tracer.specs.{Lines.left_of}
+use denote.Ref.{Bor}
 
 pub no_piece : (ps : List (List ℕ)) (reason : Reason) → piece_at ps ≡ Err reason → ps ≡ []
 no_piece [] reason e = refl

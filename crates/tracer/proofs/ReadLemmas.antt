@@ -4,12 +4,10 @@ use Rattle.std.proofs.Common.{lit<, arith}
 use Rattle.std.specs.Prelude.{decimal}
 use Rattle.std.specs.Str.{bytes_eq}
 use Rattle.std.proofs.lemmas.Slice.Eq.{bytes_eq-Decides}
-use Rattle.event_log.specs.Digits.{is_number, number_to}
-use Rattle.event_log.specs.Reading.{◌>>=◌}
+use Rattle.event_log.specs.{Digits.is_number, Digits.number_to, Reading.◌>>=◌}
 use Rattle.event_log.proofs.DigitsLemmas.{decimal-spelled, is_number-spelled, number_to-decimal, number_to-spelling, number_to-Some}
-use Rattle.tracer.specs.declared.verdicts.Reason.{Reason}
-use Rattle.tracer.specs.declared.verdicts.Reason.TheVariants.{Spelling}
-use Rattle.tracer.specs.Judging.{or_reason, piece_at, word_at, digits_at, ended, or_range, in_range, is_just, is_value}
+use Rattle.tracer.specs.{declared.verdicts.Reason.Reason, declared.verdicts.Reason.TheVariants.Spelling, Judging.or_reason, Judging.piece_at, Judging.word_at}
+use Rattle.tracer.specs.{Judging.digits_at, Judging.ended, Judging.or_range, Judging.in_range, Judging.is_just, Judging.is_value}
 
 -- the value of a step without a fault
 pub bind_ok : {A B : Type 0} (r : Result A Reason) (f : A → Result B Reason) (y : B) → (r >>= f) ≡ Ok y → (x : A) × (r ≡ Ok x) × (f x ≡ Ok y)

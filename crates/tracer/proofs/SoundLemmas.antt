@@ -1,35 +1,24 @@
 -- A text that gets yes is the trace text of a run, and of where it ends.
-use Rattle.std.proofs.Common.{◌≡◌, inl, inr, ℕ, ◌+◌, ◌<◌, ◌≤◌, ◌==◌, ◌&&◌, Bool, true, false, cond, List, [], ◌∷◌, ◌++◌, length, drop, map, Result, Ok}
-use Rattle.std.proofs.Common.{Err, refl, sym, ap, subst, ◌∙◌, append_assoc, eqb-true, ltb-true, ltb-false, arith}
+use Rattle.std.proofs.Common.{◌≡◌, inl, inr, ℕ, ◌+◌, ◌<◌, ◌≤◌, ◌==◌, ◌&&◌, Bool, true, false, cond, List, [], ◌∷◌, ◌++◌, length, drop, map, Result, Ok, Err}
+use Rattle.std.proofs.Common.{refl, sym, ap, subst, ◌∙◌, append_assoc, eqb-true, ltb-true, ltb-false, arith}
 use Rattle.std.specs.Prelude.{nat_lt}
 use Rattle.std.specs.List.{AllByRecursion, flat_map, join_with_byte}
-use Rattle.std.proofs.lemmas.List.{append-nil, length_push, length-set, length-map, drop_more, drop_all, nil_from_length}
-use Rattle.std.proofs.lemmas.List.Concat.{flat_map-append}
-use Rattle.std.proofs.lemmas.List.Splits.{join_with_byte-slice_split}
-use Rattle.event_log.specs.Messages.{Message}
-use Rattle.event_log.specs.declared.ids.TheConstants.{BUFFERS, ENTRIES}
-use Rattle.event_log.specs.declared.entries.Entry.{Entry}
-use Rattle.event_log.specs.Buffers.{items_of, empty_buffers, IsCapacity}
-use Rattle.event_log.specs.Runs.{IsNext, after_entry, IsRunFrom, IsRun}
+use Rattle.std.proofs.lemmas.List.{append-nil, length_push, length-set, length-map, drop_more, drop_all, nil_from_length, Concat.flat_map-append}
+use Rattle.std.proofs.lemmas.List.{Splits.join_with_byte-slice_split}
+use Rattle.event_log.specs.{Messages.Message, declared.ids.TheConstants.BUFFERS, declared.ids.TheConstants.ENTRIES, declared.entries.Entry.Entry}
+use Rattle.event_log.specs.{Buffers.items_of, Buffers.empty_buffers, Buffers.IsCapacity, Runs.IsNext, Runs.after_entry, Runs.IsRunFrom, Runs.IsRun}
 use Rattle.event_log.proofs.Streams.{taken_put}
-use Rattle.tracer.specs.declared.next_lines.NextLine.TheVariants as wants
-use Rattle.tracer.specs.declared.verdicts.Reason.{Reason}
-use Rattle.tracer.specs.declared.verdicts.Verdict.{Verdict}
-use Rattle.tracer.specs.declared.verdicts.Verdict.TheVariants.{Yes, No}
-use Rattle.tracer.specs.declared.versions.Version.{Version}
-use Rattle.tracer.specs.declared.versions.Version.TheVariants.{One}
-use Rattle.tracer.specs.Versions.{covers, version_of_entry, version_from, version_of}
+use Rattle.tracer.specs.{declared.verdicts.Reason.Reason, declared.verdicts.Verdict.Verdict, declared.verdicts.Verdict.TheVariants.Yes}
+use Rattle.tracer.specs.{declared.verdicts.Verdict.TheVariants.No, declared.versions.Version.Version, declared.versions.Version.TheVariants.One}
+use Rattle.tracer.specs.{Versions.covers, Versions.version_of_entry, Versions.version_from, Versions.version_of, Verdicts.IsTraceOfRun, Judging.Progress}
+use Rattle.tracer.specs.{Judging.opening, Judging.step, Judging.after_line, Judging.line_pieces, Judging.lines_in, Judging.verdict_from, Judging.verdict_of}
+use Rattle.tracer.specs.{Judging.head_line, Judging.end_line, Judging.count_line, Judging.capacity_line, Judging.entries_line, Judging.left_line}
 use Rattle.tracer.specs.TraceText.{text_line, head_pieces, count_pieces, cap_pieces, entry_pieces, left_pieces, end_pieces, numbered, lines_of, spelling}
 use Rattle.tracer.specs.TraceText.{IsEntryOf, IsSpellable, AreItemsOf}
-use Rattle.tracer.specs.Verdicts.{IsTraceOfRun}
-use Rattle.tracer.specs.Judging.{Progress, opening, step, after_line, line_pieces, lines_in, verdict_from, verdict_of, head_line}
-use Rattle.tracer.specs.Judging.{end_line, count_line, capacity_line}
-use Rattle.tracer.specs.Judging.{entries_line, left_line}
-use Rattle.tracer.proofs.KnownLemmas.{known_fresh_from}
-use Rattle.tracer.proofs.EntryLemmas.{progress}
-use Rattle.tracer.proofs.StepLemmas.{left_line_taken, entries_taken}
-use Rattle.tracer.proofs.VersionLemmas.{covers_first_one, covers_same, covers_both, version_more}
+use Rattle.tracer.proofs.{KnownLemmas.known_fresh_from, EntryLemmas.progress, StepLemmas.left_line_taken, StepLemmas.entries_taken}
+use Rattle.tracer.proofs.{VersionLemmas.covers_first_one, VersionLemmas.covers_same, VersionLemmas.covers_both, VersionLemmas.version_more}
 use Rattle.tracer.proofs.OpeningLemmas.{head_taken, end_taken, count_line_taken, opened, behind_cap, capacity_line_taken}
+use Rattle.tracer.specs.declared.next_lines.NextLine.TheVariants as wants
 
 -- ---- one line
 

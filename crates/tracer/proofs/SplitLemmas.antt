@@ -1,16 +1,11 @@
 -- What is joined by a byte that no piece has is cut again into its pieces.
 use Rattle.std.proofs.Common.{◌≡◌, ℕ, ◌+◌, ◌<◌, ◌^◌, ◌==◌, true, false, List, [], ◌∷◌, ◌++◌, Ok, refl, ap, ◌∙◌, append_assoc, eq-eqb, arith}
 use Rattle.std.specs.Prelude.{decimal}
-use Rattle.std.specs.Char.{is_ascii_digit}
-use Rattle.std.specs.Str.{all_ascii_digits}
-use Rattle.std.specs.List.{AllByRecursion, slice_split, join_with_byte}
-use Rattle.std.proofs.lemmas.Bool.Decides.{nat_tests}
-use Rattle.std.proofs.lemmas.List.Elements.{All-from_recursion}
-use Rattle.std.proofs.lemmas.List.Splits.{slice_split_at, slice_split_none}
-use Rattle.std.proofs.lemmas.Bool.{and_parts}
+use Rattle.std.specs.{Char.is_ascii_digit, Str.all_ascii_digits, List.AllByRecursion, List.slice_split, List.join_with_byte}
+use Rattle.std.proofs.lemmas.{Bool.Decides.nat_tests, List.Elements.All-from_recursion, List.Splits.slice_split_at, List.Splits.slice_split_none}
+use Rattle.std.proofs.lemmas.{Bool.and_parts}
 use Rattle.event_log.proofs.DigitsLemmas.{decimal-spelled}
-use Rattle.tracer.specs.TraceText.{text_line}
-use Rattle.tracer.specs.Judging.{Progress, line_pieces, lines_in, step, verdict_from}
+use Rattle.tracer.specs.{TraceText.text_line, Judging.Progress, Judging.line_pieces, Judging.lines_in, Judging.step, Judging.verdict_from}
 use Rattle.tracer.proofs.VerdictLemmas.{line_taken}
 
 -- no byte of the text is this one

@@ -1,37 +1,26 @@
 -- Each line behind the capacities is taken where it may stand, and a line that is taken is spelled so.
-use Rattle.std.proofs.Common.{◌-◌, ◌≡◌, ℕ, ◌+◌, ◌<◌, ◌≤◌, ◌^◌, Bool, true, false, cond, List, [], ◌∷◌, ◌++◌, length, get_or, map, Option, Some, None, Ok}
-use Rattle.std.proofs.Common.{refl, sym, ap, ◌∙◌, inl, inr, ◌⊎◌, lt-ltb, ltb-true, lit<, arith}
+use Rattle.std.proofs.Common.{◌-◌, ◌≡◌, ℕ, ◌+◌, ◌<◌, ◌≤◌, ◌^◌, Bool, true, false, cond, List, [], ◌∷◌, ◌++◌, length, get_or, map, Option, Some, None, Ok, refl}
+use Rattle.std.proofs.Common.{sym, ap, ◌∙◌, inl, inr, ◌⊎◌, lt-ltb, ltb-true, lit<, arith}
 use Rattle.std.specs.Prelude.{decimal, codes, nat_lt, slice_get}
-use Rattle.std.specs.Str.{bytes_eq}
-use Rattle.std.specs.List.{AllByRecursion, list_all, join_with_byte}
-use Rattle.std.proofs.lemmas.List.{length_push}
-use Rattle.std.proofs.lemmas.Slice.Eq.{bytes_eq-Decides}
-use Rattle.event_log.specs.Messages.{Message}
-use Rattle.event_log.specs.declared.ids.TheConstants.{CPUS, THREADS, BUFFERS, ENTRIES}
-use Rattle.event_log.specs.declared.entries.Kind.{Kind}
-use Rattle.event_log.specs.declared.entries.Kind.TheVariants.{Send, Recv, Close, SendClosed, RecvClosed}
-use Rattle.event_log.specs.declared.entries.Entry.{Entry}
-use Rattle.event_log.specs.Buffers.{items_of}
-use Rattle.event_log.specs.Runs.{IsNext, after_entry}
-use Rattle.event_log.specs.Reading.{◌>>=◌}
-use Rattle.tracer.specs.declared.verdicts.Reason.TheVariants.{Spelling, Range, Left}
-use Rattle.tracer.specs.declared.next_lines.NextLine.{NextLine}
-use Rattle.tracer.specs.declared.next_lines.NextLine.TheVariants as wants
-use Rattle.tracer.specs.TraceText.{kind_word, message_text, value_piece, entry_pieces, left_pieces, IsValueOf, IsEntryOf, AreItemsOf}
-use Rattle.tracer.specs.declared.versions.Version.{Version}
-use Rattle.tracer.specs.Versions.{covers, both, version_of_kind, version_of_message, version_of_entry, version_of}
+use Rattle.std.specs.{Str.bytes_eq, List.AllByRecursion, List.list_all, List.join_with_byte}
+use Rattle.std.proofs.lemmas.{List.length_push, Slice.Eq.bytes_eq-Decides, Option.slice_get_within, Bool.and_parts}
+use Rattle.event_log.specs.{Messages.Message, declared.ids.TheConstants.CPUS, declared.ids.TheConstants.THREADS, declared.ids.TheConstants.BUFFERS}
+use Rattle.event_log.specs.{declared.ids.TheConstants.ENTRIES, declared.entries.Entry.Entry, Buffers.items_of, Runs.IsNext, Runs.after_entry, Reading.◌>>=◌}
+use Rattle.event_log.specs.declared.entries.Kind.{Kind, TheVariants.Send, TheVariants.Recv, TheVariants.Close, TheVariants.SendClosed, TheVariants.RecvClosed}
+use Rattle.tracer.specs.{declared.verdicts.Reason.TheVariants.Spelling, declared.verdicts.Reason.TheVariants.Range, declared.verdicts.Reason.TheVariants.Left}
+use Rattle.tracer.specs.{declared.next_lines.NextLine.NextLine, TraceText.kind_word, TraceText.message_text, TraceText.value_piece, TraceText.entry_pieces}
+use Rattle.tracer.specs.{TraceText.left_pieces, TraceText.IsValueOf, TraceText.IsEntryOf, TraceText.AreItemsOf, declared.versions.Version.Version}
+use Rattle.tracer.specs.{Versions.covers, Versions.both, Versions.version_of_kind, Versions.version_of_message, Versions.version_of_entry, Versions.version_of}
 use Rattle.tracer.specs.Judging.{Digits, Seen, Progress, or_reason, piece_at, word_at, is_value, is_message, is_within, are_values, is_left, is_of_version}
-use Rattle.tracer.specs.Judging.{spells_message, spells_value, entry_digits, entry_in}
-use Rattle.tracer.specs.Judging.{entry_among, entry_line, left_digits, left_line, entries_line, step}
-use Rattle.tracer.proofs.SplitLemmas.{Lacks, IsLine, decimal_lacks, pieces_again}
-use Rattle.tracer.proofs.ReadLemmas.{bind_ok, wanted_ok, same_ok, piece_taken, word_taken, is_value_taken, is_value_again}
-use Rattle.tracer.proofs.VersionLemmas.{covers_both, version_more}
+use Rattle.tracer.specs.Judging.{spells_message, spells_value, entry_digits, entry_in, entry_among, entry_line, left_digits, left_line, entries_line, step}
+use Rattle.tracer.proofs.{SplitLemmas.Lacks, SplitLemmas.IsLine, SplitLemmas.decimal_lacks, SplitLemmas.pieces_again, ReadLemmas.bind_ok, ReadLemmas.wanted_ok}
+use Rattle.tracer.proofs.{ReadLemmas.same_ok, ReadLemmas.piece_taken, ReadLemmas.word_taken, ReadLemmas.is_value_taken, ReadLemmas.is_value_again}
+use Rattle.tracer.proofs.{VersionLemmas.covers_both, VersionLemmas.version_more, KnownLemmas.HasNone, KnownLemmas.same_some, KnownLemmas.seen_of}
+use Rattle.tracer.proofs.{KnownLemmas.known_from, KnownLemmas.length-known_from, KnownLemmas.slice_get-known, KnownLemmas.among_again, KnownLemmas.among_taken}
+use Rattle.tracer.proofs.{EntryLemmas.progress, EntryLemmas.behind_e, EntryLemmas.shape_of, EntryLemmas.IsSmall, EntryLemmas.of_version_again}
+use Rattle.tracer.proofs.{EntryLemmas.entry_digits_taken, EntryLemmas.entry_digits_again, EntryLemmas.entry_in_taken, EntryLemmas.entry_in_again}
 use Rattle.tracer.proofs.MessageLemmas.{same_pieces, spells_message_again, is_message_again, is_within_again, message_lacks, item_taken, is_message_taken}
-use Rattle.tracer.proofs.KnownLemmas.{HasNone, same_some, seen_of, known_from, length-known_from, slice_get-known, among_again, among_taken}
-use Rattle.std.proofs.lemmas.Option.{slice_get_within}
-use Rattle.std.proofs.lemmas.Bool.{and_parts}
-use Rattle.tracer.proofs.EntryLemmas.{progress, behind_e, shape_of, IsSmall, of_version_again, entry_digits_taken}
-use Rattle.tracer.proofs.EntryLemmas.{entry_digits_again, entry_in_taken, entry_in_again}
+use Rattle.tracer.specs.declared.next_lines.NextLine.TheVariants as wants
 
 -- ---- an entry
 

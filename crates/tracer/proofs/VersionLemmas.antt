@@ -1,8 +1,7 @@
 -- Versions are in a line, and each entry that is read keeps the lowest one.
 use Rattle.std.proofs.Common.{◌≡◌, true, List, [], ◌∷◌, ◌++◌, refl}
 use Rattle.event_log.specs.declared.entries.Entry.{Entry}
-use Rattle.tracer.specs.declared.versions.Version.{Version}
-use Rattle.tracer.specs.declared.versions.Version.TheVariants.{One, Two, Three}
+use Rattle.tracer.specs.declared.versions.Version.{Version, TheVariants.One, TheVariants.Two, TheVariants.Three}
 use Rattle.tracer.specs.Versions.{covers, both, version_of_entry, version_from, version_of}
 
 pub covers_itself : (v : Version) → covers v v ≡ true

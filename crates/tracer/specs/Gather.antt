@@ -1,10 +1,7 @@
 -- Which order of several traces is gathered.
 use Rattle.std.specs.Prelude.{◌≡◌, ◌<◌, ℕ, List, [], ◌∷◌, ◌++◌, Option, Some, map, Vec, slice_get, slice_index, slice_index_or, slice_set}
 use Rattle.std.specs.Global.{Global}
-use Rattle.event_log.specs.Messages.{Message}
-use Rattle.event_log.specs.declared.entries.Entry.{Entry}
-use Rattle.event_log.specs.Runs.{count_of, IsRun}
-use Rattle.event_log.specs.Traces.{IsInterleaving, HasOpOrder}
+use Rattle.event_log.specs.{Messages.Message, declared.entries.Entry.Entry, Runs.count_of, Runs.IsRun, Traces.IsInterleaving, Traces.HasOpOrder}
 
 -- the traces that vectors hold
 abbrev pub traces_in : List (Vec Entry Global) → List (List Entry)

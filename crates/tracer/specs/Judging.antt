@@ -1,26 +1,18 @@
 -- How a trace text is judged: line by line, up to the first fault.
-use Rattle.std.specs.Prelude.{◌-◌, ◌≡◌, ℕ, ◌+◌, Bool, true, false, ◌&&◌, ◌==◌, nat_lt, nat_le, List, [], ◌∷◌, ◌++◌, length, codes, is_ok}
-use Rattle.std.specs.Prelude.{Option, Some, None, Result, Ok, Err, slice_get, slice_set, if◌then◌else◌}
-use Rattle.std.specs.List.{list_all, slice_split}
-use Rattle.std.specs.Str.{bytes_eq}
-use Rattle.event_log.specs.Messages.{Message, no_message}
-use Rattle.event_log.specs.declared.messages.TheConstants.{WORDS}
-use Rattle.event_log.specs.declared.ids.TheConstants.{CPUS, THREADS, BUFFERS, CAPACITY, ENTRIES}
-use Rattle.event_log.specs.declared.entries.Kind.{Kind}
+use Rattle.std.specs.Prelude.{◌-◌, ◌≡◌, ℕ, ◌+◌, Bool, true, false, ◌&&◌, ◌==◌, nat_lt, nat_le, List, [], ◌∷◌, ◌++◌, length, codes, is_ok, Option, Some, None}
+use Rattle.std.specs.Prelude.{Result, Ok, Err, slice_get, slice_set, if◌then◌else◌}
+use Rattle.std.specs.{List.list_all, List.slice_split, Str.bytes_eq}
+use Rattle.event_log.specs.{Messages.Message, Messages.no_message, declared.messages.TheConstants.WORDS, declared.ids.TheConstants.CPUS}
+use Rattle.event_log.specs.{declared.ids.TheConstants.THREADS, declared.ids.TheConstants.BUFFERS, declared.ids.TheConstants.CAPACITY}
+use Rattle.event_log.specs.{declared.ids.TheConstants.ENTRIES, declared.entries.Kind.Kind, declared.entries.Entry.Entry, Runs.Group, Runs.Sends, Runs.Receives}
+use Rattle.event_log.specs.{Runs.Closes, Runs.group_of, Runs.same_group, Digits.is_number, Digits.number_to, Reading.◌>>=◌}
 use Rattle.event_log.specs.declared.entries.Kind.TheVariants.{Send, Recv, Close, SendClosed, RecvClosed}
-use Rattle.event_log.specs.declared.entries.Entry.{Entry}
-use Rattle.event_log.specs.Runs.{Group, Sends, Receives, Closes, group_of, same_group}
-use Rattle.event_log.specs.Digits.{is_number, number_to}
-use Rattle.event_log.specs.Reading.{◌>>=◌}
-use Rattle.tracer.specs.declared.verdicts.Reason.{Reason}
+use Rattle.tracer.specs.{declared.verdicts.Reason.Reason, declared.verdicts.Verdict.Verdict, declared.verdicts.Verdict.TheVariants.Yes}
+use Rattle.tracer.specs.{declared.verdicts.Verdict.TheVariants.No, declared.next_lines.NextLine.NextLine, declared.versions.Version.Version}
+use Rattle.tracer.specs.{declared.versions.Version.TheVariants.One, declared.versions.Version.TheVariants.Two, declared.versions.Version.TheVariants.Three}
+use Rattle.tracer.specs.{Versions.covers, Versions.both, Versions.version_of_kind, Versions.version_of_count, Versions.version_of_entry}
 use Rattle.tracer.specs.declared.verdicts.Reason.TheVariants.{Spelling, Range, Op, Pos, Full, EmptyTake, WrongValue, Left, OfVersion, CloseState, NotEmpty}
-use Rattle.tracer.specs.declared.verdicts.Verdict.{Verdict}
-use Rattle.tracer.specs.declared.verdicts.Verdict.TheVariants.{Yes, No}
-use Rattle.tracer.specs.declared.next_lines.NextLine.{NextLine}
 use Rattle.tracer.specs.declared.next_lines.NextLine.TheVariants as wants
-use Rattle.tracer.specs.declared.versions.Version.{Version}
-use Rattle.tracer.specs.declared.versions.Version.TheVariants.{One, Two, Three}
-use Rattle.tracer.specs.Versions.{covers, both, version_of_kind, version_of_count, version_of_entry}
 
 -- what a function returned, seen by view, is what reading gives
 abbrev pub GivesOrReason : {X Y : Type 0} → (X → Y) → Result X Reason → Result Y Reason → Type 0

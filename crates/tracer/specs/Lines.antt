@@ -1,8 +1,6 @@
 -- What the judge's values are seen as.
 use Rattle.std.specs.Prelude.{ℕ, List, [], Some, None}
-use Rattle.tracer.specs.declared.pieces.Pieces.{Pieces}
-use Rattle.tracer.specs.declared.lines.EntryDigits.{EntryDigits}
-use Rattle.tracer.specs.Judging.{line_pieces, Digits}
+use Rattle.tracer.specs.{declared.pieces.Pieces.Pieces, declared.lines.EntryDigits.EntryDigits, Judging.line_pieces, Judging.Digits}
 
 -- the pieces that are still to be read
 abbrev pub left_of : Pieces → List (List ℕ)

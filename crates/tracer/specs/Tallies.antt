@@ -1,9 +1,6 @@
 -- What the judge's tallies are seen as, and what a step leaves.
 use Rattle.std.specs.Prelude.{◌≡◌, Result, Ok, Err, map}
-use Rattle.tracer.specs.declared.verdicts.Reason.{Reason}
-use Rattle.tracer.specs.declared.tally.Tally.{Tally}
-use Rattle.tracer.specs.declared.judge.Judge.{Judge}
-use Rattle.tracer.specs.Judging.{Seen, Progress}
+use Rattle.tracer.specs.{declared.verdicts.Reason.Reason, declared.tally.Tally.Tally, declared.judge.Judge.Judge, Judging.Seen, Judging.Progress}
 
 abbrev pub seen_in : Tally → Seen
 seen_in t = record { capacity = t.capacity; items = t.items; ops = t.ops; sends = t.sends; recvs = t.recvs; closes = t.closes }

@@ -1,9 +1,6 @@
 -- What a text must be so that the judge says yes, in the words of the buffers.
 use Rattle.std.specs.Prelude.{ℕ, List}
-use Rattle.event_log.specs.Messages.{Message}
-use Rattle.event_log.specs.declared.entries.Entry.{Entry}
-use Rattle.event_log.specs.Runs.{IsRun}
-use Rattle.event_log.specs.Streams.{IsFirstInFirstOut}
+use Rattle.event_log.specs.{Messages.Message, declared.entries.Entry.Entry, Runs.IsRun, Streams.IsFirstInFirstOut}
 use Rattle.tracer.specs.TraceText.{IsTraceText}
 
 -- the text spells entries that are a run, and what it says is left is where the run ends: for each buffer, what was put is what was taken, in that

@@ -1,11 +1,8 @@
 -- Which version of the trace text can spell a trace.
 use Rattle.std.specs.Prelude.{ℕ, Bool, true, false, List, [], ◌∷◌, length, nat_lt, if◌then◌else◌}
-use Rattle.event_log.specs.Messages.{Message}
-use Rattle.event_log.specs.declared.entries.Kind.{Kind}
+use Rattle.event_log.specs.{Messages.Message, declared.entries.Kind.Kind, declared.entries.Entry.Entry}
 use Rattle.event_log.specs.declared.entries.Kind.TheVariants.{Send, Recv, Close, SendClosed, RecvClosed}
-use Rattle.event_log.specs.declared.entries.Entry.{Entry}
-use Rattle.tracer.specs.declared.versions.Version.{Version}
-use Rattle.tracer.specs.declared.versions.Version.TheVariants.{One, Two, Three}
+use Rattle.tracer.specs.declared.versions.Version.{Version, TheVariants.One, TheVariants.Two, TheVariants.Three}
 
 -- a text of the first version can hold all that one of the other can
 abbrev pub covers : Version → Version → Bool

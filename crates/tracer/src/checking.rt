@@ -1,9 +1,7 @@
 //! The verdict on a text. No call takes memory or waits.
 
 ghost use Rattle.std.specs.Prelude.{◌≡◌};
-ghost use Rattle.tracer.specs.declared.verdicts.Verdict.TheVariants.{Yes as SaysYes};
-ghost use Rattle.tracer.specs.Judging.{verdict_of};
-ghost use Rattle.tracer.specs.Verdicts.{IsTraceOfRun};
+ghost use Rattle.tracer.specs.{declared.verdicts.Verdict.TheVariants.Yes as SaysYes, Judging.verdict_of, Verdicts.IsTraceOfRun};
 
 use crate::judge::Judge;
 use crate::laws::yes_is_right;

@@ -2,8 +2,7 @@
 
 ghost use Rattle.std.specs.Prelude.{◌≡◌, ◌≤◌};
 ghost use Rattle.event_log.specs.declared.ids.TheConstants.{CAPACITY};
-ghost use Rattle.tracer.specs.Judging.{put_in, take_first, item_effect};
-ghost use Rattle.tracer.specs.Tallies.{StepsTo};
+ghost use Rattle.tracer.specs.{Judging.put_in, Judging.take_first, Judging.item_effect, Tallies.StepsTo};
 
 use crate::verdicts::Reason;
 use event_log::{CAPACITY, Kind, Msg, Ring};

@@ -2,8 +2,7 @@
 
 ghost use Rattle.std.specs.Prelude.{◌≡◌, ◌<◌, map};
 ghost use Rattle.event_log.specs.declared.ids.TheConstants.{ENTRIES};
-ghost use Rattle.tracer.specs.Judging.{entry_among};
-ghost use Rattle.tracer.specs.Tallies.{seen_in, StepsTo};
+ghost use Rattle.tracer.specs.{Judging.entry_among, Tallies.seen_in, Tallies.StepsTo};
 
 use crate::tally::Tally;
 use crate::verdicts::Reason;

@@ -1,13 +1,8 @@
 //! What the judge's yes says: a law, with nothing to run.
 
 ghost use Rattle.std.specs.Prelude.{◌≡◌, ℕ, List};
-ghost use Rattle.event_log.specs.declared.entries.Entry.{Entry as AnEntry};
-ghost use Rattle.event_log.specs.Messages.{Message};
-ghost use Rattle.event_log.specs.Runs.{IsRun};
-ghost use Rattle.tracer.specs.declared.verdicts.Verdict.TheVariants.{Yes as SaysYes};
-ghost use Rattle.tracer.specs.Judging.{verdict_of};
-ghost use Rattle.tracer.specs.TraceText.{IsTraceText};
-ghost use Rattle.tracer.specs.Verdicts.{IsTraceOfRun};
+ghost use Rattle.event_log.specs.{declared.entries.Entry.Entry as AnEntry, Messages.Message, Runs.IsRun};
+ghost use Rattle.tracer.specs.{declared.verdicts.Verdict.TheVariants.Yes as SaysYes, Judging.verdict_of, TraceText.IsTraceText, Verdicts.IsTraceOfRun};
 
 /// A law: the judge says yes exactly to the texts that spell a run and where it ends. So the text
 /// that `write_trace` writes of a run, and of what it leaves, gets yes.

@@ -2,9 +2,8 @@
 
 ghost use Rattle.std.specs.Prelude.{◌≡◌, ◌≤◌, ◌<◌, IfOk, codes};
 ghost use Rattle.event_log.specs.declared.ids.TheConstants.{ENTRIES};
-ghost use Rattle.tracer.specs.Judging.{GivesOrReason, kind_in, has_message, value_in, is_of_version, entry_digits, entry_in};
-ghost use Rattle.tracer.specs.Judging.{capacity_digits, left_digits, count_digits};
-ghost use Rattle.tracer.specs.Lines.{left_of, digits_of};
+ghost use Rattle.tracer.specs.{Judging.GivesOrReason, Judging.kind_in, Judging.has_message, Judging.value_in, Judging.is_of_version, Judging.entry_digits};
+ghost use Rattle.tracer.specs.{Judging.entry_in, Judging.capacity_digits, Judging.left_digits, Judging.count_digits, Lines.left_of, Lines.digits_of};
 
 use crate::numerals::Numeral;
 use crate::pieces::{Pieces, digits, ended, is_value, piece, word};

@@ -2,8 +2,8 @@
 
 ghost use Rattle.std.specs.Prelude.{◌≡◌, ◌+◌, ◌≤◌, ◌==◌, ◌∷◌, [], ℕ, length, IfNone, IfSome, IfOk};
 ghost use Rattle.std.specs.List.{slice_split};
-ghost use Rattle.tracer.specs.Judging.{GivesOrReason, piece_at, word_at, digits_at, ended, in_range, is_value};
-ghost use Rattle.tracer.specs.Lines.{left_of};
+ghost use Rattle.tracer.specs.{Judging.GivesOrReason, Judging.piece_at, Judging.word_at, Judging.digits_at, Judging.ended, Judging.in_range, Judging.is_value};
+ghost use Rattle.tracer.specs.{Lines.left_of};
 
 use crate::numerals::Numeral;
 use crate::verdicts::Reason;

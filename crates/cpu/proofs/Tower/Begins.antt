@@ -1,43 +1,25 @@
 -- Each poll of a call is a step of the table: of one that goes on, and of one that begins, where the call begins and its caller takes its
 -- place at the lock in one step.
 use Rattle.std.proofs.Common.{◌≡◌, ◌+◌, ◌<◌, false, ◌&&◌, List, length, slice_set, Option, Some, None, option_map, refl, ap, sym, ◌∙◌, subst, arith}
-use Rattle.event_log.specs.declared.entries.Entry.{Entry}
-use Rattle.event_log.specs.declared.ids.BufId.{BufId}
-use Rattle.event_log.specs.declared.ids.CpuId.{CpuId}
-use Rattle.event_log.specs.declared.ids.Tid.{Tid}
-use Rattle.event_log.specs.Actions.{phase}
-use Rattle.event_log.specs.Messages.{no_message}
-use Rattle.guest.specs.declared.instructions.Instruction.{Instruction}
-use Rattle.guest.specs.declared.instructions.Instruction.TheVariants as instruction
-use Rattle.guest.specs.State.{State, at_start, next_of, message_from}
+use Rattle.event_log.specs.{declared.entries.Entry.Entry, declared.ids.BufId.BufId, declared.ids.CpuId.CpuId, declared.ids.Tid.Tid, Actions.phase}
+use Rattle.event_log.specs.{Messages.no_message, Runs.Sends, Runs.Receives, Runs.Closes}
+use Rattle.guest.specs.{declared.instructions.Instruction.Instruction, State.State, State.at_start, State.next_of, State.message_from}
 use Rattle.thread_blocks.specs.Queues.{is_in}
-use Rattle.layer_traits.specs.declared.calls.Call.{Call}
-use Rattle.layer_traits.specs.declared.calls.Effect.{Effect}
-use Rattle.layer_traits.specs.declared.calls.Reply.{Reply}
-use Rattle.layer_traits.specs.declared.steps.Step.TheVariants.{Stepped}
-use Rattle.layer_traits.specs.declared.call_states.CallState.{CallState}
-use Rattle.layer_traits.specs.Along.{IsStep}
-use Rattle.layer_traits.specs.LockLaw.{slept_for}
-use Rattle.layer_traits.specs.Places.{is_thread}
-use Rattle.layer_traits.specs.Plans.{Left, Follows, is_in_section}
-use Rattle.layer_traits.specs.BufferLaw.{Buffering, begun_at, fifo_plan, going, going_at, plan_at, call_state_of}
-use Rattle.event_log.specs.Runs.{Sends, Receives, Closes}
-use Rattle.layer_traits.specs.declared.call_states.Stage.{Stage}
-use Rattle.layer_traits.specs.declared.call_states.Stage.TheVariants.{Idle, Acquires}
-use Rattle.cpu.specs.Table.Setups.{Setup, Call as TableCall, Private, new_thread, program_of, thread_at}
-use Rattle.cpu.specs.Table.Choice.{Goes, at_instruction, choice, new_call}
-use Rattle.cpu.specs.Table.Steps.{cpu_step, halted_at, halted_by}
-use Rattle.cpu.specs.Tower.Views.{TowerOut, tower}
+use Rattle.layer_traits.specs.{declared.calls.Call.Call, declared.calls.Effect.Effect, declared.calls.Reply.Reply, declared.steps.Step.TheVariants.Stepped}
+use Rattle.layer_traits.specs.{Along.IsStep, LockLaw.slept_for, Places.is_thread, Plans.Left, Plans.Follows, Plans.is_in_section, BufferLaw.Buffering}
+use Rattle.layer_traits.specs.{BufferLaw.begun_at, BufferLaw.fifo_plan, BufferLaw.going, BufferLaw.going_at, BufferLaw.plan_at, BufferLaw.call_state_of}
+use Rattle.layer_traits.specs.declared.call_states.{CallState.CallState, Stage.Stage, Stage.TheVariants.Idle, Stage.TheVariants.Acquires}
+use Rattle.cpu.specs.{Table.Setups.Setup, Table.Setups.Call as TableCall, Table.Setups.Private, Table.Setups.new_thread, Table.Setups.program_of}
+use Rattle.cpu.specs.{Table.Setups.thread_at, Table.Choice.Goes, Table.Choice.at_instruction, Table.Choice.choice, Table.Choice.new_call, Table.Steps.cpu_step}
+use Rattle.cpu.specs.{Table.Steps.halted_at, Table.Steps.halted_by, Tower.Views.TowerOut, Tower.Views.tower}
 use Rattle.cpu.specs.Tower.Privates.{call_from, guest_at, private_after, private_of, thread_from, thread_of, threads_in, tid}
-use Rattle.cpu.specs.Tower.Composed.{AsksFor, HandIsKnown, IsBeginning, IsGoing, IsLine, Stands, asks, was_handed, enters, tries, waits, was_woken}
-use Rattle.cpu.specs.Tower.Composed.{asks_again, was_handed_again, signals, signals_own, releases, has_signalled, has_signalled_own, has_released, named}
-use Rattle.cpu.proofs.Tower.Callers.{HasRoom, Site, awake, caller_in}
-use Rattle.cpu.proofs.Tower.Numbered.{numbered_at, own_at, part_at, parts, threads_at}
-use Rattle.cpu.proofs.Tower.Lines.{HasHad, from, own, call_state}
-use Rattle.cpu.proofs.Tower.Composition.{asks_line}
-use Rattle.cpu.proofs.Tower.Plans.{plans_are_lines}
-use Rattle.cpu.proofs.Tower.Polled.{Polled, Way}
-use Rattle.cpu.proofs.Tower.Polls.{begins_so, choice_current, choice_hand, line_is_step, step_goes}
+use Rattle.cpu.specs.Tower.Composed.{AsksFor, HandIsKnown, IsBeginning, IsGoing, IsLine, Stands, asks, was_handed, enters, tries, waits, was_woken, asks_again}
+use Rattle.cpu.specs.Tower.Composed.{was_handed_again, signals, signals_own, releases, has_signalled, has_signalled_own, has_released, named}
+use Rattle.cpu.proofs.Tower.{Callers.HasRoom, Callers.Site, Callers.awake, Callers.caller_in, Numbered.numbered_at, Numbered.own_at, Numbered.part_at}
+use Rattle.cpu.proofs.Tower.{Numbered.parts, Numbered.threads_at, Lines.HasHad, Lines.from, Lines.own, Lines.call_state, Composition.asks_line}
+use Rattle.cpu.proofs.Tower.{Plans.plans_are_lines, Polled.Polled, Polled.Way, Polls.begins_so, Polls.choice_current, Polls.choice_hand, Polls.line_is_step}
+use Rattle.cpu.proofs.Tower.{Polls.step_goes}
+use Rattle.guest.specs.declared.instructions.Instruction.TheVariants as instruction
 
 -- the table's thread of a number
 pub thread_here : (own : Buffering) (guests : List State) (trace : List Entry) (t : Tid) → t.0 < length guests

@@ -1,40 +1,24 @@
 -- The plan of a begun call is a line of the table: where its caller neither slept nor waited; and where it did, the poll goes on with the
 -- next section.
 use Rattle.std.proofs.Common.{◌≡◌, ◌≢◌, ℕ, ◌<◌, false, ◌&&◌, List, length, get_or, slice_set, Option, Some, None, is_some, refl, ap, sym, ◌∙◌, subst}
-use Rattle.std.proofs.lemmas.Bool.{ne_eqb}
+use Rattle.std.proofs.lemmas.{Bool.ne_eqb, List.get_or-set_same, List.get_or-set_other, List.length-set, List.set-get_or}
 use Rattle.thread_blocks.proofs.Members.{same_tid_self}
-use Rattle.std.proofs.lemmas.List.{get_or-set_same, get_or-set_other, length-set, set-get_or}
-use Rattle.event_log.specs.declared.entries.Entry.{Entry}
-use Rattle.event_log.specs.declared.ids.BufId.{BufId}
-use Rattle.event_log.specs.declared.ids.CpuId.{CpuId}
-use Rattle.event_log.specs.declared.ids.Tid.{Tid}
+use Rattle.event_log.specs.declared.{entries.Entry.Entry, ids.BufId.BufId, ids.CpuId.CpuId, ids.Tid.Tid}
 use Rattle.guest.specs.State.{State, at_start}
 use Rattle.thread_blocks.specs.Queues.{is_in}
-use Rattle.layer_traits.specs.declared.calls.Call.{Call as TowerCall}
-use Rattle.layer_traits.specs.declared.calls.Effect.{Effect}
-use Rattle.layer_traits.specs.declared.calls.Reply.{Reply}
-use Rattle.layer_traits.specs.declared.locked.QEdit.TheVariants.{Acquire, Release}
-use Rattle.layer_traits.specs.declared.conditions.CvLeave.TheVariants.{Wait}
-use Rattle.layer_traits.specs.declared.buffer_edits.BufferEdit.{BufferEdit}
-use Rattle.layer_traits.specs.declared.buffer_edits.BufferOut.{BufferOut}
-use Rattle.layer_traits.specs.declared.call_states.CallState.{CallState}
-use Rattle.layer_traits.specs.BufferProtocol.{buffer_rules}
-use Rattle.layer_traits.specs.BufferLaw.{BufferPlan, Buffering, buffer_of, chained, fifo_plan, going, left_recorded, plan_at, plan_of, plan_on, no_call}
-use Rattle.layer_traits.specs.BufferLaw.{side_of as tower_side, call_state_of}
-use Rattle.layer_traits.specs.Conditions.{CvCall}
-use Rattle.layer_traits.specs.CvLaw.{Waiting, cv_plan, cv_plan_for, left_waiting}
-use Rattle.layer_traits.specs.LockLaw.{plan_for, slept_for}
-use Rattle.layer_traits.specs.Locking.{lock_moves}
-use Rattle.layer_traits.specs.Plans.{Plan, raised}
-use Rattle.layer_traits.specs.declared.call_states.Stage.{Stage}
+use Rattle.layer_traits.specs.declared.{calls.Call.Call as TowerCall, calls.Effect.Effect, calls.Reply.Reply, locked.QEdit.TheVariants.Acquire}
+use Rattle.layer_traits.specs.declared.{locked.QEdit.TheVariants.Release, conditions.CvLeave.TheVariants.Wait, buffer_edits.BufferEdit.BufferEdit}
+use Rattle.layer_traits.specs.declared.{buffer_edits.BufferOut.BufferOut, call_states.CallState.CallState, call_states.Stage.Stage}
+use Rattle.layer_traits.specs.{BufferProtocol.buffer_rules, BufferLaw.BufferPlan, BufferLaw.Buffering, BufferLaw.buffer_of, BufferLaw.chained}
+use Rattle.layer_traits.specs.{BufferLaw.fifo_plan, BufferLaw.going, BufferLaw.left_recorded, BufferLaw.plan_at, BufferLaw.plan_of, BufferLaw.plan_on}
+use Rattle.layer_traits.specs.{BufferLaw.no_call, BufferLaw.side_of as tower_side, BufferLaw.call_state_of, Conditions.CvCall, CvLaw.Waiting, CvLaw.cv_plan}
+use Rattle.layer_traits.specs.{CvLaw.cv_plan_for, CvLaw.left_waiting, LockLaw.plan_for, LockLaw.slept_for, Locking.lock_moves, Plans.Plan, Plans.raised}
 use Rattle.layer_traits.specs.declared.call_states.Stage.TheVariants.{Acquires, Enters, Tries, Waits, AcquiresAgain, Signals, SignalsOwn, Releases}
-use Rattle.cpu.specs.Table.Setups.{Setup}
-use Rattle.cpu.specs.Tower.Views.{TowerAnswer, TowerName, TowerOut}
+use Rattle.cpu.specs.{Table.Setups.Setup, Tower.Views.TowerAnswer, Tower.Views.TowerName, Tower.Views.TowerOut, Tower.Composed.IsLine, Tower.Composed.IsLined}
 use Rattle.cpu.specs.Tower.Privates.{guest_at, guests_after, private_after, private_of, thread_from, tid, trace_after}
-use Rattle.cpu.specs.Tower.Composed.{IsLine, IsLined}
-use Rattle.cpu.proofs.Tower.Callers.{Caller, Runner, Site, at_next, awake, call_state_at}
-use Rattle.cpu.proofs.Tower.Numbered.{changed, goes, own_at, part_at, parts, threads_at}
-use Rattle.cpu.proofs.Tower.Lines.{HasHad, after, e, from, g, own, call_state, threads, with_call, k}
+use Rattle.cpu.proofs.Tower.{Callers.Caller, Callers.Runner, Callers.Site, Callers.at_next, Callers.awake, Callers.call_state_at, Numbered.changed}
+use Rattle.cpu.proofs.Tower.{Numbered.goes, Numbered.own_at, Numbered.part_at, Numbered.parts, Numbered.threads_at, Lines.HasHad, Lines.after, Lines.e}
+use Rattle.cpu.proofs.Tower.{Lines.from, Lines.g, Lines.own, Lines.call_state, Lines.threads, Lines.with_call, Lines.k}
 use Rattle.cpu.proofs.Tower.Composition.{asks_line, asks_again_line, enters_line, tries_line, waits_line, signals_line, own_signals_line, releases_line}
 
 -- the plan of a poll of this call is a line of the table

@@ -1,46 +1,31 @@
 -- The plan of each section of a call is a line of the table: its caller asks, enters, tries, waits, signals and releases.
 use Rattle.std.proofs.Common.{◌≡◌, ◌⊎◌, inl, inr, ℕ, Bool, true, false, List, [], ◌∷◌, ◌++◌, slice_set, Option, Some, None, is_some, if◌then◌else◌, refl, ap}
 use Rattle.std.proofs.Common.{sym, ◌∙◌, subst}
-use Rattle.event_log.specs.declared.ids.Tid.{Tid}
-use Rattle.event_log.specs.Messages.{Message}
+use Rattle.event_log.specs.{declared.ids.Tid.Tid, Messages.Message}
 use Rattle.guest.specs.State.{next_of}
 use Rattle.thread_blocks.specs.Queues.{first}
-use Rattle.layer_traits.specs.declared.calls.Effect.{Effect}
-use Rattle.layer_traits.specs.declared.calls.Reply.{Reply}
-use Rattle.layer_traits.specs.declared.locked.QEdit.TheVariants.{Acquire, Inside, Release}
-use Rattle.layer_traits.specs.declared.locked.QOut.TheVariants as lock
-use Rattle.layer_traits.specs.declared.locked.Side.{Side}
-use Rattle.layer_traits.specs.declared.locked.Side.TheVariants.{Receivers, Senders}
-use Rattle.layer_traits.specs.declared.conditions.CvEdit.TheVariants.{Edit, SignalFront}
-use Rattle.layer_traits.specs.declared.conditions.CvLeave.TheVariants.{Leave, Wait}
-use Rattle.layer_traits.specs.declared.conditions.CvOut.{CvOut}
-use Rattle.layer_traits.specs.declared.conditions.CvOut.TheVariants as cv
-use Rattle.layer_traits.specs.declared.buffer_edits.BufferOut.{BufferOut}
+use Rattle.layer_traits.specs.declared.{calls.Effect.Effect, calls.Reply.Reply, locked.QEdit.TheVariants.Acquire, locked.QEdit.TheVariants.Inside}
+use Rattle.layer_traits.specs.declared.{locked.QEdit.TheVariants.Release, locked.Side.Side, locked.Side.TheVariants.Receivers, locked.Side.TheVariants.Senders}
+use Rattle.layer_traits.specs.declared.{conditions.CvEdit.TheVariants.Edit, conditions.CvEdit.TheVariants.SignalFront, conditions.CvLeave.TheVariants.Leave}
+use Rattle.layer_traits.specs.declared.{conditions.CvLeave.TheVariants.Wait, conditions.CvOut.CvOut, buffer_edits.BufferOut.BufferOut}
+use Rattle.layer_traits.specs.declared.{call_states.CallState.CallState, call_states.Stage.Stage}
 use Rattle.layer_traits.specs.declared.buffer_edits.BufferOut.TheVariants.{Entered, NotYet, Done, WasShut}
-use Rattle.layer_traits.specs.declared.queues.QueueAnswer.TheVariants as told
-use Rattle.layer_traits.specs.declared.call_states.CallState.{CallState}
-use Rattle.layer_traits.specs.BufferBlocks.{BufferState, buffer_answer}
-use Rattle.layer_traits.specs.BufferProtocol.{buffer_rules}
+use Rattle.layer_traits.specs.{BufferBlocks.BufferState, BufferBlocks.buffer_answer, BufferProtocol.buffer_rules, CvLaw.Waiting, LockLaw.slept_for}
+use Rattle.layer_traits.specs.{Locking.LockState, Locking.wait_list_asked, Locking.lock_answer, Locking.asker_report, Plans.Left, Plans.Plan, Plans.raised}
 use Rattle.layer_traits.specs.BufferLaw.{BufferPlan, Buffering, at_stage, chained, buffer_of, entry_of, plan_on, first_of, left_recorded, other_side, plan_at}
 use Rattle.layer_traits.specs.BufferLaw.{plan_of, reply_of, side_of as tower_side, call_state_of, try_of}
-use Rattle.layer_traits.specs.CvLaw.{Waiting}
-use Rattle.layer_traits.specs.LockLaw.{slept_for}
-use Rattle.layer_traits.specs.Locking.{LockState, wait_list_asked, lock_answer, asker_report}
-use Rattle.layer_traits.specs.Plans.{Left, Plan, raised}
-use Rattle.cpu.specs.Table.Blocks.{Position, effect_of}
-use Rattle.layer_traits.specs.declared.call_states.Stage.{Stage}
+use Rattle.cpu.specs.Table.{Blocks.Position, Blocks.effect_of, Setups.Private, Setups.program_of, Choice.after_section, Choice.settled, Choice.slept_if}
 use Rattle.layer_traits.specs.declared.call_states.Stage.TheVariants.{Idle, Acquires, Enters, Tries, Waits, AcquiresAgain, Signals, SignalsOwn, Releases}
-use Rattle.cpu.specs.Table.Setups.{Private, program_of}
-use Rattle.cpu.specs.Table.Choice.{after_section, settled, slept_if}
-use Rattle.cpu.specs.Tower.Views.{TowerAnswer, TowerName, TowerOut, answer_view}
-use Rattle.cpu.specs.Tower.Privates.{asks_in, call_from, message_of}
-use Rattle.cpu.specs.Tower.Composed.{HandIsKnown, IsLine, IsLined}
-use Rattle.cpu.proofs.Tower.Numbered.{own_at, parts}
-use Rattle.cpu.proofs.Tower.Callers.{Site}
+use Rattle.cpu.specs.Tower.{Views.TowerAnswer, Views.TowerName, Views.TowerOut, Views.answer_view, Privates.asks_in, Privates.call_from, Privates.message_of}
+use Rattle.cpu.specs.Tower.{Composed.HandIsKnown, Composed.IsLine, Composed.IsLined}
+use Rattle.cpu.proofs.Tower.{Numbered.own_at, Numbered.parts, Callers.Site}
 use Rattle.cpu.proofs.Tower.Lines.{HasHad, IsShutting, Draws, Shuts, Tried, thread_of_first, first_name, first_answer, thread_of_try, try_name, try_answer}
 use Rattle.cpu.proofs.Tower.Lines.{wait_name, signal_name, own_signal_name, reply_guest, entry_recorded, shut_recorded, try_recorded, effect_by, shut_effect}
-use Rattle.cpu.proofs.Tower.Lines.{own, g, e, threads, call_state, k, from, after, runs_on, sleeps_now, waits_now}
-use Rattle.cpu.proofs.Tower.Lines.{beneath_is, fresh, react, line, lift, waking, by_home, stands, by_table, stays_so, has_returned}
+use Rattle.cpu.proofs.Tower.Lines.{own, g, e, threads, call_state, k, from, after, runs_on, sleeps_now, waits_now, beneath_is, fresh, react, line, lift, waking}
+use Rattle.cpu.proofs.Tower.Lines.{by_home, stands, by_table, stays_so, has_returned}
+use Rattle.layer_traits.specs.declared.locked.QOut.TheVariants as lock
+use Rattle.layer_traits.specs.declared.conditions.CvOut.TheVariants as cv
+use Rattle.layer_traits.specs.declared.queues.QueueAnswer.TheVariants as told
 
 -- what is answered to an Acquire, to an edit inside, to a signal, a leave and a wait
 abbrev pub asked_out : Option Tid → TowerOut

@@ -1,52 +1,29 @@
 -- How all threads stand to a part is kept by each section of a call, where nobody is in the hand.
 use Rattle.std.proofs.Common.{◌≡◌, ◌≢◌, ◌⊎◌, inl, inr, ℕ, Bool, true, false, List, [], ◌∷◌, ◌++◌, length, slice_get, slice_set, Option, Some, None, refl, ap}
 use Rattle.std.proofs.Common.{sym, ◌∙◌, subst}
-use Rattle.std.proofs.lemmas.List.{get_or-set_same, get_or-set_other, length-set}
-use Rattle.event_log.specs.declared.ids.BufId.{BufId}
-use Rattle.event_log.specs.declared.ids.CpuId.{CpuId}
-use Rattle.event_log.specs.declared.ids.LockId.TheVariants.{Buffer}
-use Rattle.event_log.specs.declared.ids.Tid.{Tid}
+use Rattle.std.proofs.lemmas.{List.get_or-set_same, List.get_or-set_other, List.length-set, Bool.cases_eq, Bool.eqb-false}
+use Rattle.event_log.specs.declared.ids.{BufId.BufId, CpuId.CpuId, LockId.TheVariants.Buffer, Tid.Tid, LockId.LockId, TheConstants.THREADS}
 use Rattle.thread_blocks.specs.Queues.{first}
-use Rattle.layer_traits.specs.declared.calls.Effect.{Effect}
-use Rattle.layer_traits.specs.declared.calls.Reply.{Reply}
-use Rattle.layer_traits.specs.declared.locked.QEdit.TheVariants.{Acquire, Inside, Release}
-use Rattle.layer_traits.specs.declared.locked.Side.{Side}
-use Rattle.layer_traits.specs.declared.locked.Side.TheVariants.{Receivers, Senders}
-use Rattle.layer_traits.specs.declared.conditions.CvEdit.TheVariants.{Edit, SignalFront}
-use Rattle.layer_traits.specs.declared.conditions.CvLeave.TheVariants.{Leave, Wait}
-use Rattle.layer_traits.specs.declared.conditions.CvOut.{CvOut}
-use Rattle.layer_traits.specs.declared.buffer_edits.BufferEdit.{BufferEdit}
-use Rattle.layer_traits.specs.declared.buffer_edits.BufferOut.{BufferOut}
-use Rattle.layer_traits.specs.declared.buffer_edits.BufferOut.TheVariants.{NotYet}
+use Rattle.layer_traits.specs.declared.{calls.Effect.Effect, calls.Reply.Reply, locked.QEdit.TheVariants.Acquire, locked.QEdit.TheVariants.Inside}
+use Rattle.layer_traits.specs.declared.{locked.QEdit.TheVariants.Release, locked.Side.Side, locked.Side.TheVariants.Receivers, locked.Side.TheVariants.Senders}
+use Rattle.layer_traits.specs.declared.{conditions.CvEdit.TheVariants.Edit, conditions.CvEdit.TheVariants.SignalFront, conditions.CvLeave.TheVariants.Leave}
+use Rattle.layer_traits.specs.declared.{conditions.CvLeave.TheVariants.Wait, conditions.CvOut.CvOut, call_states.Stage.Stage, call_states.CallState.CallState}
+use Rattle.layer_traits.specs.declared.buffer_edits.{BufferEdit.BufferEdit, BufferOut.BufferOut, BufferOut.TheVariants.NotYet}
+use Rattle.layer_traits.specs.{BufferBlocks.BufferState, BufferBlocks.buffer_answer, BufferProtocol.buffer_rules, Conditions.CvCall, LockLaw.slept_for}
+use Rattle.layer_traits.specs.{Locking.LockState, Locking.lock_answer, Places.is_cpu, Plans.Left, Plans.Plan, Plans.Act}
+use Rattle.layer_traits.specs.BufferLaw.{BufferPlan, Buffering, buffer_of, first_of, other_side, no_call, side_of as tower_side, call_state_of, try_of}
+use Rattle.cpu.specs.{Table.Setups.Setup, Tower.Views.TowerAnswer, Tower.Views.TowerBlock, Tower.Views.TowerName, Tower.Views.TowerOut, Tower.Views.tower}
+use Rattle.cpu.specs.{Tower.Privates.tid, Tower.Positions.IsPart, Tower.Positions.MayStand, Tower.Positions.inside, Tower.Positions.outside}
+use Rattle.cpu.specs.Tower.Composed.{FitsStage, IsKind, IsLined, IsUsed, Stands, asks, was_handed, enters, tries, waits as stands_waits, was_woken, asks_again}
+use Rattle.cpu.specs.Tower.Composed.{was_handed_again, signals, signals_own, releases, has_signalled, has_signalled_own, has_released}
+use Rattle.cpu.proofs.Tower.{Numbered.own_at, Callers.Site}
+use Rattle.cpu.proofs.Tower.Lines.{HasHad, Draws, Shuts, Tried, first_answer, try_answer, shut_effect, call_state, fresh, react, lift, waking}
+use Rattle.cpu.proofs.Tower.Composition.{asked_out, did_out, signal_out, left_out, wait_out, effect_is, over, plan, plan_to, asks_plan, asks_again_plan}
+use Rattle.cpu.proofs.Tower.Composition.{enters_plan, tries_plan, waits_plan, signals_plan, own_signals_plan, releases_plan}
 use Rattle.layer_traits.specs.declared.queue_edits.QueueBlock.TheVariants as block
 use Rattle.layer_traits.specs.declared.queue_edits.QueueEdit.TheVariants as queue
 use Rattle.layer_traits.specs.declared.queues.QueueAnswer.TheVariants as told
-use Rattle.layer_traits.specs.declared.call_states.Stage.{Stage}
 use Rattle.layer_traits.specs.declared.call_states.Stage.TheVariants as at
-use Rattle.layer_traits.specs.declared.call_states.CallState.{CallState}
-use Rattle.layer_traits.specs.BufferBlocks.{BufferState, buffer_answer}
-use Rattle.layer_traits.specs.BufferProtocol.{buffer_rules}
-use Rattle.layer_traits.specs.BufferLaw.{BufferPlan, Buffering, buffer_of, first_of, other_side, no_call, side_of as tower_side, call_state_of, try_of}
-use Rattle.layer_traits.specs.Conditions.{CvCall}
-use Rattle.layer_traits.specs.LockLaw.{slept_for}
-use Rattle.layer_traits.specs.Locking.{LockState, lock_answer}
-use Rattle.layer_traits.specs.Places.{is_cpu}
-use Rattle.layer_traits.specs.Plans.{Left, Plan, Act}
-use Rattle.cpu.specs.Table.Setups.{Setup}
-use Rattle.cpu.specs.Tower.Views.{TowerAnswer, TowerBlock, TowerName, TowerOut, tower}
-use Rattle.cpu.specs.Tower.Privates.{tid}
-use Rattle.cpu.specs.Tower.Composed.{FitsStage, IsKind, IsLined, IsUsed, Stands, asks, was_handed, enters, tries, waits as stands_waits, was_woken}
-use Rattle.cpu.specs.Tower.Composed.{asks_again, was_handed_again}
-use Rattle.cpu.specs.Tower.Composed.{signals, signals_own, releases, has_signalled, has_signalled_own, has_released}
-use Rattle.cpu.proofs.Tower.Numbered.{own_at}
-use Rattle.cpu.proofs.Tower.Callers.{Site}
-use Rattle.cpu.proofs.Tower.Lines.{HasHad, Draws, Shuts, Tried, first_answer, try_answer, shut_effect, call_state, fresh, react, lift, waking}
-use Rattle.std.proofs.lemmas.Bool.{cases_eq, eqb-false}
-use Rattle.event_log.specs.declared.ids.LockId.{LockId}
-use Rattle.event_log.specs.declared.ids.TheConstants.{THREADS}
-use Rattle.cpu.specs.Tower.Positions.{IsPart, MayStand, inside, outside}
-use Rattle.cpu.proofs.Tower.Composition.{asked_out, did_out, signal_out, left_out, wait_out, effect_is, over, plan, plan_to, asks_plan, asks_again_plan}
-use Rattle.cpu.proofs.Tower.Composition.{enters_plan, tries_plan, waits_plan, signals_plan, own_signals_plan, releases_plan}
 
 -- the threads but this one stand as they may, and the tables have a place for each thread
 pub record Rest (t : Tid) (slept waits : List (Option BufId)) (call_states : List CallState) : Type 0 where

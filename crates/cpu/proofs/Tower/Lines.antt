@@ -2,61 +2,39 @@
 use Rattle.std.proofs.Common.{◌≡◌, ◌⊎◌, inl, inr, ℕ, ◌<◌, Bool, true, false, List, [], ◌∷◌, ◌++◌, length, slice_get, slice_set, Option, Some, None, IsSome}
 use Rattle.std.proofs.Common.{is_some, if◌then◌else◌, refl, ap, sym, ◌∙◌, subst, arith, lt-ltb}
 use Rattle.std.proofs.lemmas.List.{get_or-set_same, get_or-set_other, set-get_or}
-use Rattle.event_log.specs.declared.entries.Entry.{Entry}
-use Rattle.event_log.specs.declared.ids.BufId.{BufId}
-use Rattle.event_log.specs.declared.ids.CpuId.{CpuId}
-use Rattle.event_log.specs.declared.ids.LockId.TheVariants.{Buffer}
-use Rattle.event_log.specs.declared.ids.Tid.{Tid}
-use Rattle.event_log.specs.History.{same_cpu}
-use Rattle.event_log.specs.declared.entries.Kind.{Kind}
-use Rattle.event_log.specs.declared.entries.Kind.TheVariants as kind
-use Rattle.event_log.specs.Messages.{Message, no_message}
-use Rattle.guest.specs.declared.instructions.Instruction.{Instruction}
-use Rattle.guest.specs.State.{State, at_start, next_of}
+use Rattle.event_log.specs.{declared.entries.Entry.Entry, declared.ids.BufId.BufId, declared.ids.CpuId.CpuId, declared.ids.LockId.TheVariants.Buffer}
+use Rattle.event_log.specs.{declared.ids.Tid.Tid, History.same_cpu, declared.entries.Kind.Kind, Messages.Message, Messages.no_message}
+use Rattle.guest.specs.{declared.instructions.Instruction.Instruction, State.State, State.at_start, State.next_of}
 use Rattle.thread_blocks.specs.Queues.{is_in}
 use Rattle.layer_traits.proofs.CountLemmas.{same_cpu_sym}
-use Rattle.layer_traits.specs.declared.calls.Call.{Call as TowerCall}
-use Rattle.layer_traits.specs.declared.calls.Call.TheVariants.{Send, Recv, Close}
-use Rattle.layer_traits.specs.declared.calls.Effect.{Effect}
-use Rattle.layer_traits.specs.declared.calls.Reply.{Reply}
-use Rattle.layer_traits.specs.declared.locked.QEdit.TheVariants.{Inside, Release}
-use Rattle.layer_traits.specs.declared.locked.QOut.{QOut}
-use Rattle.layer_traits.specs.declared.locked.Side.TheVariants.{Receivers, Senders}
-use Rattle.layer_traits.specs.declared.conditions.CvEdit.TheVariants.{Edit, SignalFront}
-use Rattle.layer_traits.specs.declared.conditions.CvLeave.TheVariants.{Wait}
-use Rattle.layer_traits.specs.declared.conditions.CvOut.{CvOut}
-use Rattle.layer_traits.specs.declared.buffer_edits.BufferEdit.{BufferEdit}
-use Rattle.layer_traits.specs.declared.buffer_edits.BufferOut.{BufferOut}
-use Rattle.layer_traits.specs.declared.buffer_edits.BufferOut.TheVariants.{Entered, NotYet, Done, WasShut}
+use Rattle.layer_traits.specs.declared.{calls.Call.Call as TowerCall, calls.Call.TheVariants.Send, calls.Call.TheVariants.Recv, calls.Call.TheVariants.Close}
+use Rattle.layer_traits.specs.declared.{calls.Effect.Effect, calls.Reply.Reply, locked.QEdit.TheVariants.Inside, locked.QEdit.TheVariants.Release}
+use Rattle.layer_traits.specs.declared.{locked.QOut.QOut, locked.Side.TheVariants.Receivers, locked.Side.TheVariants.Senders}
+use Rattle.layer_traits.specs.declared.{conditions.CvEdit.TheVariants.Edit, conditions.CvEdit.TheVariants.SignalFront, conditions.CvLeave.TheVariants.Wait}
+use Rattle.layer_traits.specs.declared.{conditions.CvOut.CvOut, buffer_edits.BufferEdit.BufferEdit, call_states.CallState.CallState, call_states.Stage.Stage}
+use Rattle.layer_traits.specs.declared.buffer_edits.BufferOut.{BufferOut, TheVariants.Entered, TheVariants.NotYet, TheVariants.Done, TheVariants.WasShut}
+use Rattle.layer_traits.specs.{BufferBlocks.BufferState, BufferBlocks.buffer_answer, BufferBlocks.thread_of_edit, BufferBlocks.is_next}
+use Rattle.layer_traits.specs.{BufferProtocol.buffer_rules, BufferLaw.BufferPlan, BufferLaw.Buffering, BufferLaw.buffer_of, BufferLaw.entry_of}
+use Rattle.layer_traits.specs.{BufferLaw.first_of, BufferLaw.going, BufferLaw.left_recorded, BufferLaw.other_side, BufferLaw.no_call, BufferLaw.reply_by}
+use Rattle.layer_traits.specs.{BufferLaw.reply_of, BufferLaw.side_of as tower_side, BufferLaw.call_state_of, BufferLaw.try_of, Conditions.CvCall, CvLaw.Waiting}
+use Rattle.layer_traits.specs.{CvLaw.cv_plan, CvLaw.cv_plan_for, CvLaw.left_waiting, LockLaw.Locking, LockLaw.left_after, LockLaw.plan_for, LockLaw.slept_for}
+use Rattle.layer_traits.specs.{Locking.LockState, Locking.lock_answer, Locking.lock_moves, Places.Threads, Places.is_cpu, Plans.Left, Plans.Plan, Plans.Now}
+use Rattle.layer_traits.specs.{Plans.Act, Plans.raised, SleepLaw.Sleeping, SleepLaw.left_done, SleepLaw.sleep_plan, Passes.or_else}
+use Rattle.cpu.specs.{Guests.after_answer, Table.Blocks.Answer, Table.Blocks.DidShut, Table.Blocks.Reported, Table.Blocks.effect_of, Table.Setups.Call}
+use Rattle.cpu.specs.{Table.Setups.Thread, Table.Setups.Private, Table.Setups.home_of, Table.Setups.program_of, Table.Setups.thread_at, Tower.Views.TowerAnswer}
+use Rattle.cpu.specs.{Tower.Views.TowerBlock, Tower.Views.TowerName, Tower.Views.TowerOut, Tower.Views.answer_view, Tower.Views.name_of, Tower.Views.report_of}
+use Rattle.cpu.specs.{Tower.Views.tower, Tower.Composed.HandIsKnown, Tower.Composed.IsKind, Tower.Composed.IsLine, Tower.Composed.IsLined}
+use Rattle.layer_traits.specs.declared.call_states.Stage.TheVariants.{Idle, Enters, Tries, Waits, Signals, SignalsOwn}
+use Rattle.cpu.specs.Table.Choice.{after_section, at_buffer, first_section, guest_after, recorded, recorded_entry, recorded_position, recorded_try, returned_at}
+use Rattle.cpu.specs.Table.Choice.{section_at, settled, slept_if, with_call as call_put, woken}
+use Rattle.cpu.specs.Tower.Privates.{asks_in, call_from, closed_by, guest_at, guests_after, message_of, private_after, private_of, thread_from, trace_after}
+use Rattle.cpu.proofs.Tower.{Callers.Site, Numbered.goes, Numbered.gone, Numbered.numbered_long, Numbered.own_at, Numbered.part_at, Numbered.parts}
+use Rattle.cpu.proofs.Tower.{Numbered.threads_at}
+use Rattle.cpu.proofs.Tower.Settled.{asks_for, calling, done_with, from_t, goes_on, recorded_is, put, returns}
+use Rattle.event_log.specs.declared.entries.Kind.TheVariants as kind
 use Rattle.layer_traits.specs.declared.queue_edits.QueueBlock.TheVariants as block
 use Rattle.layer_traits.specs.declared.queue_edits.QueueEdit.TheVariants as queue
 use Rattle.layer_traits.specs.declared.queues.QueueAnswer.TheVariants as told
-use Rattle.layer_traits.specs.declared.call_states.CallState.{CallState}
-use Rattle.layer_traits.specs.BufferBlocks.{BufferState, buffer_answer, thread_of_edit, is_next}
-use Rattle.layer_traits.specs.BufferProtocol.{buffer_rules}
-use Rattle.layer_traits.specs.BufferLaw.{BufferPlan, Buffering, buffer_of, entry_of, first_of, going, left_recorded, other_side, no_call, reply_by, reply_of}
-use Rattle.layer_traits.specs.BufferLaw.{side_of as tower_side, call_state_of, try_of}
-use Rattle.layer_traits.specs.Conditions.{CvCall}
-use Rattle.layer_traits.specs.CvLaw.{Waiting, cv_plan, cv_plan_for, left_waiting}
-use Rattle.layer_traits.specs.LockLaw.{Locking, left_after, plan_for, slept_for}
-use Rattle.layer_traits.specs.Locking.{LockState, lock_answer, lock_moves}
-use Rattle.layer_traits.specs.Places.{Threads, is_cpu}
-use Rattle.layer_traits.specs.Plans.{Left, Plan, Now, Act, raised}
-use Rattle.layer_traits.specs.SleepLaw.{Sleeping, left_done, sleep_plan}
-use Rattle.layer_traits.specs.Passes.{or_else}
-use Rattle.cpu.specs.Guests.{after_answer}
-use Rattle.cpu.specs.Table.Blocks.{Answer, DidShut, Reported, effect_of}
-use Rattle.layer_traits.specs.declared.call_states.Stage.{Stage}
-use Rattle.layer_traits.specs.declared.call_states.Stage.TheVariants.{Idle, Enters, Tries, Waits, Signals, SignalsOwn}
-use Rattle.cpu.specs.Table.Setups.{Call, Thread, Private, home_of, program_of, thread_at}
-use Rattle.cpu.specs.Table.Choice.{after_section, at_buffer, first_section, guest_after, recorded, recorded_entry, recorded_position, recorded_try, returned_at}
-use Rattle.cpu.specs.Table.Choice.{section_at, settled, slept_if, with_call as call_put, woken}
-use Rattle.cpu.specs.Tower.Views.{TowerAnswer, TowerBlock, TowerName, TowerOut, answer_view, name_of, report_of, tower}
-use Rattle.cpu.specs.Tower.Privates.{asks_in, call_from, closed_by, guest_at, guests_after, message_of, private_after, private_of, thread_from, trace_after}
-use Rattle.cpu.specs.Tower.Composed.{HandIsKnown, IsKind, IsLine, IsLined}
-use Rattle.cpu.proofs.Tower.Callers.{Site}
-use Rattle.cpu.proofs.Tower.Numbered.{goes, gone, numbered_long, own_at, part_at, parts, threads_at}
-use Rattle.cpu.proofs.Tower.Settled.{asks_for, calling, done_with, from_t, goes_on, recorded_is, put, returns}
 
 -- What a call's sections are, by what it asks.
 

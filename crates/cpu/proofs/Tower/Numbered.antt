@@ -1,21 +1,14 @@
 -- A CPU's private state in which one thread changed.
 use Rattle.std.proofs.Common.{◌≡◌, ◌≢◌, ℕ, zero, suc, ◌+◌, ◌<◌, ◌≤◌, Bool, false, ◌&&◌, List, [], ◌∷◌, length, get_or, slice_set, Option, Some, None, is_some}
 use Rattle.std.proofs.Common.{refl, ap, sym, ◌∙◌, arith}
-use Rattle.std.proofs.lemmas.Bool.{ne_eqb}
-use Rattle.std.proofs.lemmas.List.{get_or-set_same, get_or-set_other}
-use Rattle.event_log.specs.declared.entries.Entry.{Entry}
-use Rattle.event_log.specs.declared.ids.BufId.{BufId}
-use Rattle.event_log.specs.declared.ids.Tid.{Tid}
+use Rattle.std.proofs.lemmas.{Bool.ne_eqb, List.get_or-set_same, List.get_or-set_other}
+use Rattle.event_log.specs.declared.{entries.Entry.Entry, ids.BufId.BufId, ids.Tid.Tid}
 use Rattle.guest.specs.State.{State}
 use Rattle.thread_blocks.specs.Queues.{is_in}
 use Rattle.thread_blocks.proofs.Members.{same_tid_self}
-use Rattle.layer_traits.specs.declared.call_states.CallState.{CallState}
-use Rattle.layer_traits.specs.LockLaw.{slept_for}
-use Rattle.layer_traits.specs.Places.{is_thread}
-use Rattle.layer_traits.specs.BufferLaw.{Buffering, no_call}
-use Rattle.cpu.specs.Table.Setups.{Private, Thread}
-use Rattle.cpu.specs.Tower.Views.{TowerOut}
-use Rattle.cpu.specs.Tower.Privates.{numbered, private_of, thread_from, thread_of, tid}
+use Rattle.layer_traits.specs.{declared.call_states.CallState.CallState, LockLaw.slept_for, Places.is_thread, BufferLaw.Buffering, BufferLaw.no_call}
+use Rattle.cpu.specs.{Table.Setups.Private, Table.Setups.Thread, Tower.Views.TowerOut, Tower.Privates.numbered, Tower.Privates.private_of}
+use Rattle.cpu.specs.{Tower.Privates.thread_from, Tower.Privates.thread_of, Tower.Privates.tid}
 use Rattle.cpu.proofs.Tower.Callers.{Runner}
 
 pub numbered_long : (f : ℕ → State → Thread) (n : ℕ) (guests : List State) → length (numbered f n guests) ≡ length guests

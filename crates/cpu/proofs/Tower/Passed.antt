@@ -1,30 +1,18 @@
 -- How all threads stand to a part is kept by the passes from thread to thread, and holds at boot.
-use Rattle.std.proofs.Common.{◌≡◌, ◌⊎◌, inl, inr, ℕ, zero, suc, List}
-use Rattle.std.proofs.Common.{length, replicate, Option, Some, None, refl, ap, sym, ◌∙◌, subst, arith}
+use Rattle.std.proofs.Common.{◌≡◌, ◌⊎◌, inl, inr, ℕ, zero, suc, List, length, replicate, Option, Some, None, refl, ap, sym, ◌∙◌, subst, arith}
 use Rattle.std.proofs.lemmas.Bool.{cases_eq, ne_eqb}
-use Rattle.event_log.specs.declared.ids.BufId.{BufId}
-use Rattle.event_log.specs.declared.ids.CpuId.{CpuId}
-use Rattle.event_log.specs.declared.ids.LockId.{LockId}
-use Rattle.event_log.specs.declared.ids.Tid.{Tid}
-use Rattle.event_log.specs.declared.ids.TheConstants.{THREADS}
-use Rattle.event_log.specs.Actions.{Action}
+use Rattle.event_log.specs.{declared.ids.BufId.BufId, declared.ids.CpuId.CpuId, declared.ids.LockId.LockId, declared.ids.Tid.Tid}
+use Rattle.event_log.specs.{declared.ids.TheConstants.THREADS, Actions.Action}
 use Rattle.event_log.proofs.ListLemmas.{alike_at}
-use Rattle.layer_traits.specs.declared.calls.Effect.{Effect}
-use Rattle.layer_traits.specs.declared.passes.Pass.{Pass}
+use Rattle.layer_traits.specs.declared.{calls.Effect.Effect, passes.Pass.Pass, call_states.Stage.Stage, call_states.CallState.CallState}
+use Rattle.layer_traits.specs.{LockLaw.slept_for, Passes.pass_after, Places.Threads, Places.is_thread, Plans.Left, Plans.Follows, BufferLaw.Buffering}
+use Rattle.layer_traits.specs.{BufferLaw.buffering_at_start, BufferLaw.fifo_pass_plan, BufferLaw.no_call, BufferLaw.call_state_of}
+use Rattle.cpu.specs.Tower.{Views.TowerBlock, Views.TowerName, Views.TowerOut, Views.tower, Privates.threads_in, Privates.tid, Positions.IsPart}
+use Rattle.cpu.specs.Tower.{Positions.MayStand, Positions.inside, Positions.outside}
+use Rattle.cpu.specs.Tower.Composed.{FitsStage, Stands, asks, was_handed, enters, tries, waits, was_woken, asks_again, was_handed_again, signals, signals_own}
+use Rattle.cpu.specs.Tower.Composed.{releases, has_signalled, has_signalled_own, has_released}
 use Rattle.layer_traits.specs.declared.passes.Pass.TheVariants as pass
-use Rattle.layer_traits.specs.declared.call_states.Stage.{Stage}
 use Rattle.layer_traits.specs.declared.call_states.Stage.TheVariants as at
-use Rattle.layer_traits.specs.declared.call_states.CallState.{CallState}
-use Rattle.layer_traits.specs.LockLaw.{slept_for}
-use Rattle.layer_traits.specs.Passes.{pass_after}
-use Rattle.layer_traits.specs.Places.{Threads, is_thread}
-use Rattle.layer_traits.specs.Plans.{Left, Follows}
-use Rattle.layer_traits.specs.BufferLaw.{Buffering, buffering_at_start, fifo_pass_plan, no_call, call_state_of}
-use Rattle.cpu.specs.Tower.Views.{TowerBlock, TowerName, TowerOut, tower}
-use Rattle.cpu.specs.Tower.Privates.{threads_in, tid}
-use Rattle.cpu.specs.Tower.Composed.{FitsStage, Stands, asks, was_handed, enters, tries, waits, was_woken, asks_again, was_handed_again}
-use Rattle.cpu.specs.Tower.Composed.{signals, signals_own, releases, has_signalled, has_signalled_own, has_released}
-use Rattle.cpu.specs.Tower.Positions.{IsPart, MayStand, inside, outside}
 
 -- the part with other threads
 abbrev pub with_threads : Buffering → Threads → Buffering

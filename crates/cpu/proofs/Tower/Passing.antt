@@ -1,42 +1,25 @@
 -- The passes from thread to thread are lines of the table, or steps of it without an action.
 use Rattle.std.proofs.Common.{◌≡◌, ◌≢◌, ℕ, ◌+◌, ◌<◌, Bool, true, false, ◌&&◌, ◌||◌, List, [], ◌∷◌, ◌++◌, length, slice_get, slice_set, Option, Some, None}
 use Rattle.std.proofs.Common.{IsSome, refl, ap, sym, ◌∙◌, arith, inl, inr}
-use Rattle.std.proofs.lemmas.Bool.{ne_eqb}
-use Rattle.std.proofs.lemmas.List.{append-nil}
-use Rattle.std.proofs.Math.Bool.{or-true}
-use Rattle.event_log.specs.declared.entries.Entry.{Entry}
-use Rattle.event_log.specs.declared.ids.BufId.{BufId}
-use Rattle.event_log.specs.declared.ids.CpuId.{CpuId}
-use Rattle.event_log.specs.declared.ids.LockId.TheVariants.{Pending}
-use Rattle.event_log.specs.declared.ids.Tid.{Tid}
+use Rattle.std.proofs.{lemmas.Bool.ne_eqb, lemmas.List.append-nil, Math.Bool.or-true}
+use Rattle.event_log.specs.declared.{entries.Entry.Entry, ids.BufId.BufId, ids.CpuId.CpuId, ids.LockId.TheVariants.Pending, ids.Tid.Tid}
 use Rattle.guest.specs.State.{State, after_yield, at_start, next_of}
 use Rattle.thread_blocks.specs.Queues.{is_in, same_tid}
-use Rattle.thread_blocks.proofs.Members.{same_tid_self}
-use Rattle.thread_blocks.proofs.Distinct.{pushed_in}
-use Rattle.layer_traits.specs.declared.passes.Pass.{Pass}
+use Rattle.thread_blocks.proofs.{Members.same_tid_self, Distinct.pushed_in}
+use Rattle.layer_traits.specs.{declared.passes.Pass.Pass, declared.call_states.CallState.CallState, LockLaw.slept_for, Passes.queue_for, Places.is_thread}
+use Rattle.layer_traits.specs.{Plans.Left, BufferLaw.Buffering, BufferLaw.fifo_pass_plan, BufferLaw.no_call, BufferLaw.call_state_of}
+use Rattle.cpu.specs.{Table.Blocks.Pend, Table.Setups.Setup, Table.Setups.Private, Table.Setups.Thread, Table.Setups.program_of, Table.Setups.thread_at}
+use Rattle.cpu.specs.{Table.Choice.after_by, Table.Choice.after_section, Table.Choice.asked_by, Table.Choice.at_pending, Table.Choice.ends}
+use Rattle.cpu.specs.{Table.Choice.with_guest, Tower.Views.TowerAnswer, Tower.Views.TowerBlock, Tower.Views.answer_view, Tower.Views.tower}
+use Rattle.cpu.specs.{Tower.Privates.guest_at, Tower.Privates.private_of, Tower.Privates.private_passed, Tower.Privates.thread_from, Tower.Privates.thread_of}
+use Rattle.cpu.specs.{Tower.Privates.tid, Tower.Composed.HandIsKnown, Tower.Composed.IsKind, Tower.Composed.IsLine}
+use Rattle.cpu.proofs.Tower.{Callers.Runner, Numbered.changed, Numbered.numbered_changed, Numbered.numbered_same, Numbered.own_at, Numbered.part_at}
+use Rattle.cpu.proofs.Tower.{Numbered.parts, Numbered.threads_at, Lines.react_in, Sends.home_there, Sends.queue_is, Chains.put_same, Begins.thread_here}
 use Rattle.layer_traits.specs.declared.passes.Pass.TheVariants as pass
 use Rattle.layer_traits.specs.declared.queue_edits.QueueBlock.TheVariants as block
 use Rattle.layer_traits.specs.declared.queue_edits.QueueEdit.TheVariants as queue
 use Rattle.layer_traits.specs.declared.queues.QueueAnswer.TheVariants as told
 use Rattle.layer_traits.specs.declared.call_states.Stage.TheVariants as at
-use Rattle.layer_traits.specs.declared.call_states.CallState.{CallState}
-use Rattle.layer_traits.specs.LockLaw.{slept_for}
-use Rattle.layer_traits.specs.Passes.{queue_for}
-use Rattle.layer_traits.specs.Places.{is_thread}
-use Rattle.layer_traits.specs.Plans.{Left}
-use Rattle.layer_traits.specs.BufferLaw.{Buffering, fifo_pass_plan, no_call, call_state_of}
-use Rattle.cpu.specs.Table.Blocks.{Pend}
-use Rattle.cpu.specs.Table.Setups.{Setup, Private, Thread, program_of, thread_at}
-use Rattle.cpu.specs.Table.Choice.{after_by, after_section, asked_by, at_pending, ends, with_guest}
-use Rattle.cpu.specs.Tower.Views.{TowerAnswer, TowerBlock, answer_view, tower}
-use Rattle.cpu.specs.Tower.Privates.{guest_at, private_of, private_passed, thread_from, thread_of, tid}
-use Rattle.cpu.specs.Tower.Composed.{HandIsKnown, IsKind, IsLine}
-use Rattle.cpu.proofs.Tower.Callers.{Runner}
-use Rattle.cpu.proofs.Tower.Numbered.{changed, numbered_changed, numbered_same, own_at, part_at, parts, threads_at}
-use Rattle.cpu.proofs.Tower.Lines.{react_in}
-use Rattle.cpu.proofs.Tower.Sends.{home_there, queue_is}
-use Rattle.cpu.proofs.Tower.Chains.{put_same}
-use Rattle.cpu.proofs.Tower.Begins.{thread_here}
 
 -- the plan of a poll of this pass is a line of the table
 abbrev pub PassLine : Setup → CpuId → Pass → Buffering → List State → List Entry → Type 0

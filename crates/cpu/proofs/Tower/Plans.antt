@@ -1,22 +1,15 @@
 -- The plan of every poll of a begun call is a line of the table.
 use Rattle.std.proofs.Common.{◌≡◌, slice_get, Option, Some, IsSome, refl, sym, subst}
-use Rattle.event_log.specs.declared.ids.BufId.{BufId}
-use Rattle.event_log.specs.declared.ids.Tid.{Tid}
-use Rattle.layer_traits.specs.declared.calls.Effect.{Effect}
-use Rattle.layer_traits.specs.declared.call_states.Stage.{Stage}
-use Rattle.layer_traits.specs.declared.call_states.CallState.{CallState}
-use Rattle.layer_traits.specs.LockLaw.{slept_for}
-use Rattle.layer_traits.specs.BufferLaw.{call_state_of}
-use Rattle.cpu.specs.Tower.Views.{TowerOut}
-use Rattle.cpu.specs.Tower.Privates.{threads_in}
-use Rattle.cpu.specs.Tower.Composed.{FitsStage, PlansAreLines, Stands, asks, was_handed, enters, tries, waits, was_woken, asks_again}
-use Rattle.cpu.specs.Tower.Composed.{was_handed_again, signals}
+use Rattle.event_log.specs.declared.ids.{BufId.BufId, Tid.Tid}
+use Rattle.layer_traits.specs.{declared.calls.Effect.Effect, declared.call_states.Stage.Stage, declared.call_states.CallState.CallState, LockLaw.slept_for}
+use Rattle.layer_traits.specs.{BufferLaw.call_state_of}
+use Rattle.cpu.specs.Tower.{Views.TowerOut, Privates.threads_in}
+use Rattle.cpu.specs.Tower.Composed.{FitsStage, PlansAreLines, Stands, asks, was_handed, enters, tries, waits, was_woken, asks_again, was_handed_again, signals}
 use Rattle.cpu.specs.Tower.Composed.{signals_own, releases, has_signalled, has_signalled_own, has_released}
-use Rattle.cpu.proofs.Tower.Callers.{Caller, HasRoom, awake, caller_in, call_state_at}
-use Rattle.cpu.proofs.Tower.Numbered.{own_at}
+use Rattle.cpu.proofs.Tower.{Callers.Caller, Callers.HasRoom, Callers.awake, Callers.caller_in, Callers.call_state_at, Numbered.own_at}
+use Rattle.cpu.proofs.Tower.{Sends.has_signalled_line, Sends.has_signalled_own_line, Sends.has_released_line}
 use Rattle.cpu.proofs.Tower.Chains.{LineOf, site_asks, site_enters, site_tries, site_waits, site_asks_again, site_signals, site_own_signals, site_releases}
 use Rattle.cpu.proofs.Tower.Chains.{handed_line, handed_again_line, woken_line}
-use Rattle.cpu.proofs.Tower.Sends.{has_signalled_line, has_signalled_own_line, has_released_line}
 
 module _ (caller : Caller) where
   open caller use {setup, c, t, ready, ended, slept, waits as waiting, call_states, guests, trace, call}

@@ -1,35 +1,23 @@
 -- From plans to steps: a poll that followed a line of the table is a step of it.
 use Rattle.std.proofs.Common.{◌≡◌, ℕ, Bool, true, false, List, [], ◌∷◌, ◌++◌, Option, Some, None, option_map, slice_get, if◌then◌else◌, refl, ap, sym, ◌∙◌}
 use Rattle.std.proofs.Common.{subst}
-use Rattle.event_log.specs.declared.ids.CpuId.{CpuId}
-use Rattle.event_log.specs.declared.ids.LockId.{LockId}
-use Rattle.event_log.specs.declared.ids.LockId.TheVariants.{Pending, Buffer}
-use Rattle.event_log.specs.declared.ids.Tid.{Tid}
-use Rattle.event_log.specs.History.{same_lock}
-use Rattle.event_log.specs.Actions.{Action, action_in, Phase, Rests, Waits, Holds, phase, renamed}
-use Rattle.event_log.specs.Sections.{Section, block_after, sections_in}
-use Rattle.event_log.proofs.Foreign.{phase_others}
-use Rattle.event_log.proofs.Renaming.{next_action_renamed, others_renamed, phase_renamed}
+use Rattle.event_log.specs.declared.ids.{CpuId.CpuId, LockId.LockId, LockId.TheVariants.Pending, LockId.TheVariants.Buffer, Tid.Tid}
+use Rattle.event_log.specs.{History.same_lock, Actions.Action, Actions.action_in, Actions.Phase, Actions.Rests, Actions.Waits, Actions.Holds, Actions.phase}
+use Rattle.event_log.specs.{Actions.renamed, Sections.Section, Sections.block_after, Sections.sections_in}
+use Rattle.event_log.proofs.{Foreign.phase_others, Renaming.next_action_renamed, Renaming.others_renamed, Renaming.phase_renamed}
+use Rattle.layer_traits.specs.{declared.steps.Reason.Reason, declared.steps.Reason.TheVariants.AllEnded, declared.steps.Reason.TheVariants.TraceFull}
+use Rattle.layer_traits.specs.{declared.steps.Step.TheVariants.Stepped, declared.steps.Step.TheVariants.Halted, Along.IsStep, Looks.Tries, Plans.Left}
+use Rattle.layer_traits.specs.{Plans.Acting, Plans.Follows, Plans.at_give, Plans.is_in_section, Plans.reply, BufferLaw.Buffering}
+use Rattle.layer_traits.proofs.{LookLemmas.tries_renamed, PlanRenaming.map-append, PlanRenaming.reply_viewed}
+use Rattle.cpu.specs.Table.{Blocks.Block, Blocks.Name, Blocks.OfPending, Edits.edited, Edits.kernel, Setups.Setup, Setups.Private, Setups.have_ended}
+use Rattle.cpu.specs.Table.{Setups.home_threads, Setups.opening as table_opening, Setups.opening_buffer, Setups.thread_at, Setups.Call as TableCall}
+use Rattle.cpu.specs.Table.{Steps.acting, Steps.acting_on, Steps.after_reply, Steps.chosen, Steps.cpu_step, Steps.halted_at, Steps.halted_by, Steps.step_in}
+use Rattle.cpu.specs.Table.Choice.{Alone, Choice, Goes, Halts, Ask, asked, at_call, at_current, at_hand, at_ready, choice}
+use Rattle.cpu.specs.Tower.{Views.TowerBlock, Views.TowerName, Views.answer_view, Views.name_of, Views.tower, Views.view, Composed.HaltsExactly}
+use Rattle.cpu.specs.Tower.{Composed.HandIsKnown, Composed.IsKind, Composed.answer_of, Composed.named}
+use Rattle.cpu.proofs.Tower.{Polled.Polled, Polled.Way, Viewed.tables_agree}
 use Rattle.layer_traits.specs.declared.queue_edits.QueueBlock.TheVariants as block
 use Rattle.layer_traits.specs.declared.queue_edits.QueueEdit.TheVariants as queue
-use Rattle.layer_traits.specs.declared.steps.Reason.{Reason}
-use Rattle.layer_traits.specs.declared.steps.Reason.TheVariants.{AllEnded, TraceFull}
-use Rattle.layer_traits.specs.declared.steps.Step.TheVariants.{Stepped, Halted}
-use Rattle.layer_traits.specs.Along.{IsStep}
-use Rattle.layer_traits.specs.Looks.{Tries}
-use Rattle.layer_traits.specs.Plans.{Left, Acting, Follows, at_give, is_in_section, reply}
-use Rattle.layer_traits.specs.BufferLaw.{Buffering}
-use Rattle.layer_traits.proofs.LookLemmas.{tries_renamed}
-use Rattle.layer_traits.proofs.PlanRenaming.{map-append, reply_viewed}
-use Rattle.cpu.specs.Table.Blocks.{Block, Name, OfPending}
-use Rattle.cpu.specs.Table.Edits.{edited, kernel}
-use Rattle.cpu.specs.Table.Setups.{Setup, Private, have_ended, home_threads, opening as table_opening, opening_buffer, thread_at, Call as TableCall}
-use Rattle.cpu.specs.Table.Choice.{Alone, Choice, Goes, Halts, Ask, asked, at_call, at_current, at_hand, at_ready, choice}
-use Rattle.cpu.specs.Table.Steps.{acting, acting_on, after_reply, chosen, cpu_step, halted_at, halted_by, step_in}
-use Rattle.cpu.specs.Tower.Views.{TowerBlock, TowerName, answer_view, name_of, tower, view}
-use Rattle.cpu.specs.Tower.Composed.{HaltsExactly, HandIsKnown, IsKind, answer_of, named}
-use Rattle.cpu.proofs.Tower.Polled.{Polled, Way}
-use Rattle.cpu.proofs.Tower.Viewed.{tables_agree}
 
 -- The blocks of the locks are of their kinds.
 

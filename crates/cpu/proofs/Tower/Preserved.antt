@@ -1,55 +1,34 @@
 -- How all threads stand to a part is kept by every poll of a call.
 use Rattle.std.proofs.Common.{◌≡◌, inr, ◌<◌, List, [], length, slice_get, slice_set, Option, Some, None, IsSome, option_map, refl, ap, sym, ◌∙◌, subst}
-use Rattle.std.proofs.lemmas.List.{get_or-set_same, get_or-set_other, length-set}
-use Rattle.event_log.specs.declared.ids.BufId.{BufId}
-use Rattle.event_log.specs.declared.ids.CpuId.{CpuId}
-use Rattle.event_log.specs.declared.ids.LockId.TheVariants.{Pending}
-use Rattle.event_log.specs.declared.ids.Tid.{Tid}
+use Rattle.std.proofs.lemmas.{List.get_or-set_same, List.get_or-set_other, List.length-set, Bool.ne_eqb}
+use Rattle.event_log.specs.{declared.ids.BufId.BufId, declared.ids.CpuId.CpuId, declared.ids.LockId.TheVariants.Pending, declared.ids.Tid.Tid}
+use Rattle.event_log.specs.{declared.ids.LockId.LockId, Actions.Action, Actions.Phase, Actions.Rests as IsResting, Actions.Waits as IsWaiting, Actions.Holds}
+use Rattle.event_log.specs.{Actions.phase, Sections.block_after, Sections.sections_in}
 use Rattle.guest.specs.State.{State}
-use Rattle.layer_traits.specs.declared.calls.Call.{Call as TowerCall}
-use Rattle.layer_traits.specs.declared.calls.Effect.{Effect}
-use Rattle.layer_traits.specs.declared.calls.Reply.{Reply}
-use Rattle.layer_traits.specs.declared.locked.QEdit.TheVariants.{Inside, Release}
+use Rattle.layer_traits.specs.{declared.calls.Call.Call as TowerCall, declared.calls.Effect.Effect, declared.calls.Reply.Reply}
+use Rattle.layer_traits.specs.{declared.locked.QEdit.TheVariants.Inside, declared.locked.QEdit.TheVariants.Release}
+use Rattle.layer_traits.specs.{declared.conditions.CvEdit.TheVariants.SignalFront, declared.conditions.CvLeave.TheVariants.Leave}
+use Rattle.layer_traits.specs.{declared.conditions.CvOut.CvOut, declared.buffer_edits.BufferEdit.BufferEdit, declared.buffer_edits.BufferOut.BufferOut}
+use Rattle.layer_traits.specs.{declared.call_states.Stage.Stage, declared.call_states.CallState.CallState, Conditions.CvCall, LockLaw.slept_for, Plans.Left}
+use Rattle.layer_traits.specs.{Plans.Plan, Plans.raised, Plans.Acting, Plans.Follows, Plans.at_give, Places.is_thread, Passes.queue_for}
+use Rattle.layer_traits.specs.BufferLaw.{BufferPlan, Buffering, going, left_recorded, other_side, plan_at, no_call, side_of as tower_side, call_state_of}
+use Rattle.layer_traits.specs.BufferLaw.{fifo_plan, going_at}
+use Rattle.cpu.specs.{Table.Setups.Setup, Tower.Views.TowerAnswer, Tower.Views.TowerBlock, Tower.Views.TowerName, Tower.Views.TowerOut, Tower.Views.tower}
+use Rattle.cpu.specs.{Tower.Privates.threads_in, Tower.Positions.IsPart, Tower.Positions.MayStand, Tower.Positions.inside, Tower.Positions.outside}
+use Rattle.cpu.specs.Tower.Composed.{FitsStage, IsLined, HandIsKnown, Stands, asks, was_handed, enters, tries, waits as stands_waits, was_woken, asks_again}
+use Rattle.cpu.specs.Tower.Composed.{was_handed_again, signals, signals_own, releases, has_signalled, has_signalled_own, has_released, IsGoing, OpensAs}
+use Rattle.cpu.specs.Tower.Composed.{outcome_of}
+use Rattle.cpu.proofs.Tower.{Callers.Caller, Callers.HasRoom, Callers.Site, Callers.at_next, Callers.awake, Callers.caller_in, Callers.call_state_at}
+use Rattle.cpu.proofs.Tower.{Numbered.own_at, Lines.HasHad, Lines.own, Lines.e, Lines.react_in, Composition.plan, Chains.fifo_at, Chains.handed_plan}
+use Rattle.cpu.proofs.Tower.{Chains.handed_again_plan, Chains.woken_plan, Sends.home_there, Sends.sends, Sends.beneath_is as beneath_sends, Polls.IsKindIn}
+use Rattle.cpu.proofs.Tower.{Polls.kind_after, Polls.opens_kind, Keeping.PlanPreserves, Keeping.Rest, Keeping.on, Keeping.rest_set, Keeping.asks_keeps}
+use Rattle.cpu.proofs.Tower.{Keeping.asks_again_keeps, Keeping.enters_keeps, Keeping.tries_keeps, Keeping.waits_keeps, Keeping.signals_keeps}
+use Rattle.cpu.proofs.Tower.{Keeping.own_signals_keeps, Keeping.releases_keeps}
 use Rattle.layer_traits.specs.declared.locked.QOut.TheVariants as lock
-use Rattle.layer_traits.specs.declared.conditions.CvEdit.TheVariants.{SignalFront}
-use Rattle.layer_traits.specs.declared.conditions.CvLeave.TheVariants.{Leave}
-use Rattle.layer_traits.specs.declared.conditions.CvOut.{CvOut}
 use Rattle.layer_traits.specs.declared.conditions.CvOut.TheVariants as cv
-use Rattle.layer_traits.specs.declared.buffer_edits.BufferEdit.{BufferEdit}
-use Rattle.layer_traits.specs.declared.buffer_edits.BufferOut.{BufferOut}
 use Rattle.layer_traits.specs.declared.queue_edits.QueueEdit.TheVariants as queue
 use Rattle.layer_traits.specs.declared.queues.QueueAnswer.TheVariants as told
-use Rattle.layer_traits.specs.declared.call_states.Stage.{Stage}
 use Rattle.layer_traits.specs.declared.call_states.Stage.TheVariants as at
-use Rattle.layer_traits.specs.declared.call_states.CallState.{CallState}
-use Rattle.layer_traits.specs.BufferLaw.{BufferPlan, Buffering, going, left_recorded, other_side}
-use Rattle.layer_traits.specs.BufferLaw.{plan_at, no_call, side_of as tower_side, call_state_of, fifo_plan}
-use Rattle.layer_traits.specs.BufferLaw.{going_at}
-use Rattle.layer_traits.specs.Conditions.{CvCall}
-use Rattle.layer_traits.specs.LockLaw.{slept_for}
-use Rattle.layer_traits.specs.Plans.{Left, Plan, raised, Acting, Follows, at_give}
-use Rattle.cpu.specs.Table.Setups.{Setup}
-use Rattle.cpu.specs.Tower.Views.{TowerAnswer, TowerBlock, TowerName, TowerOut, tower}
-use Rattle.cpu.specs.Tower.Composed.{FitsStage, IsLined, HandIsKnown, Stands, asks, was_handed, enters, tries, waits as stands_waits, was_woken}
-use Rattle.cpu.specs.Tower.Composed.{asks_again, was_handed_again}
-use Rattle.cpu.specs.Tower.Composed.{signals, signals_own, releases, has_signalled, has_signalled_own, has_released, IsGoing, OpensAs, outcome_of}
-use Rattle.cpu.proofs.Tower.Callers.{Caller, HasRoom, Site, at_next, awake, caller_in, call_state_at}
-use Rattle.cpu.proofs.Tower.Numbered.{own_at}
-use Rattle.cpu.proofs.Tower.Lines.{HasHad, own, e, react_in}
-use Rattle.event_log.specs.declared.ids.LockId.{LockId}
-use Rattle.layer_traits.specs.Places.{is_thread}
-use Rattle.cpu.specs.Tower.Privates.{threads_in}
-use Rattle.cpu.specs.Tower.Positions.{IsPart, MayStand, inside, outside}
-use Rattle.cpu.proofs.Tower.Composition.{plan}
-use Rattle.event_log.specs.Actions.{Action, Phase, Rests as IsResting, Waits as IsWaiting, Holds, phase}
-use Rattle.event_log.specs.Sections.{block_after, sections_in}
-use Rattle.layer_traits.specs.Passes.{queue_for}
-use Rattle.std.proofs.lemmas.Bool.{ne_eqb}
-use Rattle.cpu.proofs.Tower.Chains.{fifo_at, handed_plan, handed_again_plan, woken_plan}
-use Rattle.cpu.proofs.Tower.Sends.{home_there, sends, beneath_is as beneath_sends}
-use Rattle.cpu.proofs.Tower.Polls.{IsKindIn, kind_after, opens_kind}
-use Rattle.cpu.proofs.Tower.Keeping.{PlanPreserves, Rest, on, rest_set, asks_keeps, asks_again_keeps, enters_keeps, tries_keeps, waits_keeps, signals_keeps}
-use Rattle.cpu.proofs.Tower.Keeping.{own_signals_keeps, releases_keeps}
 
 module _ (caller : Caller) (others : Rest caller.t caller.slept caller.waits caller.call_states) where
   open caller use {setup, c, t, ready, ended, slept, waits as waiting, call_states, call, position, in_call_states, in_slept, in_waits}

@@ -1,49 +1,31 @@
 -- The plan of a begun call is a line of the table, where a thread that its section woke is in the hand: it is put among its home's pending.
 use Rattle.std.proofs.Common.{◌≡◌, inr, ◌<◌, Bool, true, false, List, length, slice_get, slice_set, Option, Some, None, IsSome, refl, ap, sym, ◌∙◌, subst}
 use Rattle.std.proofs.lemmas.List.{set-get_or}
-use Rattle.event_log.specs.declared.ids.CpuId.{CpuId}
-use Rattle.event_log.specs.declared.ids.LockId.TheVariants.{Pending}
-use Rattle.event_log.specs.declared.ids.Tid.{Tid}
+use Rattle.event_log.specs.declared.ids.{CpuId.CpuId, LockId.TheVariants.Pending, Tid.Tid}
 use Rattle.guest.specs.State.{State, at_start, next_of}
 use Rattle.thread_blocks.specs.Queues.{is_in}
-use Rattle.layer_traits.specs.declared.calls.Effect.{Effect}
-use Rattle.layer_traits.specs.declared.calls.Reply.{Reply}
-use Rattle.layer_traits.specs.declared.locked.QEdit.TheVariants.{Inside, Release}
+use Rattle.layer_traits.specs.{declared.calls.Effect.Effect, declared.calls.Reply.Reply, declared.locked.QEdit.TheVariants.Inside}
+use Rattle.layer_traits.specs.{declared.locked.QEdit.TheVariants.Release, declared.conditions.CvEdit.TheVariants.SignalFront}
+use Rattle.layer_traits.specs.{declared.conditions.CvLeave.TheVariants.Leave, declared.conditions.CvOut.CvOut, declared.buffer_edits.BufferEdit.BufferEdit}
+use Rattle.layer_traits.specs.{declared.buffer_edits.BufferOut.BufferOut, declared.call_states.CallState.CallState, BufferProtocol.buffer_rules}
+use Rattle.layer_traits.specs.{BufferLaw.BufferPlan, BufferLaw.Buffering, BufferLaw.at_stage, BufferLaw.buffer_of, BufferLaw.going, BufferLaw.left_recorded}
+use Rattle.layer_traits.specs.{BufferLaw.other_side, BufferLaw.plan_at, BufferLaw.no_call, BufferLaw.reply_of, BufferLaw.side_of as tower_side}
+use Rattle.layer_traits.specs.{BufferLaw.call_state_of, Conditions.CvCall, CvLaw.Waiting, CvLaw.cv_plan, CvLaw.cv_plan_for, CvLaw.left_waiting}
+use Rattle.layer_traits.specs.{LockLaw.left_after, LockLaw.plan_for, LockLaw.slept_for, Locking.lock_moves, Plans.Left, Plans.Plan, Plans.raised}
+use Rattle.layer_traits.specs.{SleepLaw.sleep_plan, declared.call_states.Stage.Stage, Passes.or_else, Passes.queue_for}
+use Rattle.cpu.specs.{Guests.after_answer, Table.Setups.Call, Table.Setups.Thread, Table.Setups.Private, Table.Setups.program_of, Table.Choice.settled}
+use Rattle.cpu.specs.{Table.Choice.at_pending, Tower.Views.TowerAnswer, Tower.Views.TowerName, Tower.Views.TowerOut, Tower.Privates.call_from}
+use Rattle.cpu.specs.{Tower.Privates.guest_at, Tower.Privates.guests_after, Tower.Privates.private_after, Tower.Privates.private_of, Tower.Privates.thread_from}
+use Rattle.cpu.specs.{Tower.Privates.trace_after, Table.Blocks.Pend, Tower.Composed.outcome_of}
+use Rattle.layer_traits.specs.declared.call_states.Stage.TheVariants.{Idle, Signals, SignalsOwn, Releases}
+use Rattle.cpu.proofs.Tower.{Callers.Site, Callers.call_state_at, Numbered.goes, Numbered.numbered_long, Numbered.own_at, Numbered.part_at, Numbered.parts}
+use Rattle.cpu.proofs.Tower.{Numbered.threads_at, Settled.calling, Settled.goes_on, Settled.returns, Lines.react_in, Lines.reply_guest, Chains.LineOf}
+use Rattle.cpu.proofs.Tower.{Chains.fifo_at, Chains.private_here, Chains.put_same}
 use Rattle.layer_traits.specs.declared.locked.QOut.TheVariants as lock
-use Rattle.layer_traits.specs.declared.conditions.CvEdit.TheVariants.{SignalFront}
-use Rattle.layer_traits.specs.declared.conditions.CvLeave.TheVariants.{Leave}
-use Rattle.layer_traits.specs.declared.conditions.CvOut.{CvOut}
 use Rattle.layer_traits.specs.declared.conditions.CvOut.TheVariants as cv
-use Rattle.layer_traits.specs.declared.buffer_edits.BufferEdit.{BufferEdit}
-use Rattle.layer_traits.specs.declared.buffer_edits.BufferOut.{BufferOut}
 use Rattle.layer_traits.specs.declared.queue_edits.QueueEdit.TheVariants as queue
 use Rattle.layer_traits.specs.declared.queues.QueueAnswer.TheVariants as told
-use Rattle.layer_traits.specs.declared.call_states.CallState.{CallState}
-use Rattle.layer_traits.specs.BufferProtocol.{buffer_rules}
-use Rattle.layer_traits.specs.BufferLaw.{BufferPlan, Buffering, at_stage, buffer_of, going, left_recorded, other_side, plan_at, no_call, reply_of}
-use Rattle.layer_traits.specs.BufferLaw.{side_of as tower_side, call_state_of}
-use Rattle.layer_traits.specs.Conditions.{CvCall}
-use Rattle.layer_traits.specs.CvLaw.{Waiting, cv_plan, cv_plan_for, left_waiting}
-use Rattle.layer_traits.specs.LockLaw.{left_after, plan_for, slept_for}
-use Rattle.layer_traits.specs.Locking.{lock_moves}
-use Rattle.layer_traits.specs.Plans.{Left, Plan, raised}
-use Rattle.layer_traits.specs.SleepLaw.{sleep_plan}
-use Rattle.cpu.specs.Guests.{after_answer}
-use Rattle.layer_traits.specs.declared.call_states.Stage.{Stage}
-use Rattle.layer_traits.specs.declared.call_states.Stage.TheVariants.{Idle, Signals, SignalsOwn, Releases}
-use Rattle.cpu.specs.Table.Setups.{Call, Thread, Private, program_of}
-use Rattle.cpu.specs.Table.Choice.{settled, at_pending}
-use Rattle.cpu.specs.Tower.Views.{TowerAnswer, TowerName, TowerOut}
-use Rattle.cpu.specs.Tower.Privates.{call_from, guest_at, guests_after, private_after, private_of, thread_from, trace_after}
-use Rattle.cpu.proofs.Tower.Callers.{Site, call_state_at}
-use Rattle.cpu.proofs.Tower.Numbered.{goes, numbered_long, own_at, part_at, parts, threads_at}
-use Rattle.cpu.proofs.Tower.Settled.{calling, goes_on, returns}
-use Rattle.layer_traits.specs.Passes.{or_else, queue_for}
 pub use Rattle.layer_traits.proofs.PlaceLemmas.{home_there}
-use Rattle.cpu.specs.Table.Blocks.{Pend}
-use Rattle.cpu.specs.Tower.Composed.{outcome_of}
-use Rattle.cpu.proofs.Tower.Lines.{react_in, reply_guest}
-use Rattle.cpu.proofs.Tower.Chains.{LineOf, fifo_at, private_here, put_same}
 
 pub queue_is : (c : CpuId) (o : Option CpuId) → IsSome o → or_else c o ≡ or_else (record { 0 = 0 }) o
 queue_is c None there = absurd (cc there)

@@ -1,15 +1,12 @@
 -- What the table makes of the answer of a section of the current thread's call.
 use Rattle.std.proofs.Common.{◌≡◌, ◌<◌, Bool, List, length, slice_set, Option, Some, None, ap, ◌∙◌}
 use Rattle.std.proofs.lemmas.List.{get_or-set_same, set-set}
-use Rattle.event_log.specs.declared.entries.Entry.{Entry}
-use Rattle.event_log.specs.declared.ids.CpuId.{CpuId}
-use Rattle.event_log.specs.declared.ids.Tid.{Tid}
+use Rattle.event_log.specs.declared.{entries.Entry.Entry, ids.CpuId.CpuId, ids.Tid.Tid}
 use Rattle.guest.specs.State.{State, next_of}
-use Rattle.cpu.specs.Table.Blocks.{Answer}
+use Rattle.cpu.specs.Table.{Blocks.Answer, Setups.Setup, Setups.Call, Setups.Thread, Setups.Private, Setups.new_thread, Setups.program_of, Setups.thread_at}
+use Rattle.cpu.specs.Table.{Choice.after_by, Choice.after_section, Choice.asked, Choice.asked_by, Choice.at_buffer, Choice.guest_after, Choice.recorded}
+use Rattle.cpu.specs.Table.{Choice.returned_at, Choice.returned_by, Choice.section_at, Choice.settled, Choice.slept_if, Choice.woken}
 use Rattle.layer_traits.specs.declared.call_states.Stage.TheVariants.{Idle}
-use Rattle.cpu.specs.Table.Setups.{Setup, Call, Thread, Private, new_thread, program_of, thread_at}
-use Rattle.cpu.specs.Table.Choice.{after_by, after_section, asked, asked_by, at_buffer, guest_after}
-use Rattle.cpu.specs.Table.Choice.{recorded, returned_at, returned_by, section_at, settled, slept_if, woken}
 use Rattle.cpu.proofs.Tower.Numbered.{parts}
 
 module _ (setup : Setup) (c : CpuId) (ready : List Tid) (threads : List Thread) (trace : List Entry) (t : Tid) (g : State) (e : Bool)

@@ -1,29 +1,25 @@
 -- The layers' sections are the table's: of every section on every block.
-use Rattle.std.proofs.Common.{◌≡◌, Bool, true, false, ◌&&◌, List, [], ◌∷◌, length, nat_lt, Option, Some, None, is_some, if◌then◌else◌, refl}
-use Rattle.std.proofs.Common.{ap, sym, arith, lt-ltb}
-use Rattle.event_log.specs.declared.ids.Tid.{Tid}
-use Rattle.event_log.specs.declared.entries.Kind.TheVariants.{Send, Recv, SendClosed, RecvClosed}
-use Rattle.event_log.specs.Messages.{Message}
+use Rattle.std.proofs.Common.{◌≡◌, Bool, true, false, ◌&&◌, List, [], ◌∷◌, length, nat_lt, Option, Some, None, is_some, if◌then◌else◌, refl, ap, sym, arith}
+use Rattle.std.proofs.Common.{lt-ltb}
+use Rattle.event_log.specs.{declared.ids.Tid.Tid, declared.entries.Kind.TheVariants.Send, declared.entries.Kind.TheVariants.Recv}
+use Rattle.event_log.specs.{declared.entries.Kind.TheVariants.SendClosed, declared.entries.Kind.TheVariants.RecvClosed, Messages.Message}
 use Rattle.thread_blocks.specs.Queues.{is_in, first, without}
 use Rattle.thread_blocks.proofs.Distinct.{without_none}
-use Rattle.layer_traits.specs.declared.locked.QEdit.TheVariants.{Acquire, Inside, Release}
-use Rattle.layer_traits.specs.declared.locked.Side.TheVariants.{Receivers, Senders}
-use Rattle.layer_traits.specs.declared.conditions.CvEdit.TheVariants.{Edit, SignalFront}
-use Rattle.layer_traits.specs.declared.conditions.CvLeave.TheVariants.{Leave, Wait}
-use Rattle.layer_traits.specs.declared.conditions.CvOut.{CvOut}
-use Rattle.layer_traits.specs.declared.buffer_edits.BufferEdit.{BufferEdit}
+use Rattle.layer_traits.specs.{declared.locked.QEdit.TheVariants.Acquire, declared.locked.QEdit.TheVariants.Inside, declared.locked.QEdit.TheVariants.Release}
+use Rattle.layer_traits.specs.{declared.locked.Side.TheVariants.Receivers, declared.locked.Side.TheVariants.Senders}
+use Rattle.layer_traits.specs.{declared.conditions.CvEdit.TheVariants.Edit, declared.conditions.CvEdit.TheVariants.SignalFront}
+use Rattle.layer_traits.specs.{declared.conditions.CvLeave.TheVariants.Leave, declared.conditions.CvLeave.TheVariants.Wait, declared.conditions.CvOut.CvOut}
+use Rattle.layer_traits.specs.{declared.buffer_edits.BufferEdit.BufferEdit, declared.buffer_edits.BufferOut.BufferOut, Conditions.CvCall, Conditions.signal_to}
+use Rattle.layer_traits.specs.{Locking.LockState, Locking.asked, Locking.wait_list_asked, Locking.signalled, Locking.asker_report, Locking.waiting_without}
+use Rattle.layer_traits.specs.BufferBlocks.{BufferState, entered as tower_entered, first_item, is_next, may_go, may_join, put_in, taken_out}
+use Rattle.cpu.specs.Table.Blocks.{Buffer, OfBuffer, OfPending, Name, AcqQ, Enter, TryPut, TryTake, Shut, WaitOn, SigRecv, SigSend, RelQ, Pend, TakeAll}
+use Rattle.cpu.specs.Table.Blocks.{Nothing, NotYet, front_stands_in}
+use Rattle.cpu.specs.Table.Edits.{acquired, answer, answer_of_acquire, edited, entered, put, taken, reports, report_of_put, report_of_take, wakes, without_any}
+use Rattle.cpu.specs.Tower.Views.{TablesAgree, TowerBlock, TowerName, answer_view, buffer_view, code, name_of, report_above, report_of, report_in, tower, view}
 use Rattle.layer_traits.specs.declared.buffer_edits.BufferEdit.TheVariants as edit
-use Rattle.layer_traits.specs.declared.buffer_edits.BufferOut.{BufferOut}
 use Rattle.layer_traits.specs.declared.buffer_edits.BufferOut.TheVariants as out
 use Rattle.layer_traits.specs.declared.queue_edits.QueueBlock.TheVariants as block
 use Rattle.layer_traits.specs.declared.queue_edits.QueueEdit.TheVariants as queue
-use Rattle.layer_traits.specs.BufferBlocks.{BufferState, entered as tower_entered, first_item, is_next, may_go, may_join, put_in, taken_out}
-use Rattle.layer_traits.specs.Conditions.{CvCall, signal_to}
-use Rattle.layer_traits.specs.Locking.{LockState, asked, wait_list_asked, signalled, asker_report, waiting_without}
-use Rattle.cpu.specs.Table.Blocks.{Buffer, OfBuffer, OfPending, Name, AcqQ, Enter, TryPut, TryTake, Shut, WaitOn}
-use Rattle.cpu.specs.Table.Blocks.{SigRecv, SigSend, RelQ, Pend, TakeAll, Nothing, NotYet, front_stands_in}
-use Rattle.cpu.specs.Table.Edits.{acquired, answer, answer_of_acquire, edited, entered, put, taken, reports, report_of_put, report_of_take, wakes, without_any}
-use Rattle.cpu.specs.Tower.Views.{TablesAgree, TowerBlock, TowerName, answer_view, buffer_view, code, name_of, report_above, report_of, report_in, tower, view}
 
 names : (n : Name) → name_of (code n) ≡ n
 names (AcqQ t) = refl

@@ -1,29 +1,21 @@
 -- One CPU's private state against where its threads are and what they do: whoever is current or ready is at home, the hand holds whom it
 -- woke, and each call stands at the stage that its visit says.
-use Rattle.std.proofs.Common.{◌≡◌, ◌+◌, ◌<◌, Bool, true, false, not, ◌&&◌, [], ◌∷◌, ◌++◌, length, Option}
-use Rattle.std.proofs.Common.{Some, None, is_some, nat_lt, if◌then◌else◌, refl, sym, ap, ◌∙◌, subst, arith}
-use Rattle.std.proofs.lemmas.Bool.{and_parts, and_from, and_left, and_right, false_from_ne_true, ltb-true, eqb-false}
-use Rattle.std.proofs.lemmas.List.{length-set, get_or-set_same, get_or-set_other}
-use Rattle.event_log.specs.declared.ids.CpuId.{CpuId}
-use Rattle.event_log.specs.declared.ids.Tid.{Tid}
-use Rattle.event_log.specs.declared.ids.BufId.{BufId}
-use Rattle.event_log.specs.History.{same_cpu}
+use Rattle.std.proofs.Common.{◌≡◌, ◌+◌, ◌<◌, Bool, true, false, not, ◌&&◌, [], ◌∷◌, ◌++◌, length, Option, Some, None, is_some, nat_lt, if◌then◌else◌, refl, sym}
+use Rattle.std.proofs.Common.{ap, ◌∙◌, subst, arith}
+use Rattle.std.proofs.lemmas.{Bool.and_parts, Bool.and_from, Bool.and_left, Bool.and_right, Bool.false_from_ne_true, Bool.ltb-true, Bool.eqb-false}
+use Rattle.std.proofs.lemmas.{List.length-set, List.get_or-set_same, List.get_or-set_other}
+use Rattle.event_log.specs.{declared.ids.CpuId.CpuId, declared.ids.Tid.Tid, declared.ids.BufId.BufId, History.same_cpu}
 use Rattle.event_log.proofs.Same.{same_cpu_self}
 use Rattle.thread_blocks.specs.Queues.{same_tid}
 use Rattle.thread_blocks.proofs.Members.{same_tid_self, same_tid_true}
-use Rattle.layer_traits.specs.declared.locked.Side.{Side}
-use Rattle.layer_traits.specs.declared.locked.Side.TheVariants.{Receivers, Senders}
+use Rattle.layer_traits.specs.declared.{locked.Side.Side, locked.Side.TheVariants.Receivers, locked.Side.TheVariants.Senders, call_states.Stage.Stage}
 use Rattle.layer_traits.specs.Places.{Where, Home, Hand, is_home, is_hand, is_thread, one_if, count_in}
-use Rattle.layer_traits.proofs.CountLemmas.{same_tid_sym, count_append}
-use Rattle.layer_traits.proofs.PlaceLemmas.{is_home_true}
-use Rattle.cpu.specs.Table.Blocks.{side_of}
-use Rattle.layer_traits.specs.declared.call_states.Stage.{Stage}
+use Rattle.layer_traits.proofs.{CountLemmas.same_tid_sym, CountLemmas.count_append, PlaceLemmas.is_home_true}
+use Rattle.cpu.specs.{Table.Blocks.side_of, Table.Setups.Setup, Table.Setups.Call, Table.Setups.Thread, Table.Setups.Private, Table.Setups.new_thread}
+use Rattle.cpu.specs.{Table.Setups.thread_at, Table.Setups.with_thread, Table.Setups.home_of, Table.Choice.slept_if, Table.Choice.woken, Wakeups.Order.Progress}
+use Rattle.cpu.specs.{Wakeups.Order.Begins, Wakeups.Order.HasEntered, Wakeups.Order.WasRefused, Wakeups.Order.Owes}
 use Rattle.layer_traits.specs.declared.call_states.Stage.TheVariants.{Idle, Acquires, Enters, Tries, Waits, AcquiresAgain, Signals, SignalsOwn, Releases}
-use Rattle.cpu.specs.Table.Setups.{Setup, Call, Thread, Private, new_thread, thread_at, with_thread, home_of}
-use Rattle.cpu.specs.Table.Choice.{slept_if, woken}
-use Rattle.cpu.specs.Wakeups.Order.{Progress, Begins, HasEntered, WasRefused, Owes}
-use Rattle.cpu.proofs.Wakeups.Lists.{refuted}
-use Rattle.cpu.proofs.Wakeups.Posts.{Waiting, Visit, Outside, In, post_by, post_woken, is_local}
+use Rattle.cpu.proofs.Wakeups.{Lists.refuted, Posts.Waiting, Posts.Visit, Posts.Outside, Posts.In, Posts.post_by, Posts.post_woken, Posts.is_local}
 
 -- once the other side is signalled, the own side is owed its signal
 abbrev pub owing_own : Side → Progress

@@ -1,30 +1,20 @@
 -- A CPU alone: three steps of it are one section, and a call of it goes on section by section.
-use Rattle.std.proofs.Common.{◌≡◌, ℕ, zero, suc, ◌+◌, ◌<◌, ◌≤◌, ◌==◌, true, false, ◌&&◌, List, [], ◌∷◌, length, slice_get}
-use Rattle.std.proofs.Common.{slice_set, Some, None, option_map, if◌then◌else◌, refl, sym, ap, ◌∙◌, subst, arith}
+use Rattle.std.proofs.Common.{◌≡◌, ℕ, zero, suc, ◌+◌, ◌<◌, ◌≤◌, ◌==◌, true, false, ◌&&◌, List, [], ◌∷◌, length, slice_get, slice_set, Some, None, option_map}
+use Rattle.std.proofs.Common.{if◌then◌else◌, refl, sym, ap, ◌∙◌, subst, arith}
 use Rattle.std.proofs.lemmas.Bool.{ne_eqb}
-use Rattle.event_log.specs.declared.ids.CpuId.{CpuId}
-use Rattle.event_log.specs.declared.ids.Tid.{Tid}
-use Rattle.event_log.specs.declared.ids.BufId.{BufId}
-use Rattle.event_log.specs.declared.ids.LockId.TheVariants.{Buffer as AtBuffer}
-use Rattle.event_log.specs.declared.entries.Entry.{Entry}
-use Rattle.event_log.specs.Sections.{Section, sections_in}
-use Rattle.event_log.specs.Actions.{Action, Take, Try, Give, Phase, Rests, Waits as WaitsAt, Holds, phase, next_action, AreFree}
-use Rattle.event_log.proofs.Alone.{first_action, second_action, third_action, free_again}
-use Rattle.event_log.proofs.Exclusion.{phase_own}
-use Rattle.event_log.proofs.Same.{same_lock_self}
-use Rattle.layer_traits.specs.declared.steps.Reason.TheVariants.{AllEnded}
-use Rattle.layer_traits.specs.declared.steps.Step.TheVariants.{Stepped}
-use Rattle.layer_traits.specs.Plans.{is_in_section, at_give}
-use Rattle.layer_traits.specs.Along.{Outcome}
-use Rattle.cpu.specs.Table.Blocks.{Buffer, OfBuffer, Name, Answer}
-use Rattle.cpu.specs.Table.Edits.{edited, edited_buffer, answer}
-use Rattle.cpu.specs.Table.Setups.{Setup, Call, Private, thread_at, home_threads, have_ended}
-use Rattle.cpu.specs.Table.Choice.{Ask, at_buffer, section_at, asked_by, asked_at, asked_in, asked}
-use Rattle.cpu.specs.Table.Choice.{Halts, Goes, at_call, at_current, at_hand, choice, with_call}
-use Rattle.cpu.specs.Table.Choice.{returned_at, returned_by, returned_in, settled, after_call, after_by, after_at, after_in, after_section}
-use Rattle.cpu.specs.Table.Steps.{after_reply, acting, chosen, step_in, cpu_step, Whole, whole_after}
-use Rattle.cpu.specs.Table.Steps.{stepping, answered_by, roomy, step_at, system_step, steps_by}
-use Rattle.cpu.specs.Wakeups.Order.{block_of}
+use Rattle.event_log.specs.{declared.ids.CpuId.CpuId, declared.ids.Tid.Tid, declared.ids.BufId.BufId, declared.ids.LockId.TheVariants.Buffer as AtBuffer}
+use Rattle.event_log.specs.{declared.entries.Entry.Entry, Sections.Section, Sections.sections_in, Actions.Action, Actions.Take, Actions.Try, Actions.Give}
+use Rattle.event_log.specs.{Actions.Phase, Actions.Rests, Actions.Waits as WaitsAt, Actions.Holds, Actions.phase, Actions.next_action, Actions.AreFree}
+use Rattle.event_log.proofs.{Alone.first_action, Alone.second_action, Alone.third_action, Alone.free_again, Exclusion.phase_own, Same.same_lock_self}
+use Rattle.layer_traits.specs.{declared.steps.Reason.TheVariants.AllEnded, declared.steps.Step.TheVariants.Stepped, Plans.is_in_section, Plans.at_give}
+use Rattle.layer_traits.specs.{Along.Outcome}
+use Rattle.cpu.specs.{Table.Blocks.Buffer, Table.Blocks.OfBuffer, Table.Blocks.Name, Table.Blocks.Answer, Table.Edits.edited, Table.Edits.edited_buffer}
+use Rattle.cpu.specs.{Table.Edits.answer, Table.Setups.Setup, Table.Setups.Call, Table.Setups.Private, Table.Setups.thread_at, Table.Setups.home_threads}
+use Rattle.cpu.specs.{Table.Setups.have_ended, Table.Steps.after_reply, Table.Steps.acting, Table.Steps.chosen, Table.Steps.step_in, Table.Steps.cpu_step}
+use Rattle.cpu.specs.{Table.Steps.Whole, Table.Steps.whole_after, Table.Steps.stepping, Table.Steps.answered_by, Table.Steps.roomy, Table.Steps.step_at}
+use Rattle.cpu.specs.{Table.Steps.system_step, Table.Steps.steps_by, Wakeups.Order.block_of}
+use Rattle.cpu.specs.Table.Choice.{Ask, at_buffer, section_at, asked_by, asked_at, asked_in, asked, Halts, Goes, at_call, at_current, at_hand, choice}
+use Rattle.cpu.specs.Table.Choice.{with_call, returned_at, returned_by, returned_in, settled, after_call, after_by, after_at, after_in, after_section}
 use Rattle.cpu.proofs.Wakeups.Agreement.{at_same, Same, same_with}
 
 -- Steps one after the other.

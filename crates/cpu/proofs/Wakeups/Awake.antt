@@ -1,21 +1,17 @@
 -- One buffer and the progress of its owner: whoever is due to be woken is the owner itself, or will be signalled before the lock is given back.
 use Rattle.std.proofs.Common.{◌≡◌, Bool, true, false, ◌&&◌, List, [], ◌∷◌, ◌++◌, Option, Some, None, if◌then◌else◌, refl, sym, ap, ◌∙◌, subst}
-use Rattle.std.proofs.lemmas.Bool.{and_parts, and_from, false_from_ne_true}
-use Rattle.std.proofs.lemmas.Option.{same_Some}
-use Rattle.event_log.specs.declared.ids.Tid.{Tid}
-use Rattle.event_log.specs.Messages.{Message}
+use Rattle.std.proofs.lemmas.{Bool.and_parts, Bool.and_from, Bool.false_from_ne_true, Option.same_Some}
+use Rattle.event_log.specs.{declared.ids.Tid.Tid, Messages.Message}
 use Rattle.thread_blocks.specs.Queues.{same_tid, is_in, first, rest}
-use Rattle.thread_blocks.proofs.Members.{same_tid_self, same_tid_true}
-use Rattle.thread_blocks.proofs.Distinct.{taken_absent}
-use Rattle.layer_traits.specs.declared.locked.Side.{Side}
-use Rattle.layer_traits.specs.declared.locked.Side.TheVariants.{Receivers, Senders}
-use Rattle.layer_traits.specs.Sleeping.{joined}
-use Rattle.layer_traits.specs.BufferBlocks.{may_join, is_first}
+use Rattle.thread_blocks.proofs.{Members.same_tid_self, Members.same_tid_true, Distinct.taken_absent}
+use Rattle.layer_traits.specs.{declared.locked.Side.Side, declared.locked.Side.TheVariants.Receivers, declared.locked.Side.TheVariants.Senders, Sleeping.joined}
+use Rattle.layer_traits.specs.{BufferBlocks.may_join, BufferBlocks.is_first}
 use Rattle.cpu.specs.Table.Blocks.{Buffer, Name, AcqQ, Enter, TryPut, TryTake, Shut, WaitOn, SigRecv, SigSend, RelQ, Pend, TakeAll, front_stands_in}
-use Rattle.cpu.specs.Table.Edits.{can_put, can_take, may_put, may_take, sender_is_due, receiver_is_due, without_any}
-use Rattle.cpu.specs.Table.Edits.{acquired, line_of, entered, put, taken, shut, waiting, released, edited_buffer}
-use Rattle.cpu.specs.Wakeups.Order.{Progress, Begins, HasEntered, WasRefused, Owes, progress_after}
-use Rattle.cpu.specs.Wakeups.Order.{receivers_signalled, senders_signalled, MayTry, IsOwing, MayEdit}
+use Rattle.cpu.specs.{Table.Edits.can_put, Table.Edits.can_take, Table.Edits.may_put, Table.Edits.may_take, Table.Edits.sender_is_due}
+use Rattle.cpu.specs.{Table.Edits.receiver_is_due, Table.Edits.without_any, Table.Edits.acquired, Table.Edits.line_of, Table.Edits.entered, Table.Edits.put}
+use Rattle.cpu.specs.{Table.Edits.taken, Table.Edits.shut, Table.Edits.waiting, Table.Edits.released, Table.Edits.edited_buffer, Wakeups.Order.Progress}
+use Rattle.cpu.specs.{Wakeups.Order.Begins, Wakeups.Order.HasEntered, Wakeups.Order.WasRefused, Wakeups.Order.Owes, Wakeups.Order.progress_after}
+use Rattle.cpu.specs.{Wakeups.Order.receivers_signalled, Wakeups.Order.senders_signalled, Wakeups.Order.MayTry, Wakeups.Order.IsOwing, Wakeups.Order.MayEdit}
 use Rattle.cpu.proofs.Wakeups.Lists.{refuted, none_is_not, in_joined}
 
 -- nobody is due

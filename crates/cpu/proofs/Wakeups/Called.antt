@@ -1,35 +1,25 @@
 -- What holds after any section log in which each section may come: every buffer with every thread, and where each thread is.
-use Rattle.std.proofs.Common.{◌≡◌, ℕ, Bool, true, false, ◌&&◌, List, [], ◌∷◌, length, slice_get, Option}
-use Rattle.std.proofs.Common.{Some, None, option_map, nat_lt, if◌then◌else◌, refl, sym, ap, ◌∙◌, subst}
+use Rattle.std.proofs.Common.{◌≡◌, ℕ, Bool, true, false, ◌&&◌, List, [], ◌∷◌, length, slice_get, Option, Some, None, option_map, nat_lt, if◌then◌else◌, refl}
+use Rattle.std.proofs.Common.{sym, ap, ◌∙◌, subst}
 use Rattle.std.proofs.lemmas.Bool.{and_parts, and_left, and_right, false_from_ne_true}
-use Rattle.event_log.specs.declared.ids.CpuId.{CpuId}
-use Rattle.event_log.specs.declared.ids.Tid.{Tid}
-use Rattle.event_log.specs.declared.ids.BufId.{BufId}
-use Rattle.event_log.specs.declared.ids.LockId.{LockId}
-use Rattle.event_log.specs.declared.ids.LockId.TheVariants.{Pending, Buffer as AtBuffer}
-use Rattle.event_log.specs.declared.ids.TheConstants.{THREADS}
-use Rattle.event_log.specs.History.{same_cpu, same_lock}
-use Rattle.event_log.specs.Sections.{Section}
+use Rattle.event_log.specs.{declared.ids.CpuId.CpuId, declared.ids.Tid.Tid, declared.ids.BufId.BufId, declared.ids.LockId.LockId}
+use Rattle.event_log.specs.{declared.ids.LockId.TheVariants.Pending, declared.ids.LockId.TheVariants.Buffer as AtBuffer, declared.ids.TheConstants.THREADS}
+use Rattle.event_log.specs.{History.same_cpu, History.same_lock, Sections.Section}
 use Rattle.event_log.proofs.Same.{same_cpu_self, same_cpu_true, same_lock_self, same_lock_true}
 use Rattle.thread_blocks.specs.Queues.{same_tid}
 use Rattle.thread_blocks.proofs.Members.{same_tid_true}
-use Rattle.layer_traits.specs.declared.moves.WaitList.{WaitList}
-use Rattle.layer_traits.specs.ListsAgree.{same_list}
-use Rattle.layer_traits.specs.Places.{Where, Home, Hand, Pend as IsPending, Asleep, At, is_home, is_thread, one_if, count_in}
-use Rattle.layer_traits.specs.Sleeping.{joined}
+use Rattle.layer_traits.specs.{declared.moves.WaitList.WaitList, ListsAgree.same_list, Places.Where, Places.Home, Places.Hand, Places.Pend as IsPending}
+use Rattle.layer_traits.specs.{Places.Asleep, Places.At, Places.is_home, Places.is_thread, Places.one_if, Places.count_in, Sleeping.joined}
 use Rattle.layer_traits.proofs.CountLemmas.{same_cpu_sym}
-use Rattle.cpu.specs.Table.Blocks.{Buffer, Block, OfBuffer, OfPending, Name, Pend, TakeAll}
-use Rattle.cpu.specs.Table.Edits.{edited, edited_buffer, answer_of_buffer}
-use Rattle.cpu.specs.Table.Setups.{Setup, home_of, opening_buffer, empty_buffer}
+use Rattle.cpu.specs.Table.{Blocks.Buffer, Blocks.Block, Blocks.OfBuffer, Blocks.OfPending, Blocks.Name, Blocks.Pend, Blocks.TakeAll, Edits.edited}
+use Rattle.cpu.specs.Table.{Edits.edited_buffer, Edits.answer_of_buffer, Setups.Setup, Setups.home_of, Setups.opening_buffer, Setups.empty_buffer}
 use Rattle.cpu.specs.Wakeups.Order.{Progress, Begins, progress, progress_by, progress_after, block_of, MayEdit, MayEditBlock, IsInOrder}
-use Rattle.cpu.proofs.Wakeups.Lists.{refuted, none_is_not}
-use Rattle.cpu.proofs.Wakeups.Awake.{IsAwake}
-use Rattle.cpu.proofs.Wakeups.Ordered.{same_buffer, buffer_awake}
-use Rattle.cpu.proofs.Wakeups.Posts.{Outside, is_buffer, sleeps_in, sleeps_at, is_pending, is_moved}
-use Rattle.cpu.proofs.Wakeups.Posts.{caller_in, is_caller, waiters_of, post_by, post_woken, post_moved, post_drained, post_pending, post_buffer, post}
-use Rattle.cpu.proofs.Wakeups.Posts.{next_visit, visit_moved, visit_buffer, visit, IsCallers, MayComeBy, MayComeTo, MayComeAt, MayCome, marked}
-use Rattle.cpu.proofs.Wakeups.Pairs.{Pair, marked_none, grown_list, buffer_self, buffer_true, woken_sleeps, woken_awake, other_pair, thread_some, other_joined}
-use Rattle.cpu.proofs.Wakeups.Owns.{ByCaller, may_edit, own_pair, away, visit_apart, post_apart}
+use Rattle.cpu.proofs.Wakeups.{Lists.refuted, Lists.none_is_not, Awake.IsAwake, Ordered.same_buffer, Ordered.buffer_awake, Pairs.Pair, Pairs.marked_none}
+use Rattle.cpu.proofs.Wakeups.{Pairs.grown_list, Pairs.buffer_self, Pairs.buffer_true, Pairs.woken_sleeps, Pairs.woken_awake, Pairs.other_pair}
+use Rattle.cpu.proofs.Wakeups.{Pairs.thread_some, Pairs.other_joined, Owns.ByCaller, Owns.may_edit, Owns.own_pair, Owns.away, Owns.visit_apart, Owns.post_apart}
+use Rattle.cpu.proofs.Wakeups.Posts.{Outside, is_buffer, sleeps_in, sleeps_at, is_pending, is_moved, caller_in, is_caller, waiters_of, post_by, post_woken}
+use Rattle.cpu.proofs.Wakeups.Posts.{post_moved, post_drained, post_pending, post_buffer, post, next_visit, visit_moved, visit_buffer, visit, IsCallers}
+use Rattle.cpu.proofs.Wakeups.Posts.{MayComeBy, MayComeTo, MayComeAt, MayCome, marked}
 
 -- what holds after a section log
 pub record Good (setup : Setup) (past : List (Section Name)) : Type 0 where

@@ -1,26 +1,20 @@
 -- What a CPU chooses to do leaves it in agreement.
-use Rattle.std.proofs.Common.{◌≡◌, ◌+◌, ◌<◌, ◌==◌, Bool, true, false, ◌&&◌, List, [], ◌∷◌, length, Option}
-use Rattle.std.proofs.Common.{Some, None, is_some, if◌then◌else◌, refl, sym, ap, ◌∙◌, subst, arith}
-use Rattle.std.proofs.lemmas.Bool.{and_right}
-use Rattle.std.proofs.lemmas.List.{length-set}
-use Rattle.event_log.specs.declared.ids.CpuId.{CpuId}
-use Rattle.event_log.specs.declared.ids.Tid.{Tid}
-use Rattle.guest.specs.declared.instructions.Instruction.{Instruction}
+use Rattle.std.proofs.Common.{◌≡◌, ◌+◌, ◌<◌, ◌==◌, Bool, true, false, ◌&&◌, List, [], ◌∷◌, length, Option, Some, None, is_some, if◌then◌else◌, refl, sym, ap}
+use Rattle.std.proofs.Common.{◌∙◌, subst, arith}
+use Rattle.std.proofs.lemmas.{Bool.and_right, List.length-set}
+use Rattle.event_log.specs.declared.ids.{CpuId.CpuId, Tid.Tid}
+use Rattle.guest.specs.{declared.instructions.Instruction.Instruction, State.State}
 use Rattle.guest.specs.declared.instructions.Instruction.TheVariants.{Send, Recv, Close, Yield as YieldLine, Exit}
-use Rattle.guest.specs.State.{State}
 use Rattle.thread_blocks.specs.Queues.{same_tid}
 use Rattle.thread_blocks.proofs.Members.{same_tid_true}
-use Rattle.layer_traits.specs.declared.steps.Reason.TheVariants.{AllEnded, TraceFull}
-use Rattle.layer_traits.specs.Places.{Where, is_home, is_thread, one_if, count_in}
+use Rattle.layer_traits.specs.{declared.steps.Reason.TheVariants.AllEnded, declared.steps.Reason.TheVariants.TraceFull, Places.Where, Places.is_home}
+use Rattle.layer_traits.specs.{Places.is_thread, Places.one_if, Places.count_in, declared.call_states.Stage.TheVariants.Acquires}
 use Rattle.layer_traits.proofs.CountLemmas.{same_tid_sym}
-use Rattle.layer_traits.specs.declared.call_states.Stage.TheVariants.{Acquires}
 use Rattle.cpu.specs.Table.Setups.{Setup, Call, Thread, Private, thread_at, stands_at, home_threads, open_calls, have_ended}
-use Rattle.cpu.specs.Table.Choice.{Choice, Halts, Alone, Goes, new_call, with_call, with_guest, begins}
-use Rattle.cpu.specs.Table.Choice.{ends, at_instruction, at_call, at_ready, at_current, at_hand, choice}
-use Rattle.cpu.proofs.Wakeups.Lists.{refuted}
-use Rattle.cpu.proofs.Wakeups.Posts.{Visit, is_local}
+use Rattle.cpu.specs.Table.Choice.{Choice, Halts, Alone, Goes, new_call, with_call, with_guest, begins, ends, at_instruction, at_call, at_ready, at_current}
+use Rattle.cpu.specs.Table.Choice.{at_hand, choice}
+use Rattle.cpu.proofs.Wakeups.{Lists.refuted, Posts.Visit, Posts.is_local, Sits.guest_calls}
 use Rattle.cpu.proofs.Wakeups.Agreement.{visit_of_call, is_done, seat, Agrees, IsSettled, at_same, at_other, same_with, agrees_same, runs, within}
-use Rattle.cpu.proofs.Wakeups.Sits.{guest_calls}
 
 -- the state that is chosen agrees
 abbrev pub ChoiceOk : Setup → CpuId → (Tid → Visit) → (Tid → Where) → Choice → Type 0

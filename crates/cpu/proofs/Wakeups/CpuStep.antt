@@ -1,41 +1,30 @@
 -- One step of a CPU: each section that it ends is one that may come, and every CPU stays in agreement with the log.
-use Rattle.std.proofs.Common.{◌≡◌, ℕ, Bool, true, false, List, [], ◌∷◌, ◌++◌, length, slice_get, Option, Some}
-use Rattle.std.proofs.Common.{None, option_map, is_some, nat_lt, if◌then◌else◌, refl, sym, ap, ◌∙◌, subst}
+use Rattle.std.proofs.Common.{◌≡◌, ℕ, Bool, true, false, List, [], ◌∷◌, ◌++◌, length, slice_get, Option, Some, None, option_map, is_some, nat_lt, if◌then◌else◌}
+use Rattle.std.proofs.Common.{refl, sym, ap, ◌∙◌, subst}
 use Rattle.std.proofs.lemmas.Bool.{and_parts, false_from_ne_true}
-use Rattle.event_log.specs.declared.ids.CpuId.{CpuId}
-use Rattle.event_log.specs.declared.ids.Tid.{Tid}
-use Rattle.event_log.specs.declared.ids.BufId.{BufId}
-use Rattle.event_log.specs.declared.ids.LockId.{LockId}
-use Rattle.event_log.specs.declared.ids.LockId.TheVariants.{Pending, Buffer as AtBuffer}
-use Rattle.event_log.specs.History.{same_cpu, same_lock}
-use Rattle.event_log.specs.Runs.{Group, Sends, Receives, Closes}
-use Rattle.event_log.specs.Sections.{Section}
+use Rattle.event_log.specs.declared.ids.{CpuId.CpuId, Tid.Tid, BufId.BufId, LockId.LockId, LockId.TheVariants.Pending, LockId.TheVariants.Buffer as AtBuffer}
+use Rattle.event_log.specs.{History.same_cpu, History.same_lock, Runs.Group, Runs.Sends, Runs.Receives, Runs.Closes, Sections.Section}
 use Rattle.event_log.proofs.Same.{same_cpu_true}
 use Rattle.guest.specs.State.{after_yield}
 use Rattle.thread_blocks.specs.Queues.{same_tid}
 use Rattle.thread_blocks.proofs.Members.{same_tid_self, same_tid_true}
-use Rattle.layer_traits.specs.declared.locked.Side.{Side}
-use Rattle.layer_traits.specs.declared.locked.Side.TheVariants.{Receivers, Senders}
+use Rattle.layer_traits.specs.declared.{locked.Side.Side, locked.Side.TheVariants.Receivers, locked.Side.TheVariants.Senders, call_states.Stage.Stage}
 use Rattle.layer_traits.specs.Places.{Where, Hand, Pend as IsPending, is_home, is_hand, is_thread, count_in}
 use Rattle.layer_traits.proofs.PlaceLemmas.{is_hand_true, is_home_true}
-use Rattle.cpu.specs.Table.Blocks.{Block, OfBuffer, OfPending, Name, Pend, TakeAll, side_of}
-use Rattle.cpu.specs.Table.Edits.{edited, answer, answer_of_buffer}
-use Rattle.layer_traits.specs.declared.call_states.Stage.{Stage}
+use Rattle.cpu.specs.{Table.Blocks.Block, Table.Blocks.OfBuffer, Table.Blocks.OfPending, Table.Blocks.Name, Table.Blocks.Pend, Table.Blocks.TakeAll}
+use Rattle.cpu.specs.{Table.Blocks.side_of, Table.Edits.edited, Table.Edits.answer, Table.Edits.answer_of_buffer, Table.Setups.Setup, Table.Setups.Call}
+use Rattle.cpu.specs.{Table.Setups.Private, Table.Setups.thread_at, Table.Setups.home_of, Table.Setups.stands_at, Table.Setups.opening_buffer}
+use Rattle.cpu.specs.{Table.Steps.after_reply, Wakeups.Order.block_of, Wakeups.Order.Begins, Wakeups.Order.HasEntered, Wakeups.Order.Owes}
 use Rattle.layer_traits.specs.declared.call_states.Stage.TheVariants.{Idle, Acquires, Enters, Tries, Waits, AcquiresAgain, Signals, SignalsOwn, Releases}
-use Rattle.cpu.specs.Table.Setups.{Setup, Call, Private, thread_at, home_of, stands_at, opening_buffer}
-use Rattle.cpu.specs.Table.Choice.{Ask, at_pending, at_buffer, section_at, first_section, try_of, first_signal}
-use Rattle.cpu.specs.Table.Choice.{second_signal, asked_by, asked_at, asked_in, asked, with_guest, settled, after_call, after_by, after_at, after_in}
-use Rattle.cpu.specs.Table.Steps.{after_reply}
-use Rattle.cpu.specs.Wakeups.Order.{block_of, Begins, HasEntered, Owes}
-use Rattle.cpu.proofs.Wakeups.Lists.{refuted}
-use Rattle.cpu.proofs.Wakeups.Posts.{In, sleeps_at, caller_in, is_caller, post_by, post_drained, post_pending}
-use Rattle.cpu.proofs.Wakeups.Posts.{post_buffer, post, next_visit, visit_moved, visit_buffer, visit}
-use Rattle.cpu.proofs.Wakeups.Posts.{IsDue, is_local, IsCallers, MayComeBy, MayComeTo, MayComeAt, MayCome}
-use Rattle.cpu.proofs.Wakeups.Pairs.{woken_sleeps}
-use Rattle.cpu.proofs.Wakeups.Called.{Good, Moves, was_woken, has_slept, stays, moves_at, CallersAre, callers_are, is_the_caller, sleeps_not_home}
-use Rattle.cpu.proofs.Wakeups.Agreement.{owing_own, visit_of_stage, visit_of_call, is_last, is_done, Agrees, IsSettled, runs, within}
-use Rattle.cpu.proofs.Wakeups.Sits.{IsCalling, section_caller, agrees_call, agrees_pended, agrees_drained}
-use Rattle.cpu.proofs.Wakeups.Sits.{agrees_yielded, guest_calls, agrees_foreign, drained_hand}
+use Rattle.cpu.specs.Table.Choice.{Ask, at_pending, at_buffer, section_at, first_section, try_of, first_signal, second_signal, asked_by, asked_at, asked_in}
+use Rattle.cpu.specs.Table.Choice.{asked, with_guest, settled, after_call, after_by, after_at, after_in}
+use Rattle.cpu.proofs.Wakeups.{Lists.refuted, Pairs.woken_sleeps, Called.Good, Called.Moves, Called.was_woken, Called.has_slept, Called.stays, Called.moves_at}
+use Rattle.cpu.proofs.Wakeups.{Called.CallersAre, Called.callers_are, Called.is_the_caller, Called.sleeps_not_home, Agreement.owing_own}
+use Rattle.cpu.proofs.Wakeups.{Agreement.visit_of_stage, Agreement.visit_of_call, Agreement.is_last, Agreement.is_done, Agreement.Agrees, Agreement.IsSettled}
+use Rattle.cpu.proofs.Wakeups.{Agreement.runs, Agreement.within, Sits.IsCalling, Sits.section_caller, Sits.agrees_call, Sits.agrees_pended, Sits.agrees_drained}
+use Rattle.cpu.proofs.Wakeups.{Sits.agrees_yielded, Sits.guest_calls, Sits.agrees_foreign, Sits.drained_hand}
+use Rattle.cpu.proofs.Wakeups.Posts.{In, sleeps_at, caller_in, is_caller, post_by, post_drained, post_pending, post_buffer, post, next_visit, visit_moved}
+use Rattle.cpu.proofs.Wakeups.Posts.{visit_buffer, visit, IsDue, is_local, IsCallers, MayComeBy, MayComeTo, MayComeAt, MayCome}
 
 -- The locks' blocks are of their kinds.
 

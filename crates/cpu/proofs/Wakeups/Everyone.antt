@@ -1,39 +1,22 @@
 -- In every state that a system reaches each live thread has one place.
-use Rattle.std.proofs.Common.{◌≡◌, ℕ, zero, suc, ◌+◌, ◌<◌, Bool, true, false, not, ◌&&◌, ◌==◌, List}
-use Rattle.std.proofs.Common.{◌++◌, length, slice_get, Some, nat_lt, refl, sym, ap, ◌∙◌, subst, arith}
+use Rattle.std.proofs.Common.{◌≡◌, ℕ, zero, suc, ◌+◌, ◌<◌, Bool, true, false, not, ◌&&◌, ◌==◌, List, ◌++◌, length, slice_get, Some, nat_lt, refl, sym, ap, ◌∙◌}
+use Rattle.std.proofs.Common.{subst, arith}
 use Rattle.std.proofs.lemmas.Bool.{and_from, and_left, and_right, false_from_ne_true, lt-ltb, ltb-true, ne_eqb}
-use Rattle.event_log.specs.declared.ids.CpuId.{CpuId}
-use Rattle.event_log.specs.declared.ids.Tid.{Tid}
-use Rattle.event_log.specs.declared.ids.BufId.{BufId}
-use Rattle.event_log.specs.declared.ids.LockId.TheVariants.{Pending, Buffer as AtBuffer}
-use Rattle.event_log.specs.declared.ids.TheConstants.{THREADS}
-use Rattle.event_log.specs.History.{same_cpu}
-use Rattle.event_log.specs.Sections.{Section, sections_in}
+use Rattle.event_log.specs.{declared.ids.CpuId.CpuId, declared.ids.Tid.Tid, declared.ids.BufId.BufId, declared.ids.LockId.TheVariants.Pending}
+use Rattle.event_log.specs.{declared.ids.LockId.TheVariants.Buffer as AtBuffer, declared.ids.TheConstants.THREADS, History.same_cpu, Sections.Section}
+use Rattle.event_log.specs.{Sections.sections_in}
 use Rattle.event_log.proofs.Same.{same_cpu_self}
-use Rattle.layer_traits.specs.declared.moves.WaitList.{WaitList}
-use Rattle.layer_traits.specs.declared.moves.WaitList.TheVariants as wait_list
-use Rattle.layer_traits.specs.ListsAgree.{same_list}
-use Rattle.layer_traits.specs.Passes.{as_list}
+use Rattle.layer_traits.specs.{declared.moves.WaitList.WaitList, ListsAgree.same_list, Passes.as_list, OnePlace.total}
 use Rattle.layer_traits.specs.Places.{Where, Home, Hand, Pend as IsPending, Asleep, At, is_home, is_hand, is_thread, one_if, count_in}
-use Rattle.layer_traits.proofs.CountLemmas.{count_append, count_as_list}
-use Rattle.layer_traits.specs.OnePlace.{total}
-use Rattle.layer_traits.proofs.OnePlaceLemmas.{total_at, total_none}
-use Rattle.cpu.specs.Table.Blocks.{Buffer, OfBuffer, Name}
-use Rattle.cpu.specs.Table.Setups.{Setup, Private, thread_at, home_of}
-use Rattle.cpu.specs.Table.Steps.{Whole, cpu_numbered}
-use Rattle.cpu.specs.Table.Worked.{buffer_numbered}
-use Rattle.cpu.specs.Wakeups.Order.{block_of}
-use Rattle.cpu.specs.Wakeups.Quiet.{HomesExist}
+use Rattle.layer_traits.proofs.{CountLemmas.count_append, CountLemmas.count_as_list, OnePlaceLemmas.total_at, OnePlaceLemmas.total_none}
+use Rattle.cpu.specs.{Table.Blocks.Buffer, Table.Blocks.OfBuffer, Table.Blocks.Name, Table.Setups.Setup, Table.Setups.Private, Table.Setups.thread_at}
+use Rattle.cpu.specs.{Table.Setups.home_of, Table.Steps.Whole, Table.Steps.cpu_numbered, Table.Worked.buffer_numbered, Wakeups.Order.block_of}
+use Rattle.cpu.specs.{Wakeups.Quiet.HomesExist}
 use Rattle.cpu.specs.Wakeups.OnePlace.{own_queues, queues_in, all_of, of_cpu, of_pending, of_buffer, everyone, thread_in, thread_of, is_live, StandInOnePlace}
-use Rattle.cpu.proofs.Wakeups.Lists.{refuted}
-use Rattle.cpu.proofs.Wakeups.Posts.{is_buffer, sleeps_in, is_pending, is_local, post, visit, marked}
-use Rattle.cpu.proofs.Wakeups.Pairs.{sleeps_here, marked_none}
-use Rattle.cpu.proofs.Wakeups.Called.{Good}
-use Rattle.cpu.proofs.Wakeups.Placed.{IsListed, IsPlaced, buffer_there}
-use Rattle.cpu.proofs.Wakeups.Agreement.{seat}
-use Rattle.cpu.proofs.Wakeups.CpuStep.{pending_there}
-use Rattle.cpu.proofs.Wakeups.Reaching.{fair_good}
-use Rattle.cpu.proofs.Wakeups.SystemInv.{SystemInv, reached_inv, cpu_there}
+use Rattle.cpu.proofs.Wakeups.{Lists.refuted, Posts.is_buffer, Posts.sleeps_in, Posts.is_pending, Posts.is_local, Posts.post, Posts.visit, Posts.marked}
+use Rattle.cpu.proofs.Wakeups.{Pairs.sleeps_here, Pairs.marked_none, Called.Good, Placed.IsListed, Placed.IsPlaced, Placed.buffer_there, Agreement.seat}
+use Rattle.cpu.proofs.Wakeups.{CpuStep.pending_there, Reaching.fair_good, SystemInv.SystemInv, SystemInv.reached_inv, SystemInv.cpu_there}
+use Rattle.layer_traits.specs.declared.moves.WaitList.TheVariants as wait_list
 
 -- Sums of the numbers below n.
 

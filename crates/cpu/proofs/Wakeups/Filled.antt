@@ -1,32 +1,24 @@
 -- A CPU whose hand holds a thread either runs nobody or runs a thread inside its call.
-use Rattle.std.proofs.Common.{◌≡◌, ℕ, ◌+◌, ◌<◌, ◌==◌, Bool, true, false, List, [], ◌∷◌, ◌++◌, length, slice_get}
-use Rattle.std.proofs.Common.{slice_set, Option, Some, None, is_some, if◌then◌else◌, refl, sym, ap, ◌∙◌, subst, arith}
+use Rattle.std.proofs.Common.{◌≡◌, ℕ, ◌+◌, ◌<◌, ◌==◌, Bool, true, false, List, [], ◌∷◌, ◌++◌, length, slice_get, slice_set, Option, Some, None, is_some}
+use Rattle.std.proofs.Common.{if◌then◌else◌, refl, sym, ap, ◌∙◌, subst, arith}
 use Rattle.std.proofs.lemmas.Bool.{eqb-true, eqb-false}
-use Rattle.event_log.specs.declared.ids.CpuId.{CpuId}
-use Rattle.event_log.specs.declared.ids.Tid.{Tid}
-use Rattle.event_log.specs.History.{same_cpu}
-use Rattle.event_log.specs.Actions.{Action, phase}
-use Rattle.event_log.specs.Runs.{Group, Closes}
-use Rattle.event_log.specs.Sections.{sections_in}
-use Rattle.guest.specs.declared.instructions.Instruction.{Instruction}
-use Rattle.guest.specs.declared.instructions.Instruction.TheVariants.{Send, Recv, Close, Yield as YieldLine}
-use Rattle.layer_traits.specs.declared.steps.Reason.TheVariants.{AllEnded, TraceFull}
-use Rattle.layer_traits.specs.Plans.{is_in_section, reply}
-use Rattle.cpu.specs.Table.Blocks.{Name, Reported, Nothing, Position, Done, WasClosed, DidShut, NotYet, Drained, Answer}
-use Rattle.cpu.specs.Table.Edits.{kernel}
-use Rattle.layer_traits.specs.declared.call_states.Stage.{Stage}
+use Rattle.event_log.specs.{declared.ids.CpuId.CpuId, declared.ids.Tid.Tid, History.same_cpu, Actions.Action, Actions.phase, Runs.Group, Runs.Closes}
+use Rattle.event_log.specs.{Sections.sections_in}
+use Rattle.guest.specs.declared.instructions.Instruction.{Instruction, TheVariants.Send, TheVariants.Recv, TheVariants.Close, TheVariants.Yield as YieldLine}
+use Rattle.layer_traits.specs.{declared.steps.Reason.TheVariants.AllEnded, declared.steps.Reason.TheVariants.TraceFull, Plans.is_in_section, Plans.reply}
+use Rattle.layer_traits.specs.{declared.call_states.Stage.Stage}
+use Rattle.cpu.specs.Table.{Blocks.Name, Blocks.Reported, Blocks.Nothing, Blocks.Position, Blocks.Done, Blocks.WasClosed, Blocks.DidShut, Blocks.NotYet}
+use Rattle.cpu.specs.Table.{Blocks.Drained, Blocks.Answer, Edits.kernel, Setups.Setup, Setups.Call, Setups.Private, Setups.thread_at, Setups.home_of}
+use Rattle.cpu.specs.Table.{Setups.at_boot, Setups.opening, Setups.stands_at, Setups.home_threads, Setups.open_calls, Setups.have_ended, Choice.asked}
+use Rattle.cpu.specs.Table.{Choice.Choice, Choice.Halts, Choice.Alone, Choice.Goes, Choice.with_call, Choice.at_instruction, Choice.at_call, Choice.at_ready}
+use Rattle.cpu.specs.Table.{Choice.at_current, Choice.at_hand, Choice.choice, Choice.recorded, Choice.recorded_entry, Choice.recorded_position}
+use Rattle.cpu.specs.Table.{Choice.recorded_shut, Choice.slept_if, Choice.woken, Choice.returned_at, Choice.returned_by, Choice.returned_in, Choice.settled}
+use Rattle.cpu.specs.Table.{Choice.after_by, Choice.after_at, Choice.after_in, Choice.after_section, Steps.after_reply, Steps.acting, Steps.chosen}
+use Rattle.cpu.specs.Table.{Steps.step_in, Steps.cpu_step, Steps.Whole, Steps.cpu_numbered, Steps.system_step, Steps.IsReached, Steps.boots, Steps.steps}
 use Rattle.layer_traits.specs.declared.call_states.Stage.TheVariants.{Idle, Acquires, Enters, Tries, Waits, AcquiresAgain, Signals, SignalsOwn, Releases}
-use Rattle.cpu.specs.Table.Setups.{Setup, Call, Private, thread_at, home_of, at_boot, opening, stands_at, home_threads, open_calls, have_ended}
-use Rattle.cpu.specs.Table.Choice.{asked, Choice, Halts, Alone, Goes, with_call, at_instruction, at_call, at_ready, at_current, at_hand, choice}
-use Rattle.cpu.specs.Table.Choice.{recorded, recorded_entry, recorded_position, recorded_shut, slept_if, woken, returned_at, returned_by}
-use Rattle.cpu.specs.Table.Choice.{returned_in, settled, after_by, after_at, after_in, after_section}
-use Rattle.cpu.specs.Table.Steps.{after_reply, acting, chosen, step_in, cpu_step, Whole, cpu_numbered, system_step, IsReached, boots, steps}
-use Rattle.cpu.proofs.Wakeups.Lists.{refuted}
-use Rattle.cpu.proofs.Wakeups.Agreement.{at_same, within, runs}
-use Rattle.cpu.proofs.Wakeups.Posts.{post, visit}
-use Rattle.cpu.proofs.Wakeups.Chosen.{ChoiceOk, choice_ok}
-use Rattle.cpu.proofs.Wakeups.Reaching.{Ok, get_set, get_set_other, boots_at, reached_sound, Sound}
-use Rattle.cpu.proofs.Wakeups.SystemInv.{NextIs, same, went, next_is}
+use Rattle.cpu.proofs.Wakeups.{Lists.refuted, Agreement.at_same, Agreement.within, Agreement.runs, Posts.post, Posts.visit, Chosen.ChoiceOk, Chosen.choice_ok}
+use Rattle.cpu.proofs.Wakeups.{Reaching.Ok, Reaching.get_set, Reaching.get_set_other, Reaching.boots_at, Reaching.reached_sound, Reaching.Sound}
+use Rattle.cpu.proofs.Wakeups.{SystemInv.NextIs, SystemInv.same, SystemInv.went, SystemInv.next_is}
 
 abbrev pub IsFilled : Private → Type 0
 IsFilled p = (t : Tid) → is_some p.hand ≡ true → p.current ≡ Some t → is_some (thread_at p t).call ≡ true

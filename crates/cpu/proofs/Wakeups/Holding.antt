@@ -1,20 +1,14 @@
 -- A buffer never holds more than it may.
-use Rattle.std.proofs.Common.{◌≡◌, ℕ, ◌<◌, ◌≤◌, Bool, true, false, ◌||◌, nat_lt, List, [], ◌∷◌, length, slice_get, Option, Some, None}
-use Rattle.std.proofs.Common.{option_map, if◌then◌else◌, refl, subst, arith, length-append}
+use Rattle.std.proofs.Common.{◌≡◌, ℕ, ◌<◌, ◌≤◌, Bool, true, false, ◌||◌, nat_lt, List, [], ◌∷◌, length, slice_get, Option, Some, None, option_map}
+use Rattle.std.proofs.Common.{if◌then◌else◌, refl, subst, arith, length-append}
 use Rattle.std.proofs.lemmas.Bool.{and_parts, ltb-true}
-use Rattle.event_log.specs.declared.ids.Tid.{Tid}
-use Rattle.event_log.specs.declared.ids.BufId.{BufId}
-use Rattle.event_log.specs.declared.ids.LockId.TheVariants.{Buffer as AtBuffer}
-use Rattle.event_log.specs.History.{same_lock}
-use Rattle.event_log.specs.Messages.{Message}
-use Rattle.event_log.specs.Sections.{Section}
-use Rattle.layer_traits.specs.declared.locked.Side.{Side}
-use Rattle.layer_traits.specs.declared.locked.Side.TheVariants.{Receivers, Senders}
-use Rattle.layer_traits.specs.BufferBlocks.{is_first, items_put, other_items}
+use Rattle.event_log.specs.{declared.ids.Tid.Tid, declared.ids.BufId.BufId, declared.ids.LockId.TheVariants.Buffer as AtBuffer, History.same_lock}
+use Rattle.event_log.specs.{Messages.Message, Sections.Section}
+use Rattle.layer_traits.specs.{declared.locked.Side.Side, declared.locked.Side.TheVariants.Receivers, declared.locked.Side.TheVariants.Senders}
+use Rattle.layer_traits.specs.{BufferBlocks.is_first, BufferBlocks.items_put, BufferBlocks.other_items}
 use Rattle.cpu.specs.Table.Blocks.{Buffer, Block, OfBuffer, OfPending, Name, AcqQ, Enter, TryPut, TryTake, Shut, WaitOn, SigRecv, SigSend, RelQ, Pend, TakeAll}
 use Rattle.cpu.specs.Table.Edits.{acquired, edited, edited_buffer, entered, can_put, may_put, may_take, put, taken}
-use Rattle.cpu.specs.Table.Setups.{Setup, empty_buffer, opening_buffer}
-use Rattle.cpu.specs.Wakeups.Order.{block_of}
+use Rattle.cpu.specs.{Table.Setups.Setup, Table.Setups.empty_buffer, Table.Setups.opening_buffer, Wakeups.Order.block_of}
 use Rattle.cpu.proofs.Wakeups.Ordered.{same_buffer}
 
 -- a buffer holds no more than it may

@@ -2,11 +2,10 @@
 use Rattle.std.proofs.Common.{◌≡◌, Bool, true, false, ◌||◌, List, [], ◌∷◌, ◌++◌, Some, None, if◌then◌else◌, sym, ap}
 use Rattle.std.proofs.lemmas.Bool.{or_parts, or_from}
 use Rattle.event_log.specs.declared.ids.Tid.{Tid}
-pub use Rattle.event_log.proofs.BoolLemmas.{refuted}
 use Rattle.thread_blocks.specs.Queues.{same_tid, is_in, first}
 use Rattle.thread_blocks.proofs.Members.{same_tid_true}
-use Rattle.layer_traits.specs.Sleeping.{joined}
-use Rattle.layer_traits.specs.BufferBlocks.{is_first}
+use Rattle.layer_traits.specs.{Sleeping.joined, BufferBlocks.is_first}
+pub use Rattle.event_log.proofs.BoolLemmas.{refuted}
 
 pub none_is_not : {A : Type 0} {t : Tid} → None ≡ Some t → A
 none_is_not {A = A} {t = t} same = absurd (cc same)

@@ -1,20 +1,13 @@
 -- The worked runs meet the premises of the laws.
 use Rattle.std.proofs.Common.{◌≡◌, ℕ, zero, suc, ◌<◌, ◌≤◌, false, List, [], ◌∷◌, slice_get, Some, None, refl, subst, arith}
-use Rattle.event_log.specs.declared.ids.CpuId.{CpuId}
-use Rattle.event_log.specs.declared.ids.Tid.{Tid}
-use Rattle.event_log.specs.declared.ids.LockId.TheVariants.{Pending}
-use Rattle.event_log.specs.declared.ids.TheConstants.{THREADS}
-use Rattle.event_log.specs.declared.entries.Kind.TheVariants.{Send as SendKind}
-use Rattle.event_log.specs.Runs.{Sends}
-use Rattle.event_log.specs.Actions.{phase}
+use Rattle.event_log.specs.{declared.ids.CpuId.CpuId, declared.ids.Tid.Tid, declared.ids.LockId.TheVariants.Pending, declared.ids.TheConstants.THREADS}
+use Rattle.event_log.specs.{declared.entries.Kind.TheVariants.Send as SendKind, Runs.Sends, Actions.phase}
 use Rattle.layer_traits.specs.Plans.{is_in_section}
-use Rattle.cpu.specs.Table.Blocks.{OfPending}
-use Rattle.cpu.specs.Table.Setups.{Setup, Private, home_of}
+use Rattle.cpu.specs.{Table.Blocks.OfPending, Table.Setups.Setup, Table.Setups.Private, Table.Setups.home_of, Table.Worked.thread, Table.Worked.buffer_numbered}
+use Rattle.cpu.specs.{Table.Worked.one_sender, Table.Worked.two_sends, Wakeups.Quiet.IsQuietBy, Wakeups.Quiet.IsQuiet, Wakeups.Met.waiting_sender}
+use Rattle.cpu.specs.{Wakeups.Met.at_send, Wakeups.Met.PremisesAreMet}
 use Rattle.cpu.specs.Table.Steps.{Whole, IsReached, boots, steps, steps_by, system_step, cpu_numbered, whole_at_boot, block_at, halted_at}
-use Rattle.cpu.specs.Table.Worked.{thread, buffer_numbered, one_sender, two_sends}
-use Rattle.cpu.specs.Wakeups.Quiet.{IsQuietBy, IsQuiet}
 use Rattle.cpu.proofs.Wakeups.Reaching.{same_private}
-use Rattle.cpu.specs.Wakeups.Met.{waiting_sender, at_send, PremisesAreMet}
 
 -- steps from a reached state
 steps_reached : (setup : Setup) (room : ℕ) (c : CpuId) → c.0 < setup.cpus → (n : ℕ) (s : Whole)

@@ -1,25 +1,18 @@
 -- Sections in the order of their calls lose no wake-up.
-use Rattle.std.proofs.Common.{◌≡◌, ℕ, Bool, true, false, ◌||◌, List, [], ◌∷◌, length, slice_get, Option, Some}
-use Rattle.std.proofs.Common.{None, option_map, nat_lt, if◌then◌else◌, refl, sym, ap, subst, arith}
+use Rattle.std.proofs.Common.{◌≡◌, ℕ, Bool, true, false, ◌||◌, List, [], ◌∷◌, length, slice_get, Option, Some, None, option_map, nat_lt, if◌then◌else◌, refl}
+use Rattle.std.proofs.Common.{sym, ap, subst, arith}
 use Rattle.std.proofs.lemmas.Bool.{and_from, lt-ltb, or_right}
-use Rattle.event_log.specs.declared.ids.Tid.{Tid}
-use Rattle.event_log.specs.declared.ids.BufId.{BufId}
-use Rattle.event_log.specs.declared.ids.LockId.TheVariants.{Buffer as AtBuffer}
-use Rattle.event_log.specs.declared.entries.Kind.{Kind}
+use Rattle.event_log.specs.{declared.ids.Tid.Tid, declared.ids.BufId.BufId, declared.ids.LockId.TheVariants.Buffer as AtBuffer, declared.entries.Kind.Kind}
+use Rattle.event_log.specs.{Messages.Message, Runs.Sends, Runs.Receives, Runs.group_of, History.same_lock, Sections.Section}
 use Rattle.event_log.specs.declared.entries.Kind.TheVariants.{Send as SendKind, Recv as RecvKind, SendClosed, RecvClosed}
-use Rattle.event_log.specs.Messages.{Message}
-use Rattle.event_log.specs.Runs.{Sends, Receives, group_of}
-use Rattle.event_log.specs.History.{same_lock}
-use Rattle.event_log.specs.Sections.{Section}
 use Rattle.event_log.proofs.Same.{same_lock_true}
 use Rattle.thread_blocks.specs.Queues.{is_in, first}
-use Rattle.cpu.specs.Table.Blocks.{Buffer, Block, OfBuffer, OfPending, Name, front_stands_in}
-use Rattle.cpu.specs.Table.Edits.{edited, has_room, has_items, can_put, can_take, edited_buffer}
-use Rattle.cpu.specs.Table.Setups.{Setup, empty_buffer, opening_buffer}
-use Rattle.cpu.specs.Wakeups.Order.{Progress, Begins, progress, progress_by, progress_after, block_of, MayEditBlock, KeepsOrderAt, IsInOrder}
-use Rattle.cpu.specs.Wakeups.Lost.{Allows, NoWakeUpIsLost, OrderLosesNoWakeUp}
-use Rattle.cpu.proofs.Wakeups.Lists.{refuted}
-use Rattle.cpu.proofs.Wakeups.Awake.{IsCalm, Fits, IsAwake, stays_awake}
+use Rattle.cpu.specs.{Table.Blocks.Buffer, Table.Blocks.Block, Table.Blocks.OfBuffer, Table.Blocks.OfPending, Table.Blocks.Name, Table.Blocks.front_stands_in}
+use Rattle.cpu.specs.{Table.Edits.edited, Table.Edits.has_room, Table.Edits.has_items, Table.Edits.can_put, Table.Edits.can_take, Table.Edits.edited_buffer}
+use Rattle.cpu.specs.{Table.Setups.Setup, Table.Setups.empty_buffer, Table.Setups.opening_buffer, Wakeups.Order.Progress, Wakeups.Order.Begins}
+use Rattle.cpu.specs.{Wakeups.Order.progress, Wakeups.Order.progress_by, Wakeups.Order.progress_after, Wakeups.Order.block_of, Wakeups.Order.MayEditBlock}
+use Rattle.cpu.specs.{Wakeups.Order.KeepsOrderAt, Wakeups.Order.IsInOrder, Wakeups.Lost.Allows, Wakeups.Lost.NoWakeUpIsLost, Wakeups.Lost.OrderLosesNoWakeUp}
+use Rattle.cpu.proofs.Wakeups.{Lists.refuted, Awake.IsCalm, Awake.Fits, Awake.IsAwake, Awake.stays_awake}
 
 -- what is in an option of blocks, if it is a buffer
 abbrev pub buffer_or : Buffer → Option Block → Buffer

@@ -1,37 +1,28 @@
 -- One thread and one buffer: what its own sections leave, and what its sections at another buffer do.
-use Rattle.std.proofs.Common.{◌≡◌, ◌≢◌, ℕ, ◌+◌, ◌≤◌, Bool, true, false, not, ◌&&◌, List, [], ◌∷◌, ◌++◌}
-use Rattle.std.proofs.Common.{Option, Some, None, nat_lt, if◌then◌else◌, refl, sym, ap, ◌∙◌, subst, arith}
-use Rattle.std.proofs.lemmas.Bool.{and_parts, and_from, and_right, false_from_ne_true}
-use Rattle.std.proofs.lemmas.Option.{same_Some}
-use Rattle.std.proofs.Math.Bool.{and-true}
-use Rattle.event_log.specs.declared.ids.CpuId.{CpuId}
-use Rattle.event_log.specs.declared.ids.Tid.{Tid}
-use Rattle.event_log.specs.declared.ids.BufId.{BufId}
-use Rattle.event_log.specs.declared.ids.LockId.TheVariants.{Buffer as AtBuffer}
-use Rattle.event_log.specs.declared.ids.TheConstants.{THREADS}
-use Rattle.event_log.specs.Messages.{Message}
+use Rattle.std.proofs.Common.{◌≡◌, ◌≢◌, ℕ, ◌+◌, ◌≤◌, Bool, true, false, not, ◌&&◌, List, [], ◌∷◌, ◌++◌, Option, Some, None, nat_lt, if◌then◌else◌, refl, sym}
+use Rattle.std.proofs.Common.{ap, ◌∙◌, subst, arith}
+use Rattle.std.proofs.{lemmas.Bool.and_parts, lemmas.Bool.and_from, lemmas.Bool.and_right, lemmas.Bool.false_from_ne_true, lemmas.Option.same_Some}
+use Rattle.std.proofs.{Math.Bool.and-true}
+use Rattle.event_log.specs.{declared.ids.CpuId.CpuId, declared.ids.Tid.Tid, declared.ids.BufId.BufId, declared.ids.LockId.TheVariants.Buffer as AtBuffer}
+use Rattle.event_log.specs.{declared.ids.TheConstants.THREADS, Messages.Message}
 use Rattle.thread_blocks.specs.Queues.{same_tid, is_in, first, rest}
 use Rattle.thread_blocks.proofs.Members.{same_tid_self}
-use Rattle.layer_traits.specs.declared.locked.Side.{Side}
-use Rattle.layer_traits.specs.declared.locked.Side.TheVariants.{Receivers, Senders}
-use Rattle.layer_traits.specs.declared.moves.WaitList.{WaitList}
-use Rattle.layer_traits.specs.declared.moves.WaitList.TheVariants as wait_list
-use Rattle.layer_traits.specs.Places.{Where, Home, Asleep, At, is_thread, one_if, count_in}
-use Rattle.layer_traits.specs.Sleeping.{joined}
-use Rattle.layer_traits.specs.BufferBlocks.{may_join, is_first}
+use Rattle.layer_traits.specs.{declared.locked.Side.Side, declared.locked.Side.TheVariants.Receivers, declared.locked.Side.TheVariants.Senders}
+use Rattle.layer_traits.specs.{declared.moves.WaitList.WaitList, Places.Where, Places.Home, Places.Asleep, Places.At, Places.is_thread, Places.one_if}
+use Rattle.layer_traits.specs.{Places.count_in, Sleeping.joined, BufferBlocks.may_join, BufferBlocks.is_first}
 use Rattle.layer_traits.proofs.CountLemmas.{count_append, not_counted}
 use Rattle.cpu.specs.Table.Blocks.{Buffer, Name, AcqQ, Enter, TryPut, TryTake, Shut, WaitOn, SigRecv, SigSend, RelQ}
-use Rattle.cpu.specs.Table.Edits.{can_put, can_take, may_put, may_take, due_sender, due_receiver, without_any}
-use Rattle.cpu.specs.Table.Edits.{acquired, line_of, entered, put, taken, shut, waiting, released, edited_buffer, answer_of_acquire, answer_of_buffer}
-use Rattle.cpu.specs.Table.Setups.{Setup}
-use Rattle.cpu.specs.Wakeups.Order.{Progress, Begins, HasEntered, WasRefused, Owes, progress_after}
-use Rattle.cpu.specs.Wakeups.Order.{receivers_signalled, senders_signalled, MayTry, IsOwing, MayEdit}
+use Rattle.cpu.specs.Table.Edits.{can_put, can_take, may_put, may_take, due_sender, due_receiver, without_any, acquired, line_of, entered, put, taken, shut}
+use Rattle.cpu.specs.Table.Edits.{waiting, released, edited_buffer, answer_of_acquire, answer_of_buffer}
+use Rattle.cpu.specs.{Table.Setups.Setup, Wakeups.Order.Progress, Wakeups.Order.Begins, Wakeups.Order.HasEntered, Wakeups.Order.WasRefused, Wakeups.Order.Owes}
+use Rattle.cpu.specs.{Wakeups.Order.progress_after, Wakeups.Order.receivers_signalled, Wakeups.Order.senders_signalled, Wakeups.Order.MayTry}
+use Rattle.cpu.specs.{Wakeups.Order.IsOwing, Wakeups.Order.MayEdit}
 use Rattle.cpu.proofs.Wakeups.Lists.{refuted, first_is}
-use Rattle.cpu.proofs.Wakeups.Posts.{Waiting, Visit, Outside, In}
-use Rattle.cpu.proofs.Wakeups.Posts.{is_buffer, sleeps_in, list_of, names, goes_on, is_inside, starts_here, stands, is_lined, InStep}
-use Rattle.cpu.proofs.Wakeups.Posts.{caller_in, is_caller, waiters_of, post_woken, post_slept}
-use Rattle.cpu.proofs.Wakeups.Posts.{post_moved, acquired_visit, next_visit, visit_moved, IsDue, marked}
+use Rattle.cpu.proofs.Wakeups.Posts.{Waiting, Visit, Outside, In, is_buffer, sleeps_in, list_of, names, goes_on, is_inside, starts_here, stands, is_lined}
+use Rattle.cpu.proofs.Wakeups.Posts.{InStep, caller_in, is_caller, waiters_of, post_woken, post_slept, post_moved, acquired_visit, next_visit, visit_moved}
+use Rattle.cpu.proofs.Wakeups.Posts.{IsDue, marked}
 use Rattle.cpu.proofs.Wakeups.Pairs.{Pair, marked_none, marked_most, buffer_self, sleeps_here, grown_list, first_left, signal_left, front_counted, woken_sleeps}
+use Rattle.layer_traits.specs.declared.moves.WaitList.TheVariants as wait_list
 
 -- where the section that is due to a thread may come, it is in order
 inside_owns : (b : BufId) (t : Tid) (k : Buffer) (g : Progress) (d : BufId) (progress : Progress)

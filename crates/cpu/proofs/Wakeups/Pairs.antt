@@ -1,37 +1,27 @@
 -- One thread and one buffer: that its places at the buffer are those that its post and its visit say, by count, and that it owns the
 -- lock exactly where its visit says. Everything here speaks of plain values; the log comes later.
-use Rattle.std.proofs.Common.{◌≡◌, ℕ, ◌+◌, ◌<◌, ◌≤◌, Bool, true, false, not, ◌&&◌, List, [], ◌∷◌, ◌++◌}
-use Rattle.std.proofs.Common.{Option, Some, None, nat_lt, if◌then◌else◌, refl, sym, ap, ◌∙◌, subst, arith}
-use Rattle.std.proofs.lemmas.Bool.{eq-eqb, eqb-true, and_parts, and_right}
-use Rattle.std.proofs.lemmas.Option.{same_Some}
-use Rattle.event_log.specs.declared.ids.CpuId.{CpuId}
-use Rattle.event_log.specs.declared.ids.Tid.{Tid}
-use Rattle.event_log.specs.declared.ids.BufId.{BufId}
-use Rattle.event_log.specs.declared.ids.LockId.TheVariants.{Buffer as AtBuffer}
-use Rattle.event_log.specs.declared.ids.TheConstants.{THREADS}
-use Rattle.event_log.specs.Messages.{Message}
-use Rattle.event_log.specs.History.{same_cpu, same_lock}
+use Rattle.std.proofs.Common.{◌≡◌, ℕ, ◌+◌, ◌<◌, ◌≤◌, Bool, true, false, not, ◌&&◌, List, [], ◌∷◌, ◌++◌, Option, Some, None, nat_lt, if◌then◌else◌, refl, sym}
+use Rattle.std.proofs.Common.{ap, ◌∙◌, subst, arith}
+use Rattle.std.proofs.lemmas.{Bool.eq-eqb, Bool.eqb-true, Bool.and_parts, Bool.and_right, Option.same_Some}
+use Rattle.event_log.specs.{declared.ids.CpuId.CpuId, declared.ids.Tid.Tid, declared.ids.BufId.BufId, declared.ids.LockId.TheVariants.Buffer as AtBuffer}
+use Rattle.event_log.specs.{declared.ids.TheConstants.THREADS, Messages.Message, History.same_cpu, History.same_lock}
 use Rattle.event_log.proofs.Same.{buffer_numbered}
 use Rattle.thread_blocks.specs.Queues.{same_tid, is_in, first, rest}
 use Rattle.thread_blocks.proofs.Members.{same_tid_self, same_tid_true}
-use Rattle.layer_traits.specs.declared.locked.Side.{Side}
-use Rattle.layer_traits.specs.declared.locked.Side.TheVariants.{Receivers, Senders}
-use Rattle.layer_traits.specs.declared.moves.WaitList.{WaitList}
-use Rattle.layer_traits.specs.declared.moves.WaitList.TheVariants as wait_list
-use Rattle.layer_traits.specs.ListsAgree.{is_at, same_list}
-use Rattle.layer_traits.specs.Places.{Where, Asleep, At, wait_channel_of, is_thread, one_if, count_in}
-use Rattle.layer_traits.specs.Sleeping.{joined}
-use Rattle.layer_traits.specs.BufferBlocks.{may_join, is_first}
-use Rattle.layer_traits.proofs.CountLemmas.{same_tid_sym, count_append, count_front, in_counted, not_counted, count_behind}
-use Rattle.layer_traits.proofs.ListsLemmas.{count_without, at_wait_channel, wait_channel_here}
-use Rattle.cpu.specs.Table.Blocks.{Buffer, Name, AcqQ, Enter, TryPut, TryTake, Shut, WaitOn, SigRecv, SigSend, RelQ, front_stands_in}
-use Rattle.cpu.specs.Table.Edits.{can_put, can_take, may_put, may_take, due_sender, due_receiver, without_any}
-use Rattle.cpu.specs.Table.Edits.{acquired, line_of, entered, put, taken, shut, waiting, released, edited_buffer, answer_of_acquire, answer_of_buffer}
-use Rattle.cpu.specs.Table.Setups.{Setup, home_of}
+use Rattle.layer_traits.specs.declared.{locked.Side.Side, locked.Side.TheVariants.Receivers, locked.Side.TheVariants.Senders, moves.WaitList.WaitList}
+use Rattle.layer_traits.specs.{ListsAgree.is_at, ListsAgree.same_list, Places.Where, Places.Asleep, Places.At, Places.wait_channel_of, Places.is_thread}
+use Rattle.layer_traits.specs.{Places.one_if, Places.count_in, Sleeping.joined, BufferBlocks.may_join, BufferBlocks.is_first}
+use Rattle.layer_traits.proofs.{CountLemmas.same_tid_sym, CountLemmas.count_append, CountLemmas.count_front, CountLemmas.in_counted, CountLemmas.not_counted}
+use Rattle.layer_traits.proofs.{CountLemmas.count_behind, ListsLemmas.count_without, ListsLemmas.at_wait_channel, ListsLemmas.wait_channel_here}
+use Rattle.cpu.specs.Table.{Blocks.Buffer, Blocks.Name, Blocks.AcqQ, Blocks.Enter, Blocks.TryPut, Blocks.TryTake, Blocks.Shut, Blocks.WaitOn, Blocks.SigRecv}
+use Rattle.cpu.specs.Table.{Blocks.SigSend, Blocks.RelQ, Blocks.front_stands_in, Edits.can_put, Edits.can_take, Edits.may_put, Edits.may_take, Edits.due_sender}
+use Rattle.cpu.specs.Table.{Edits.due_receiver, Edits.without_any, Edits.acquired, Edits.line_of, Edits.entered, Edits.put, Edits.taken, Edits.shut}
+use Rattle.cpu.specs.Table.{Edits.waiting, Edits.released, Edits.edited_buffer, Edits.answer_of_acquire, Edits.answer_of_buffer, Setups.Setup, Setups.home_of}
 use Rattle.cpu.specs.Wakeups.Order.{Progress, Begins, HasEntered, WasRefused, Owes, progress_after, receivers_signalled, senders_signalled, MayEdit}
 use Rattle.cpu.proofs.Wakeups.Lists.{refuted, none_is_not, first_is}
-use Rattle.cpu.proofs.Wakeups.Posts.{Waiting, Visit, Outside, In, is_buffer, sleeps_in, sleeps_at, is_inside, is_starting, is_lined, InStep}
-use Rattle.cpu.proofs.Wakeups.Posts.{is_caller, waiters_of, post_by, post_woken, post_moved, next_visit, visit_moved, marked}
+use Rattle.cpu.proofs.Wakeups.Posts.{Waiting, Visit, Outside, In, is_buffer, sleeps_in, sleeps_at, is_inside, is_starting, is_lined, InStep, is_caller}
+use Rattle.cpu.proofs.Wakeups.Posts.{waiters_of, post_by, post_woken, post_moved, next_visit, visit_moved, marked}
+use Rattle.layer_traits.specs.declared.moves.WaitList.TheVariants as wait_list
 
 pub record Pair (b : BufId) (u : Tid) (k : Buffer) (g : Progress) (visit : Visit) (post : Where) : Type 0 where
   -- who owns the lock is inside and awake, and the owner's progress is what its visit says

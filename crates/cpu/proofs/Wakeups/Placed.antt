@@ -1,30 +1,20 @@
 -- More of each thread after any section log: a CPU holds threads only if the machine has it, a thread sleeps at buffers of the machine,
 -- and whoever waits stands at its wait.
-use Rattle.std.proofs.Common.{◌≡◌, ℕ, zero, suc, ◌<◌, Bool, true, false, ◌&&◌, List, [], ◌∷◌, length, slice_get}
-use Rattle.std.proofs.Common.{Option, Some, None, option_map, nat_lt, if◌then◌else◌, refl, sym, ap, subst, arith}
-use Rattle.std.proofs.lemmas.Bool.{and_parts}
-use Rattle.std.proofs.lemmas.Option.{slice_get_within}
-use Rattle.event_log.specs.declared.ids.CpuId.{CpuId}
-use Rattle.event_log.specs.declared.ids.Tid.{Tid}
-use Rattle.event_log.specs.declared.ids.BufId.{BufId}
-use Rattle.event_log.specs.declared.ids.LockId.{LockId}
-use Rattle.event_log.specs.declared.ids.LockId.TheVariants.{Pending, Buffer as AtBuffer}
-use Rattle.event_log.specs.History.{same_cpu, same_lock}
-use Rattle.event_log.specs.Sections.{Section}
+use Rattle.std.proofs.Common.{◌≡◌, ℕ, zero, suc, ◌<◌, Bool, true, false, ◌&&◌, List, [], ◌∷◌, length, slice_get, Option, Some, None, option_map, nat_lt}
+use Rattle.std.proofs.Common.{if◌then◌else◌, refl, sym, ap, subst, arith}
+use Rattle.std.proofs.lemmas.{Bool.and_parts, Option.slice_get_within}
+use Rattle.event_log.specs.declared.ids.{CpuId.CpuId, Tid.Tid, BufId.BufId, LockId.LockId, LockId.TheVariants.Pending, LockId.TheVariants.Buffer as AtBuffer}
+use Rattle.event_log.specs.{History.same_cpu, History.same_lock, Sections.Section}
 use Rattle.thread_blocks.specs.Queues.{same_tid}
-use Rattle.layer_traits.specs.declared.locked.Side.{Side}
-use Rattle.layer_traits.specs.declared.locked.Side.TheVariants.{Receivers, Senders}
-use Rattle.layer_traits.specs.declared.moves.WaitList.{WaitList}
-use Rattle.layer_traits.specs.declared.moves.WaitList.TheVariants as wait_list
+use Rattle.layer_traits.specs.declared.{locked.Side.Side, locked.Side.TheVariants.Receivers, locked.Side.TheVariants.Senders, moves.WaitList.WaitList}
 use Rattle.layer_traits.specs.Places.{Where, Home, Hand, Pend as IsPending, Asleep, At, is_thread}
-use Rattle.cpu.specs.Table.Blocks.{Buffer, Block, OfBuffer, OfPending, Name, WaitOn, Pend, TakeAll}
-use Rattle.cpu.specs.Table.Edits.{edited, answer_of_buffer}
-use Rattle.cpu.specs.Table.Setups.{Setup, home_of, opening_buffer}
-use Rattle.cpu.specs.Wakeups.Order.{block_of}
-use Rattle.cpu.proofs.Wakeups.Posts.{Waiting, Visit, Outside, list_of}
-use Rattle.cpu.proofs.Wakeups.Posts.{is_caller, waiters_of, post_by, post_woken, post_drained, post_pending, post_buffer, post, next_visit, visit_buffer, visit}
-use Rattle.cpu.proofs.Wakeups.Posts.{MayComeTo, MayComeAt}
+use Rattle.cpu.specs.{Table.Blocks.Buffer, Table.Blocks.Block, Table.Blocks.OfBuffer, Table.Blocks.OfPending, Table.Blocks.Name, Table.Blocks.WaitOn}
+use Rattle.cpu.specs.{Table.Blocks.Pend, Table.Blocks.TakeAll, Table.Edits.edited, Table.Edits.answer_of_buffer, Table.Setups.Setup, Table.Setups.home_of}
+use Rattle.cpu.specs.{Table.Setups.opening_buffer, Wakeups.Order.block_of}
+use Rattle.cpu.proofs.Wakeups.Posts.{Waiting, Visit, Outside, list_of, is_caller, waiters_of, post_by, post_woken, post_drained, post_pending, post_buffer}
+use Rattle.cpu.proofs.Wakeups.Posts.{post, next_visit, visit_buffer, visit, MayComeTo, MayComeAt}
 use Rattle.cpu.proofs.Wakeups.Called.{CallersAre, callers_are, is_the_caller}
+use Rattle.layer_traits.specs.declared.moves.WaitList.TheVariants as wait_list
 
 -- what a waiting list says of the visit of a thread that sleeps in it
 abbrev pub IsListed : BufId → WaitList → Visit → Type 0

@@ -1,25 +1,17 @@
 -- Where each thread is, and what it does at which buffer, as the section log tells: two folds over the log. Both are needed only to show
 -- that the steps of the table keep the order of a call's sections: a thread that was woken runs again exactly when it may go on.
 use Rattle.std.proofs.Common.{◌≡◌, ℕ, Bool, true, false, ◌&&◌, ◌==◌, List, [], ◌∷◌, length, Option, Some, None, nat_lt, if◌then◌else◌}
-use Rattle.event_log.specs.declared.ids.CpuId.{CpuId}
-use Rattle.event_log.specs.declared.ids.Tid.{Tid}
-use Rattle.event_log.specs.declared.ids.BufId.{BufId}
-use Rattle.event_log.specs.declared.ids.LockId.{LockId}
-use Rattle.event_log.specs.declared.ids.LockId.TheVariants.{Pending, Buffer as AtBuffer}
-use Rattle.event_log.specs.declared.ids.TheConstants.{THREADS}
-use Rattle.event_log.specs.History.{same_cpu, same_lock}
-use Rattle.event_log.specs.Sections.{Section}
+use Rattle.event_log.specs.{declared.ids.CpuId.CpuId, declared.ids.Tid.Tid, declared.ids.BufId.BufId, declared.ids.LockId.LockId}
+use Rattle.event_log.specs.{declared.ids.LockId.TheVariants.Pending, declared.ids.LockId.TheVariants.Buffer as AtBuffer, declared.ids.TheConstants.THREADS}
+use Rattle.event_log.specs.{History.same_cpu, History.same_lock, Sections.Section}
 use Rattle.thread_blocks.specs.Queues.{same_tid}
-use Rattle.layer_traits.specs.declared.locked.Side.{Side}
-use Rattle.layer_traits.specs.declared.locked.Side.TheVariants.{Receivers, Senders}
-use Rattle.layer_traits.specs.declared.moves.WaitList.{WaitList}
-use Rattle.layer_traits.specs.declared.moves.WaitList.TheVariants as wait_list
-use Rattle.layer_traits.specs.ListsAgree.{is_at}
-use Rattle.layer_traits.specs.Places.{Where, Home, Hand, Pend as IsPending, Asleep, At, wait_channel_of, is_thread, one_if}
+use Rattle.layer_traits.specs.{declared.locked.Side.Side, declared.locked.Side.TheVariants.Receivers, declared.locked.Side.TheVariants.Senders}
+use Rattle.layer_traits.specs.{declared.moves.WaitList.WaitList, ListsAgree.is_at, Places.Where, Places.Home, Places.Hand, Places.Pend as IsPending}
+use Rattle.layer_traits.specs.{Places.Asleep, Places.At, Places.wait_channel_of, Places.is_thread, Places.one_if}
 use Rattle.cpu.specs.Table.Blocks.{Buffer, Block, OfBuffer, OfPending, Name, AcqQ, Enter, TryPut, TryTake, Shut, WaitOn, SigRecv, SigSend, RelQ, Pend, TakeAll}
-use Rattle.cpu.specs.Table.Edits.{answer_of_buffer}
-use Rattle.cpu.specs.Table.Setups.{Setup, home_of}
+use Rattle.cpu.specs.Table.{Edits.answer_of_buffer, Setups.Setup, Setups.home_of}
 use Rattle.cpu.specs.Wakeups.Order.{Progress, Begins, HasEntered, WasRefused, Owes, MayTry, progress_after, block_of}
+use Rattle.layer_traits.specs.declared.moves.WaitList.TheVariants as wait_list
 
 -- where a thread is in its call, as its sections tell: in none, at a buffer with what it has done there as the owner of the lock, or it waits
 -- on a side of the buffer. One that was woken has entered its line, whatever the new owner has done.

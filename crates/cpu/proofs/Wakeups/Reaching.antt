@@ -1,38 +1,22 @@
 -- Every state that a system reaches is sound: each section of its log may come where it stands, and each CPU agrees with the log.
-use Rattle.std.proofs.Common.{◌≡◌, ℕ, zero, suc, ◌+◌, ◌<◌, ◌==◌, Bool, true, false, ◌&&◌, List, [], ◌∷◌, ◌++◌, length, map, slice_get}
-use Rattle.std.proofs.Common.{slice_set, get_or, Option, Some, None, option_map, nat_lt, if◌then◌else◌, refl, sym, ap, ◌∙◌, subst, arith}
-use Rattle.std.proofs.lemmas.Bool.{and_right, eq-eqb, ne_eqb, eqb-true, eqb-false, lt-ltb, le-ltb, ltb-true, ltb-false}
-use Rattle.std.proofs.lemmas.List.{length-map}
-use Rattle.std.proofs.Math.Bool.{and-true}
-use Rattle.event_log.specs.declared.ids.CpuId.{CpuId}
-use Rattle.event_log.specs.declared.ids.Tid.{Tid}
-use Rattle.event_log.specs.declared.ids.LockId.{LockId}
-use Rattle.event_log.specs.History.{same_cpu, IsLawful}
-use Rattle.event_log.specs.Sections.{sections_in}
-use Rattle.event_log.specs.Actions.{Action, Take, Try, Give, Phase, Rests, Waits as WaitsAt, Holds, phase, cpu_of_action, spot_of, gives, action_in}
-use Rattle.event_log.proofs.Same.{same_cpu_true}
-use Rattle.event_log.proofs.Exclusion.{phase_own, phase_other}
-use Rattle.layer_traits.specs.declared.steps.Step.{Step}
-use Rattle.layer_traits.specs.declared.steps.Step.TheVariants.{Stepped, Halted}
-use Rattle.layer_traits.specs.Places.{Home, is_thread, one_if, count_in}
-use Rattle.layer_traits.specs.Plans.{is_in_section, at_give}
-use Rattle.layer_traits.specs.Along.{Outcome}
-use Rattle.layer_traits.specs.Passes.{or_else}
-use Rattle.cpu.specs.Table.Blocks.{Name}
-use Rattle.cpu.specs.Table.Edits.{answer}
-use Rattle.cpu.specs.Table.Setups.{Setup, Private, new_thread, home_threads_from, home_threads, at_boot}
-use Rattle.cpu.specs.Table.Choice.{asked, Choice, Halts, Alone, Goes, choice}
-use Rattle.cpu.specs.Table.Steps.{after_reply, chosen, step_in, cpu_step, Whole, cpu_numbered, boots_from, whole_at_boot}
-use Rattle.cpu.specs.Table.Steps.{whole_after, roomy, answered_by, step_at, system_step, IsReached, boots, steps}
-use Rattle.cpu.specs.Wakeups.Order.{block_of}
-use Rattle.cpu.specs.Wakeups.Lost.{SystemsKeepOrder, SystemsLoseNoWakeUp, FreeLocksHaveNoSleepers}
-use Rattle.cpu.proofs.Wakeups.Lists.{refuted}
-use Rattle.cpu.proofs.Wakeups.Ordered.{buffer_awake, order_loses_no_wake_up}
-use Rattle.cpu.proofs.Wakeups.Posts.{is_local, post, visit, MayComeAt}
-use Rattle.cpu.proofs.Wakeups.Called.{Good, good_none, good_step}
-use Rattle.cpu.proofs.Wakeups.Agreement.{visit_of_call, is_done, seat, Agrees, IsSettled}
-use Rattle.cpu.proofs.Wakeups.CpuStep.{foreign_step, give_ok}
-use Rattle.cpu.proofs.Wakeups.Chosen.{ChoiceOk, choice_ok}
+use Rattle.std.proofs.Common.{◌≡◌, ℕ, zero, suc, ◌+◌, ◌<◌, ◌==◌, Bool, true, false, ◌&&◌, List, [], ◌∷◌, ◌++◌, length, map, slice_get, slice_set, get_or}
+use Rattle.std.proofs.Common.{Option, Some, None, option_map, nat_lt, if◌then◌else◌, refl, sym, ap, ◌∙◌, subst, arith}
+use Rattle.std.proofs.{lemmas.Bool.and_right, lemmas.Bool.eq-eqb, lemmas.Bool.ne_eqb, lemmas.Bool.eqb-true, lemmas.Bool.eqb-false, lemmas.Bool.lt-ltb}
+use Rattle.std.proofs.{lemmas.Bool.le-ltb, lemmas.Bool.ltb-true, lemmas.Bool.ltb-false, lemmas.List.length-map, Math.Bool.and-true}
+use Rattle.event_log.specs.{declared.ids.CpuId.CpuId, declared.ids.Tid.Tid, declared.ids.LockId.LockId, History.same_cpu, History.IsLawful}
+use Rattle.event_log.specs.{Sections.sections_in, Actions.Action, Actions.Take, Actions.Try, Actions.Give, Actions.Phase, Actions.Rests}
+use Rattle.event_log.specs.{Actions.Waits as WaitsAt, Actions.Holds, Actions.phase, Actions.cpu_of_action, Actions.spot_of, Actions.gives, Actions.action_in}
+use Rattle.event_log.proofs.{Same.same_cpu_true, Exclusion.phase_own, Exclusion.phase_other}
+use Rattle.layer_traits.specs.{declared.steps.Step.Step, declared.steps.Step.TheVariants.Stepped, declared.steps.Step.TheVariants.Halted, Places.Home}
+use Rattle.layer_traits.specs.{Places.is_thread, Places.one_if, Places.count_in, Plans.is_in_section, Plans.at_give, Along.Outcome, Passes.or_else}
+use Rattle.cpu.specs.Table.{Blocks.Name, Edits.answer, Setups.Setup, Setups.Private, Setups.new_thread, Setups.home_threads_from, Setups.home_threads}
+use Rattle.cpu.specs.Table.{Setups.at_boot, Choice.asked, Choice.Choice, Choice.Halts, Choice.Alone, Choice.Goes, Choice.choice, Steps.after_reply}
+use Rattle.cpu.specs.Table.{Steps.chosen, Steps.step_in, Steps.cpu_step, Steps.Whole, Steps.cpu_numbered, Steps.boots_from, Steps.whole_at_boot}
+use Rattle.cpu.specs.Table.{Steps.whole_after, Steps.roomy, Steps.answered_by, Steps.step_at, Steps.system_step, Steps.IsReached, Steps.boots, Steps.steps}
+use Rattle.cpu.specs.Wakeups.{Order.block_of, Lost.SystemsKeepOrder, Lost.SystemsLoseNoWakeUp, Lost.FreeLocksHaveNoSleepers}
+use Rattle.cpu.proofs.Wakeups.{Lists.refuted, Ordered.buffer_awake, Ordered.order_loses_no_wake_up, Posts.is_local, Posts.post, Posts.visit, Posts.MayComeAt}
+use Rattle.cpu.proofs.Wakeups.{Called.Good, Called.good_none, Called.good_step, Agreement.visit_of_call, Agreement.is_done, Agreement.seat, Agreement.Agrees}
+use Rattle.cpu.proofs.Wakeups.{Agreement.IsSettled, CpuStep.foreign_step, CpuStep.give_ok, Chosen.ChoiceOk, Chosen.choice_ok}
 
 -- Logs of actions.
 

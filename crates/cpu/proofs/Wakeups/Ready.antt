@@ -1,49 +1,31 @@
 -- A call that is ready, on a CPU alone, returns after just so many steps.
-use Rattle.std.proofs.Common.{◌≡◌, ℕ, ◌+◌, ◌<◌, ◌≤◌, ◌==◌, Bool, true, false, ◌&&◌, ◌||◌, ◌⊎◌, inl, inr, List, [], ◌∷◌, ◌++◌}
-use Rattle.std.proofs.Common.{length, slice_get, Option, Some, None, is_some, nat_lt, if◌then◌else◌, refl, sym, ap, ◌∙◌, subst, arith, length-append}
+use Rattle.std.proofs.Common.{◌≡◌, ℕ, ◌+◌, ◌<◌, ◌≤◌, ◌==◌, Bool, true, false, ◌&&◌, ◌||◌, ◌⊎◌, inl, inr, List, [], ◌∷◌, ◌++◌, length, slice_get, Option, Some}
+use Rattle.std.proofs.Common.{None, is_some, nat_lt, if◌then◌else◌, refl, sym, ap, ◌∙◌, subst, arith, length-append}
 use Rattle.std.proofs.lemmas.Bool.{and_from, cases_lt, lt-ltb, or_right}
-use Rattle.event_log.specs.declared.ids.CpuId.{CpuId}
-use Rattle.event_log.specs.declared.ids.Tid.{Tid}
-use Rattle.event_log.specs.declared.ids.BufId.{BufId}
-use Rattle.event_log.specs.declared.ids.LockId.TheVariants.{Buffer as AtBuffer}
-use Rattle.event_log.specs.declared.ids.TheConstants.{THREADS}
-use Rattle.event_log.specs.declared.entries.Kind.{Kind}
+use Rattle.event_log.specs.{declared.ids.CpuId.CpuId, declared.ids.Tid.Tid, declared.ids.BufId.BufId, declared.ids.LockId.TheVariants.Buffer as AtBuffer}
+use Rattle.event_log.specs.{declared.ids.TheConstants.THREADS, declared.entries.Kind.Kind, declared.entries.Entry.Entry, Messages.Message, Messages.no_message}
+use Rattle.event_log.specs.{Runs.Group, Runs.Sends, Runs.Receives, Runs.Closes, Runs.group_of, Sections.sections_in}
 use Rattle.event_log.specs.declared.entries.Kind.TheVariants.{Send as SendKind, Recv as RecvKind, Close as CloseKind, SendClosed, RecvClosed}
-use Rattle.event_log.specs.declared.entries.Entry.{Entry}
-use Rattle.event_log.specs.Messages.{Message, no_message}
-use Rattle.event_log.specs.Runs.{Group, Sends, Receives, Closes, group_of}
-use Rattle.event_log.specs.Sections.{sections_in}
-use Rattle.guest.specs.declared.instructions.Instruction.{Instruction}
-use Rattle.guest.specs.declared.instructions.Instruction.TheVariants.{Send, Recv, Close}
-use Rattle.guest.specs.State.{message_from}
+use Rattle.guest.specs.{declared.instructions.Instruction.Instruction, declared.instructions.Instruction.TheVariants.Send}
+use Rattle.guest.specs.{declared.instructions.Instruction.TheVariants.Recv, declared.instructions.Instruction.TheVariants.Close, State.message_from}
 use Rattle.thread_blocks.specs.Queues.{first, rest}
 use Rattle.thread_blocks.proofs.Members.{same_tid_self}
-use Rattle.layer_traits.specs.declared.steps.Reason.{Reason}
-use Rattle.layer_traits.specs.declared.steps.Reason.TheVariants.{AllEnded, TraceFull}
-use Rattle.layer_traits.specs.declared.locked.Side.TheVariants.{Receivers, Senders}
-use Rattle.layer_traits.specs.BufferBlocks.{is_first, first_item, items_put, other_items}
-use Rattle.cpu.specs.Table.Blocks.{Buffer, OfBuffer, Reported, Done, WasClosed, DidShut, NotYet, front, front_stands_in, side_of}
-use Rattle.cpu.specs.Table.Edits.{can_put, can_take, due_receiver, due_sender, entered, put, taken, shut, report_of_put, report_of_take}
-use Rattle.cpu.specs.Table.Edits.{reports, wakes, edited_buffer, answer_of_buffer}
-use Rattle.layer_traits.specs.declared.call_states.Stage.TheVariants.{Enters, Tries, Signals}
-use Rattle.cpu.specs.Table.Setups.{Setup, Call, Private, thread_at, stands_at, home_threads, open_calls, have_ended}
-use Rattle.cpu.specs.Table.Choice.{Halts, Goes, new_call, with_call, begins, at_instruction, at_call, at_current, at_hand, choice}
-use Rattle.cpu.specs.Table.Choice.{first_signal, second_signal, effected, entry_of, recorded_try}
-use Rattle.cpu.specs.Table.Steps.{Whole, IsReached, block_at, halted_by, steps_by}
-use Rattle.cpu.specs.Wakeups.Lost.{Allows}
-use Rattle.cpu.specs.Wakeups.Order.{progress}
-use Rattle.cpu.specs.Wakeups.Quiet.{AreFew}
-use Rattle.cpu.specs.Wakeups.Alone.{IsCallOn, HasEmptyLine, IsInCall, IsReady, HasReturned, CallsReturnAlone, is_away, first_waiter}
-use Rattle.cpu.specs.Wakeups.Alone.{steps_to_move, steps_to_return}
-use Rattle.cpu.proofs.Wakeups.Lists.{refuted}
-use Rattle.cpu.proofs.Wakeups.Ordered.{buffer_awake, putting, taking}
-use Rattle.cpu.proofs.Wakeups.Awake.{IsCalm, Fits, IsAwake}
-use Rattle.cpu.proofs.Wakeups.Posts.{is_local, post, visit}
-use Rattle.cpu.proofs.Wakeups.Agreement.{Agrees, runs, known_of, within}
-use Rattle.cpu.proofs.Wakeups.Reaching.{reached_sound, systems_keep_order, free_locks_have_no_sleepers}
-use Rattle.cpu.proofs.Wakeups.Filled.{reached_filled}
-use Rattle.cpu.proofs.Wakeups.Holding.{holds_no_more}
-use Rattle.cpu.proofs.Wakeups.Alone.{with_new}
+use Rattle.layer_traits.specs.{declared.steps.Reason.Reason, declared.steps.Reason.TheVariants.AllEnded, declared.steps.Reason.TheVariants.TraceFull}
+use Rattle.layer_traits.specs.{declared.locked.Side.TheVariants.Receivers, declared.locked.Side.TheVariants.Senders, BufferBlocks.is_first}
+use Rattle.layer_traits.specs.{BufferBlocks.first_item, BufferBlocks.items_put, BufferBlocks.other_items, declared.call_states.Stage.TheVariants.Enters}
+use Rattle.layer_traits.specs.{declared.call_states.Stage.TheVariants.Tries, declared.call_states.Stage.TheVariants.Signals}
+use Rattle.cpu.specs.Table.{Blocks.Buffer, Blocks.OfBuffer, Blocks.Reported, Blocks.Done, Blocks.WasClosed, Blocks.DidShut, Blocks.NotYet, Blocks.front}
+use Rattle.cpu.specs.Table.{Blocks.front_stands_in, Blocks.side_of, Edits.can_put, Edits.can_take, Edits.due_receiver, Edits.due_sender, Edits.entered}
+use Rattle.cpu.specs.Table.{Edits.put, Edits.taken, Edits.shut, Edits.report_of_put, Edits.report_of_take, Edits.reports, Edits.wakes, Edits.edited_buffer}
+use Rattle.cpu.specs.Table.{Edits.answer_of_buffer, Setups.Setup, Setups.Call, Setups.Private, Setups.thread_at, Setups.stands_at, Setups.home_threads}
+use Rattle.cpu.specs.Table.{Setups.open_calls, Setups.have_ended, Steps.Whole, Steps.IsReached, Steps.block_at, Steps.halted_by, Steps.steps_by}
+use Rattle.cpu.specs.Table.Choice.{Halts, Goes, new_call, with_call, begins, at_instruction, at_call, at_current, at_hand, choice, first_signal, second_signal}
+use Rattle.cpu.specs.Table.Choice.{effected, entry_of, recorded_try}
+use Rattle.cpu.specs.Wakeups.{Lost.Allows, Order.progress, Quiet.AreFew, Alone.IsCallOn, Alone.HasEmptyLine, Alone.IsInCall, Alone.IsReady, Alone.HasReturned}
+use Rattle.cpu.specs.Wakeups.{Alone.CallsReturnAlone, Alone.is_away, Alone.first_waiter, Alone.steps_to_move, Alone.steps_to_return}
+use Rattle.cpu.proofs.Wakeups.{Lists.refuted, Ordered.buffer_awake, Ordered.putting, Ordered.taking, Awake.IsCalm, Awake.Fits, Awake.IsAwake, Posts.is_local}
+use Rattle.cpu.proofs.Wakeups.{Posts.post, Posts.visit, Agreement.Agrees, Agreement.runs, Agreement.known_of, Agreement.within, Reaching.reached_sound}
+use Rattle.cpu.proofs.Wakeups.{Reaching.systems_keep_order, Reaching.free_locks_have_no_sleepers, Filled.reached_filled, Holding.holds_no_more, Alone.with_new}
 use Rattle.cpu.proofs.Wakeups.Returning.{Gets, Returned, acquires, enters_send, enters_receive, tries, ending}
 
 module _ (setup : Setup) (room : ℕ) (s : Whole) (c : CpuId) (p : Private) (t : Tid) (few : AreFew setup)

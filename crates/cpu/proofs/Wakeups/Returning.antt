@@ -1,31 +1,22 @@
 -- A call alone goes through its sections, with one more where a signal wakes a thread of another CPU.
-use Rattle.std.proofs.Common.{◌≡◌, ℕ, ◌+◌, ◌<◌, ◌≤◌, Bool, true, false, not, ◌&&◌, List, [], ◌∷◌, ◌++◌, slice_get}
-use Rattle.std.proofs.Common.{Option, Some, None, option_map, if◌then◌else◌, refl, sym, ap, ◌∙◌, subst, arith}
+use Rattle.std.proofs.Common.{◌≡◌, ℕ, ◌+◌, ◌<◌, ◌≤◌, Bool, true, false, not, ◌&&◌, List, [], ◌∷◌, ◌++◌, slice_get, Option, Some, None, option_map}
+use Rattle.std.proofs.Common.{if◌then◌else◌, refl, sym, ap, ◌∙◌, subst, arith}
 use Rattle.std.proofs.lemmas.Bool.{lt-ltb}
-use Rattle.event_log.specs.declared.ids.CpuId.{CpuId}
-use Rattle.event_log.specs.declared.ids.Tid.{Tid}
-use Rattle.event_log.specs.declared.ids.LockId.TheVariants.{Pending, Buffer as AtBuffer}
-use Rattle.event_log.specs.declared.ids.TheConstants.{THREADS}
-use Rattle.event_log.specs.declared.entries.Entry.{Entry}
-use Rattle.event_log.specs.History.{same_cpu}
-use Rattle.event_log.specs.Runs.{Sends, Receives}
-use Rattle.event_log.specs.Sections.{Section}
+use Rattle.event_log.specs.declared.ids.{CpuId.CpuId, Tid.Tid, LockId.TheVariants.Pending, LockId.TheVariants.Buffer as AtBuffer, TheConstants.THREADS}
+use Rattle.event_log.specs.{declared.entries.Entry.Entry, History.same_cpu, Runs.Sends, Runs.Receives, Sections.Section}
 use Rattle.thread_blocks.specs.Queues.{first}
-use Rattle.layer_traits.specs.declared.locked.Side.TheVariants.{Receivers, Senders}
-use Rattle.layer_traits.specs.BufferBlocks.{may_join}
-use Rattle.cpu.specs.Table.Blocks.{Buffer, OfBuffer, Name, RelQ, Pend, side_of, Reported, Nothing, Position, Answer}
-use Rattle.cpu.specs.Table.Edits.{edited_buffer, acquired, entered, reports, wakes, answer, answer_of_acquire, answer_of_buffer}
+use Rattle.layer_traits.specs.{declared.locked.Side.TheVariants.Receivers, declared.locked.Side.TheVariants.Senders, BufferBlocks.may_join}
+use Rattle.cpu.specs.Table.{Blocks.Buffer, Blocks.OfBuffer, Blocks.Name, Blocks.RelQ, Blocks.Pend, Blocks.side_of, Blocks.Reported, Blocks.Nothing}
+use Rattle.cpu.specs.Table.{Blocks.Position, Blocks.Answer, Edits.edited_buffer, Edits.acquired, Edits.entered, Edits.reports, Edits.wakes, Edits.answer}
+use Rattle.cpu.specs.Table.{Edits.answer_of_acquire, Edits.answer_of_buffer, Setups.Setup, Setups.Call, Setups.Private, Setups.thread_at, Setups.home_of}
+use Rattle.cpu.specs.Table.{Setups.home_threads, Setups.have_ended, Setups.stands_at, Choice.section_at, Choice.first_signal, Choice.second_signal}
+use Rattle.cpu.specs.Table.{Choice.asked, Choice.Goes, Choice.choice, Choice.with_call, Choice.entry_of, Choice.effected, Choice.recorded, Choice.woken}
+use Rattle.cpu.specs.Table.{Choice.guest_after, Choice.returned, Choice.returned_at, Choice.settled, Choice.after_section, Steps.Whole, Steps.steps_by}
 use Rattle.layer_traits.specs.declared.call_states.Stage.TheVariants.{Idle, Acquires, Enters, Tries, Signals, SignalsOwn, Releases}
-use Rattle.cpu.specs.Table.Setups.{Setup, Call, Private, thread_at, home_of, home_threads, have_ended, stands_at}
-use Rattle.cpu.specs.Table.Choice.{section_at, first_signal, second_signal, asked, Goes, choice, with_call, entry_of, effected, recorded}
-use Rattle.cpu.specs.Table.Choice.{woken, guest_after, returned, returned_at, settled, after_section}
-use Rattle.cpu.specs.Table.Steps.{Whole, steps_by}
-use Rattle.cpu.specs.Wakeups.Alone.{IsInCall, steps_to_move}
-use Rattle.cpu.specs.Wakeups.Order.{block_of}
-use Rattle.cpu.proofs.Wakeups.Agreement.{at_same}
-use Rattle.cpu.proofs.Wakeups.CpuStep.{pending_there}
-use Rattle.cpu.proofs.Wakeups.Alone.{steps_more, section_of, Stands, after_three, two_steps, here_two, three_steps, stands_after}
-use Rattle.cpu.proofs.Wakeups.Alone.{InCall, with_new, goes_on, asks_for, after_is, settled_is, block_next}
+use Rattle.cpu.specs.Wakeups.{Alone.IsInCall, Alone.steps_to_move, Order.block_of}
+use Rattle.cpu.proofs.Wakeups.{Agreement.at_same, CpuStep.pending_there}
+use Rattle.cpu.proofs.Wakeups.Alone.{steps_more, section_of, Stands, after_three, two_steps, here_two, three_steps, stands_after, InCall, with_new, goes_on}
+use Rattle.cpu.proofs.Wakeups.Alone.{asks_for, after_is, settled_is, block_next}
 
 module _ (setup : Setup) (c : CpuId) (t : Tid) where
   -- after n steps of CPU c its thread t stands in this call, which goes on; the call's buffer holds this

@@ -1,35 +1,24 @@
 -- The private states alone: a thread that has ended is inside no call, and a call that has not taken effect is what its thread asks next.
-use Rattle.std.proofs.Common.{◌≡◌, ℕ, ◌+◌, ◌<◌, ◌≤◌, ◌==◌, Bool, true, false, List, [], ◌∷◌, ◌++◌, length, map, get_or}
-use Rattle.std.proofs.Common.{◌⊎◌, inl, inr, zero, suc, Option, Some, None, if◌then◌else◌, refl, sym, ap, subst}
-use Rattle.std.proofs.lemmas.Bool.{cases_lt}
-use Rattle.std.proofs.lemmas.List.{set_past}
-use Rattle.event_log.specs.declared.ids.CpuId.{CpuId}
-use Rattle.event_log.specs.declared.ids.Tid.{Tid}
-use Rattle.event_log.specs.Actions.{Action}
-use Rattle.event_log.specs.History.{same_cpu}
-use Rattle.event_log.specs.Messages.{no_message}
-use Rattle.event_log.specs.Runs.{Group, Sends, Receives, Closes}
-use Rattle.guest.specs.declared.instructions.Instruction.{Instruction}
+use Rattle.std.proofs.Common.{◌≡◌, ℕ, ◌+◌, ◌<◌, ◌≤◌, ◌==◌, Bool, true, false, List, [], ◌∷◌, ◌++◌, length, map, get_or, ◌⊎◌, inl, inr, zero, suc, Option, Some}
+use Rattle.std.proofs.Common.{None, if◌then◌else◌, refl, sym, ap, subst}
+use Rattle.std.proofs.lemmas.{Bool.cases_lt, List.set_past}
+use Rattle.event_log.specs.{declared.ids.CpuId.CpuId, declared.ids.Tid.Tid, Actions.Action, History.same_cpu, Messages.no_message, Runs.Group, Runs.Sends}
+use Rattle.event_log.specs.{Runs.Receives, Runs.Closes}
+use Rattle.guest.specs.{declared.instructions.Instruction.Instruction, State.State, State.next_of, State.message_from, State.after_yield}
 use Rattle.guest.specs.declared.instructions.Instruction.TheVariants.{Set, Add, Sub, Jnz, Send, Recv, Close, Yield as YieldLine, Exit}
-use Rattle.guest.specs.State.{State, next_of, message_from, after_yield}
 use Rattle.thread_blocks.specs.Queues.{same_tid}
 use Rattle.thread_blocks.proofs.Members.{same_tid_true}
-use Rattle.layer_traits.specs.declared.steps.Reason.TheVariants.{AllEnded, TraceFull}
-use Rattle.layer_traits.specs.Plans.{reply}
+use Rattle.layer_traits.specs.{declared.steps.Reason.TheVariants.AllEnded, declared.steps.Reason.TheVariants.TraceFull, Plans.reply}
+use Rattle.layer_traits.specs.{declared.call_states.Stage.Stage}
 use Rattle.cpu.specs.Table.Blocks.{Name, Reported, Nothing, Position, Done, WasClosed, DidShut, NotYet, Drained, Answer}
-use Rattle.cpu.specs.Table.Edits.{kernel}
-use Rattle.layer_traits.specs.declared.call_states.Stage.{Stage}
+use Rattle.cpu.specs.{Table.Edits.kernel, Table.Steps.after_reply, Table.Steps.acting, Wakeups.Quiet.IsNextEffect}
 use Rattle.layer_traits.specs.declared.call_states.Stage.TheVariants.{Idle, Acquires, Enters, Tries, Waits, AcquiresAgain, Signals, SignalsOwn, Releases}
-use Rattle.cpu.specs.Table.Setups.{Setup, Call, Thread, Private, new_thread, thread_at, with_thread, program_of}
-use Rattle.cpu.specs.Table.Setups.{stands_at, at_boot, home_of, home_threads, open_calls, have_ended, opening}
-use Rattle.cpu.specs.Table.Choice.{asked, Choice, Halts, Alone, Goes, new_call, with_call, with_guest}
-use Rattle.cpu.specs.Table.Choice.{begins, at_instruction, at_call, at_ready, at_current, at_hand, choice}
-use Rattle.cpu.specs.Table.Choice.{recorded, recorded_entry, recorded_position, recorded_shut, slept_if}
-use Rattle.cpu.specs.Table.Choice.{woken, guest_after, returned_at, returned_by, returned_in, settled, after_by, after_at, after_in, after_section}
-use Rattle.cpu.specs.Table.Steps.{after_reply, acting}
-use Rattle.cpu.specs.Wakeups.Quiet.{IsNextEffect}
-use Rattle.cpu.proofs.Wakeups.Lists.{refuted}
-use Rattle.cpu.proofs.Wakeups.Agreement.{at_same, at_other}
+use Rattle.cpu.specs.Table.Setups.{Setup, Call, Thread, Private, new_thread, thread_at, with_thread, program_of, stands_at, at_boot, home_of, home_threads}
+use Rattle.cpu.specs.Table.Setups.{open_calls, have_ended, opening}
+use Rattle.cpu.specs.Table.Choice.{asked, Choice, Halts, Alone, Goes, new_call, with_call, with_guest, begins, at_instruction, at_call, at_ready, at_current}
+use Rattle.cpu.specs.Table.Choice.{at_hand, choice, recorded, recorded_entry, recorded_position, recorded_shut, slept_if, woken, guest_after, returned_at}
+use Rattle.cpu.specs.Table.Choice.{returned_by, returned_in, settled, after_by, after_at, after_in, after_section}
+use Rattle.cpu.proofs.Wakeups.{Lists.refuted, Agreement.at_same, Agreement.at_other}
 
 abbrev pub is_before : Stage → Bool
 is_before Signals = false

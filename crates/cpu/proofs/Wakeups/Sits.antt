@@ -1,34 +1,27 @@
 -- What a section leaves of the agreement: the caller's CPU moves on, and all others stay in agreement.
-use Rattle.std.proofs.Common.{◌≡◌, ℕ, ◌+◌, ◌<◌, Bool, true, false, not, ◌&&◌, List, [], ◌∷◌, ◌++◌, length, Option}
-use Rattle.std.proofs.Common.{Some, None, is_some, nat_lt, if◌then◌else◌, refl, sym, ap, ◌∙◌, subst, arith}
+use Rattle.std.proofs.Common.{◌≡◌, ℕ, ◌+◌, ◌<◌, Bool, true, false, not, ◌&&◌, List, [], ◌∷◌, ◌++◌, length, Option, Some, None, is_some, nat_lt, if◌then◌else◌}
+use Rattle.std.proofs.Common.{refl, sym, ap, ◌∙◌, subst, arith}
 use Rattle.std.proofs.lemmas.Bool.{and_from, and_left, and_right, false_from_ne_true}
-use Rattle.event_log.specs.declared.ids.CpuId.{CpuId}
-use Rattle.event_log.specs.declared.ids.Tid.{Tid}
-use Rattle.event_log.specs.declared.entries.Entry.{Entry}
-use Rattle.event_log.specs.History.{same_cpu}
-use Rattle.event_log.specs.Messages.{Message}
-use Rattle.event_log.specs.Runs.{Group, Sends, Receives, Closes}
+use Rattle.event_log.specs.{declared.ids.CpuId.CpuId, declared.ids.Tid.Tid, declared.entries.Entry.Entry, History.same_cpu, Messages.Message, Runs.Group}
+use Rattle.event_log.specs.{Runs.Sends, Runs.Receives, Runs.Closes}
 use Rattle.guest.specs.State.{State}
 use Rattle.thread_blocks.specs.Queues.{same_tid}
 use Rattle.thread_blocks.proofs.Members.{same_tid_self, same_tid_true}
-use Rattle.layer_traits.specs.declared.locked.Side.{Side}
-use Rattle.layer_traits.specs.declared.locked.Side.TheVariants.{Receivers, Senders}
-use Rattle.layer_traits.specs.Places.{Where, Home, Hand, Pend as IsPending, Asleep, is_home, is_hand, is_thread, one_if, count_in}
+use Rattle.layer_traits.specs.{declared.locked.Side.Side, declared.locked.Side.TheVariants.Receivers, declared.locked.Side.TheVariants.Senders, Places.Where}
+use Rattle.layer_traits.specs.{Places.Home, Places.Hand, Places.Pend as IsPending, Places.Asleep, Places.is_home, Places.is_hand, Places.is_thread}
+use Rattle.layer_traits.specs.{Places.one_if, Places.count_in, declared.call_states.Stage.Stage}
 use Rattle.layer_traits.proofs.CountLemmas.{same_tid_sym, count_append}
 use Rattle.cpu.specs.Table.Blocks.{Buffer, Name, TryPut, TryTake, Pend, TakeAll, side_of, Reported, Done, WasClosed, NotYet, Answer}
-use Rattle.cpu.specs.Table.Edits.{may_put, may_take, report_of_put, report_of_take, answer_of_buffer, drawn_position}
-use Rattle.layer_traits.specs.declared.call_states.Stage.{Stage}
+use Rattle.cpu.specs.{Table.Edits.may_put, Table.Edits.may_take, Table.Edits.report_of_put, Table.Edits.report_of_take, Table.Edits.answer_of_buffer}
+use Rattle.cpu.specs.{Table.Edits.drawn_position, Wakeups.Order.Begins, Wakeups.Order.HasEntered, Wakeups.Order.WasRefused, Wakeups.Order.Owes}
 use Rattle.layer_traits.specs.declared.call_states.Stage.TheVariants.{Idle, Acquires, Enters, Tries, Waits, AcquiresAgain, Signals, SignalsOwn, Releases}
 use Rattle.cpu.specs.Table.Setups.{Setup, Call, Thread, Private, thread_at, with_thread, home_of, stands_at}
-use Rattle.cpu.specs.Table.Choice.{section_at, first_section, try_of, first_signal, second_signal, with_call}
-use Rattle.cpu.specs.Table.Choice.{with_guest, goes_to, recorded, recorded_entry, recorded_try, entry_of}
-use Rattle.cpu.specs.Table.Choice.{slept_if, woken, returned_at, returned_by, returned_in, settled, guest_after, after_call}
-use Rattle.cpu.specs.Wakeups.Order.{Begins, HasEntered, WasRefused, Owes}
-use Rattle.cpu.proofs.Wakeups.Lists.{refuted}
-use Rattle.cpu.proofs.Wakeups.Posts.{Visit, Outside, In, is_pending, caller_in, is_caller, waiters_of, post_slept}
-use Rattle.cpu.proofs.Wakeups.Posts.{post_moved, post_drained, post_pending, next_visit, visit_moved, is_local}
-use Rattle.cpu.proofs.Wakeups.Agreement.{owing_own, visit_of_stage, visit_of_call, is_last, is_done, seat, Agrees, IsSettled, at_same}
-use Rattle.cpu.proofs.Wakeups.Agreement.{at_other, Same, same_with, agrees_same, runs, within, agrees_slept, agrees_woken}
+use Rattle.cpu.specs.Table.Choice.{section_at, first_section, try_of, first_signal, second_signal, with_call, with_guest, goes_to, recorded, recorded_entry}
+use Rattle.cpu.specs.Table.Choice.{recorded_try, entry_of, slept_if, woken, returned_at, returned_by, returned_in, settled, guest_after, after_call}
+use Rattle.cpu.proofs.Wakeups.{Lists.refuted, Posts.Visit, Posts.Outside, Posts.In, Posts.is_pending, Posts.caller_in, Posts.is_caller, Posts.waiters_of}
+use Rattle.cpu.proofs.Wakeups.{Posts.post_slept, Posts.post_moved, Posts.post_drained, Posts.post_pending, Posts.next_visit, Posts.visit_moved, Posts.is_local}
+use Rattle.cpu.proofs.Wakeups.Agreement.{owing_own, visit_of_stage, visit_of_call, is_last, is_done, seat, Agrees, IsSettled, at_same, at_other, Same}
+use Rattle.cpu.proofs.Wakeups.Agreement.{same_with, agrees_same, runs, within, agrees_slept, agrees_woken}
 
 -- A call returns once the hand is empty.
 

@@ -1,51 +1,34 @@
 -- A quiet state that a system reaches is stuck.
-use Rattle.std.proofs.Common.{◌≡◌, ◌+◌, ◌<◌, Bool, true, false, not, ◌&&◌, List, [], ◌∷◌, length}
-use Rattle.std.proofs.Common.{slice_get, Option, Some, None, nat_lt, refl, sym, ap, ◌∙◌, subst, arith}
+use Rattle.std.proofs.Common.{◌≡◌, ◌+◌, ◌<◌, Bool, true, false, not, ◌&&◌, List, [], ◌∷◌, length, slice_get, Option, Some, None, nat_lt, refl, sym, ap, ◌∙◌}
+use Rattle.std.proofs.Common.{subst, arith}
 use Rattle.std.proofs.lemmas.Bool.{and_parts, and_from, false_from_ne_true, lt-ltb, ltb-true}
-use Rattle.event_log.specs.declared.ids.CpuId.{CpuId}
-use Rattle.event_log.specs.declared.ids.Tid.{Tid}
-use Rattle.event_log.specs.declared.ids.BufId.{BufId}
-use Rattle.event_log.specs.declared.ids.LockId.TheVariants.{Pending, Buffer as AtBuffer}
-use Rattle.event_log.specs.declared.ids.TheConstants.{THREADS}
-use Rattle.event_log.specs.declared.entries.Kind.{Kind}
+use Rattle.event_log.specs.{declared.ids.CpuId.CpuId, declared.ids.Tid.Tid, declared.ids.BufId.BufId, declared.ids.LockId.TheVariants.Pending}
+use Rattle.event_log.specs.{declared.ids.LockId.TheVariants.Buffer as AtBuffer, declared.ids.TheConstants.THREADS, declared.entries.Kind.Kind, Messages.Message}
+use Rattle.event_log.specs.{Messages.no_message, Runs.Group, Runs.Sends, Runs.Receives, Runs.Closes, Runs.group_of, History.same_cpu, Sections.sections_in}
 use Rattle.event_log.specs.declared.entries.Kind.TheVariants.{Recv as RecvKind, SendClosed, RecvClosed}
-use Rattle.event_log.specs.Messages.{Message, no_message}
-use Rattle.event_log.specs.Runs.{Group, Sends, Receives, Closes, group_of}
-use Rattle.event_log.specs.History.{same_cpu}
-use Rattle.event_log.specs.Sections.{sections_in}
 use Rattle.event_log.proofs.Same.{same_cpu_self}
-use Rattle.guest.specs.declared.instructions.Instruction.{Instruction}
-use Rattle.guest.specs.declared.instructions.Instruction.TheVariants.{Send, Recv, Close}
-use Rattle.guest.specs.State.{State}
+use Rattle.guest.specs.{declared.instructions.Instruction.Instruction, declared.instructions.Instruction.TheVariants.Send}
+use Rattle.guest.specs.{declared.instructions.Instruction.TheVariants.Recv, declared.instructions.Instruction.TheVariants.Close, State.State}
 use Rattle.thread_blocks.specs.Queues.{is_in, first}
 use Rattle.thread_blocks.proofs.Members.{same_tid_self}
-use Rattle.layer_traits.specs.declared.steps.Reason.{Reason}
-use Rattle.layer_traits.specs.declared.locked.Side.{Side}
-use Rattle.layer_traits.specs.declared.locked.Side.TheVariants.{Receivers, Senders}
-use Rattle.layer_traits.specs.declared.moves.WaitList.TheVariants as wait_list
-use Rattle.layer_traits.specs.Places.{Where, Home, Hand, Pend as IsPending, Asleep, At, is_home, is_hand, is_thread, one_if, count_in}
+use Rattle.layer_traits.specs.{declared.steps.Reason.Reason, declared.locked.Side.Side, declared.locked.Side.TheVariants.Receivers}
+use Rattle.layer_traits.specs.{declared.locked.Side.TheVariants.Senders, Places.Where, Places.Home, Places.Hand, Places.Pend as IsPending, Places.Asleep}
+use Rattle.layer_traits.specs.{Places.At, Places.is_home, Places.is_hand, Places.is_thread, Places.one_if, Places.count_in, declared.call_states.Stage.Stage}
+use Rattle.layer_traits.specs.{declared.call_states.Stage.TheVariants.AcquiresAgain, declared.call_states.Stage.TheVariants.SignalsOwn}
 use Rattle.layer_traits.proofs.ListsLemmas.{counted_in}
-use Rattle.cpu.specs.Table.Blocks.{Buffer, OfBuffer, side_of}
-use Rattle.cpu.specs.Table.Edits.{line_of}
-use Rattle.layer_traits.specs.declared.call_states.Stage.{Stage}
-use Rattle.layer_traits.specs.declared.call_states.Stage.TheVariants.{AcquiresAgain, SignalsOwn}
-use Rattle.cpu.specs.Table.Setups.{Setup, Call, Private, thread_at, home_of, stands_at}
-use Rattle.cpu.specs.Table.Choice.{at_hand}
-use Rattle.cpu.specs.Table.Steps.{Whole, block_at, halted_by, halted_at}
-use Rattle.cpu.specs.Wakeups.Order.{Progress, progress}
-use Rattle.cpu.specs.Wakeups.Lost.{Allows, NoWakeUpIsLost}
-use Rattle.cpu.specs.Wakeups.Quiet.{HomesExist, IsQuietBy, IsQuiet, IsNextEffect, IsStuckCall, IsLive, IsStuck, QuietIsStuck}
-use Rattle.cpu.proofs.Wakeups.Lists.{refuted}
-use Rattle.cpu.proofs.Wakeups.Ordered.{buffer_awake, calm_loses_nothing}
-use Rattle.cpu.proofs.Wakeups.Posts.{Waiting, Visit, Outside, In, list_of, sleeps_in, is_side, is_pending, names}
-use Rattle.cpu.proofs.Wakeups.Posts.{goes_on, starts_here, stands, is_lined, is_local, post, visit, marked}
-use Rattle.cpu.proofs.Wakeups.Pairs.{Pair, buffer_self, buffer_true, sleeps_here, marked_some, front_counted}
-use Rattle.cpu.proofs.Wakeups.Called.{Good}
-use Rattle.cpu.proofs.Wakeups.Placed.{IsListed, IsPlaced, HasHome, listed_side, buffer_there}
-use Rattle.cpu.proofs.Wakeups.Agreement.{owing_own, visit_of_stage, visit_of_call, seat, Agrees}
-use Rattle.cpu.proofs.Wakeups.Says.{is_before, HasLine, FitsGroup, Says}
-use Rattle.cpu.proofs.Wakeups.Reaching.{fair_good}
-use Rattle.cpu.proofs.Wakeups.SystemInv.{SystemInv, reached_inv, cpu_there}
+use Rattle.cpu.specs.{Table.Blocks.Buffer, Table.Blocks.OfBuffer, Table.Blocks.side_of, Table.Edits.line_of, Table.Setups.Setup, Table.Setups.Call}
+use Rattle.cpu.specs.{Table.Setups.Private, Table.Setups.thread_at, Table.Setups.home_of, Table.Setups.stands_at, Table.Choice.at_hand, Table.Steps.Whole}
+use Rattle.cpu.specs.{Table.Steps.block_at, Table.Steps.halted_by, Table.Steps.halted_at, Wakeups.Order.Progress, Wakeups.Order.progress, Wakeups.Lost.Allows}
+use Rattle.cpu.specs.{Wakeups.Lost.NoWakeUpIsLost, Wakeups.Quiet.HomesExist, Wakeups.Quiet.IsQuietBy, Wakeups.Quiet.IsQuiet, Wakeups.Quiet.IsNextEffect}
+use Rattle.cpu.specs.{Wakeups.Quiet.IsStuckCall, Wakeups.Quiet.IsLive, Wakeups.Quiet.IsStuck, Wakeups.Quiet.QuietIsStuck}
+use Rattle.cpu.proofs.Wakeups.{Lists.refuted, Ordered.buffer_awake, Ordered.calm_loses_nothing, Posts.Waiting, Posts.Visit, Posts.Outside, Posts.In}
+use Rattle.cpu.proofs.Wakeups.{Posts.list_of, Posts.sleeps_in, Posts.is_side, Posts.is_pending, Posts.names, Posts.goes_on, Posts.starts_here, Posts.stands}
+use Rattle.cpu.proofs.Wakeups.{Posts.is_lined, Posts.is_local, Posts.post, Posts.visit, Posts.marked, Pairs.Pair, Pairs.buffer_self, Pairs.buffer_true}
+use Rattle.cpu.proofs.Wakeups.{Pairs.sleeps_here, Pairs.marked_some, Pairs.front_counted, Called.Good, Placed.IsListed, Placed.IsPlaced, Placed.HasHome}
+use Rattle.cpu.proofs.Wakeups.{Placed.listed_side, Placed.buffer_there, Agreement.owing_own, Agreement.visit_of_stage, Agreement.visit_of_call, Agreement.seat}
+use Rattle.cpu.proofs.Wakeups.{Agreement.Agrees, Says.is_before, Says.HasLine, Says.FitsGroup, Says.Says, Reaching.fair_good, SystemInv.SystemInv}
+use Rattle.cpu.proofs.Wakeups.{SystemInv.reached_inv, SystemInv.cpu_there}
+use Rattle.layer_traits.specs.declared.moves.WaitList.TheVariants as wait_list
 
 -- where a thread sleeps: for the lock of a buffer, or on a side of it
 pub data Sleeps (x : Where) : Type 0 where

@@ -1,26 +1,15 @@
 -- All that is known of every state that a system reaches.
-use Rattle.std.proofs.Common.{◌≡◌, ℕ, zero, suc, ◌+◌, ◌<◌, ◌==◌, Bool, true, false, List, [], ◌∷◌, ◌++◌, length}
-use Rattle.std.proofs.Common.{slice_get, slice_set, Option, Some, None, refl, sym, ap, ◌∙◌, subst, arith}
-use Rattle.std.proofs.lemmas.Bool.{eqb-true, eqb-false}
-use Rattle.std.proofs.lemmas.List.{length-set}
-use Rattle.event_log.specs.declared.ids.CpuId.{CpuId}
-use Rattle.event_log.specs.declared.ids.Tid.{Tid}
-use Rattle.event_log.specs.History.{same_cpu}
-use Rattle.event_log.specs.Sections.{sections_in}
-use Rattle.event_log.specs.Actions.{Action, Take, Try, Give, phase}
-use Rattle.layer_traits.specs.declared.steps.Step.{Step}
-use Rattle.layer_traits.specs.declared.steps.Step.TheVariants.{Stepped, Halted}
-use Rattle.layer_traits.specs.Plans.{is_in_section}
-use Rattle.cpu.specs.Table.Blocks.{Name}
-use Rattle.cpu.specs.Table.Setups.{Setup, Private, thread_at, at_boot}
-use Rattle.cpu.specs.Table.Choice.{Choice, Halts, Alone, Goes, choice}
-use Rattle.cpu.specs.Table.Steps.{chosen, step_in, cpu_step, Whole, cpu_numbered, boots_from, whole_at_boot}
-use Rattle.cpu.specs.Table.Steps.{whole_after, roomy, answered_by, step_at, system_step, IsReached, boots, steps}
-use Rattle.cpu.proofs.Wakeups.Posts.{post, visit}
-use Rattle.cpu.proofs.Wakeups.Placed.{Placed, placed_none, placed_at}
-use Rattle.cpu.proofs.Wakeups.Agreement.{Agrees, runs, within}
-use Rattle.cpu.proofs.Wakeups.Chosen.{ChoiceOk, choice_ok}
-use Rattle.cpu.proofs.Wakeups.Says.{AllFine, fine_at_boot, FineChoice, fine_choice, fine_acting}
+use Rattle.std.proofs.Common.{◌≡◌, ℕ, zero, suc, ◌+◌, ◌<◌, ◌==◌, Bool, true, false, List, [], ◌∷◌, ◌++◌, length, slice_get, slice_set, Option, Some, None, refl}
+use Rattle.std.proofs.Common.{sym, ap, ◌∙◌, subst, arith}
+use Rattle.std.proofs.lemmas.{Bool.eqb-true, Bool.eqb-false, List.length-set}
+use Rattle.event_log.specs.{declared.ids.CpuId.CpuId, declared.ids.Tid.Tid, History.same_cpu, Sections.sections_in, Actions.Action, Actions.Take, Actions.Try}
+use Rattle.event_log.specs.{Actions.Give, Actions.phase}
+use Rattle.layer_traits.specs.{declared.steps.Step.Step, declared.steps.Step.TheVariants.Stepped, declared.steps.Step.TheVariants.Halted, Plans.is_in_section}
+use Rattle.cpu.specs.Table.{Blocks.Name, Setups.Setup, Setups.Private, Setups.thread_at, Setups.at_boot, Choice.Choice, Choice.Halts, Choice.Alone, Choice.Goes}
+use Rattle.cpu.specs.Table.{Choice.choice, Steps.chosen, Steps.step_in, Steps.cpu_step, Steps.Whole, Steps.cpu_numbered, Steps.boots_from, Steps.whole_at_boot}
+use Rattle.cpu.specs.Table.{Steps.whole_after, Steps.roomy, Steps.answered_by, Steps.step_at, Steps.system_step, Steps.IsReached, Steps.boots, Steps.steps}
+use Rattle.cpu.proofs.Wakeups.{Posts.post, Posts.visit, Placed.Placed, Placed.placed_none, Placed.placed_at, Agreement.Agrees, Agreement.runs, Agreement.within}
+use Rattle.cpu.proofs.Wakeups.{Chosen.ChoiceOk, Chosen.choice_ok, Says.AllFine, Says.fine_at_boot, Says.FineChoice, Says.fine_choice, Says.fine_acting}
 use Rattle.cpu.proofs.Wakeups.Reaching.{IsFairLog, Ok, StepOk, step_ok, AllDo, Sound, sound_step, reached_sound, get_set, get_set_other, boots_at}
 
 -- what a step of a system leaves: the same, or the state after its CPU's step

@@ -1,22 +1,15 @@
 -- One list of actions of which each CPU has done its part by the table: its sections may come where they stand.
 use Rattle.std.proofs.Common.{◌≡◌, ℕ, ◌<◌, ◌≤◌, ◌⊎◌, inl, inr, Bool, true, false, List, [], ◌∷◌, ◌++◌, if◌then◌else◌, refl, sym, ap, ◌∙◌, subst}
 use Rattle.std.proofs.lemmas.Bool.{cases_lt}
-use Rattle.event_log.specs.declared.ids.CpuId.{CpuId}
-use Rattle.event_log.specs.History.{same_cpu, own_events}
-use Rattle.event_log.specs.Sections.{sections_in}
-use Rattle.event_log.specs.Actions.{Action, cpu_of_action, phase}
-use Rattle.event_log.proofs.Same.{same_cpu_self}
-use Rattle.event_log.proofs.Foreign.{lawful_before}
-use Rattle.layer_traits.specs.Plans.{is_in_section}
-use Rattle.layer_traits.specs.Along.{starts, others, steps}
-use Rattle.cpu.specs.Table.Blocks.{Name}
-use Rattle.cpu.specs.Table.Setups.{Setup, Private}
-use Rattle.cpu.specs.Table.Choice.{Choice, Goes, choice}
-use Rattle.cpu.specs.Table.Steps.{chosen, step_in, cpu_step, AlongTable}
-use Rattle.cpu.specs.Wakeups.Lost.{IsWorked, CpusLoseNoWakeUp}
-use Rattle.cpu.proofs.Wakeups.Lists.{refuted}
-use Rattle.cpu.proofs.Wakeups.Ordered.{order_loses_no_wake_up}
-use Rattle.cpu.proofs.Wakeups.Reaching.{IsFair, IsFairLog, fair_good, Ok, step_ok, ok_beside, ok_at_boot}
+use Rattle.event_log.specs.{declared.ids.CpuId.CpuId, History.same_cpu, History.own_events, Sections.sections_in, Actions.Action, Actions.cpu_of_action}
+use Rattle.event_log.specs.{Actions.phase}
+use Rattle.event_log.proofs.{Same.same_cpu_self, Foreign.lawful_before}
+use Rattle.layer_traits.specs.{Plans.is_in_section, Along.starts, Along.others, Along.steps}
+use Rattle.cpu.specs.{Table.Blocks.Name, Table.Setups.Setup, Table.Setups.Private, Table.Choice.Choice, Table.Choice.Goes, Table.Choice.choice}
+use Rattle.cpu.specs.{Table.Steps.chosen, Table.Steps.step_in, Table.Steps.cpu_step, Table.Steps.AlongTable, Wakeups.Lost.IsWorked}
+use Rattle.cpu.specs.{Wakeups.Lost.CpusLoseNoWakeUp}
+use Rattle.cpu.proofs.Wakeups.{Lists.refuted, Ordered.order_loses_no_wake_up, Reaching.IsFair, Reaching.IsFairLog, Reaching.fair_good, Reaching.Ok}
+use Rattle.cpu.proofs.Wakeups.{Reaching.step_ok, Reaching.ok_beside, Reaching.ok_at_boot}
 
 -- along a log whose sections may come a CPU agrees with the log
 pub along_ok : (setup : Setup) (c : CpuId) (n : ℕ) (p : Private) (log : List (Action Name))

@@ -1,24 +1,15 @@
 -- What a CPU does next, and what a section's answer makes of its private state.
 use Rattle.std.specs.Prelude.{ℕ, ◌+◌, Bool, true, false, ◌==◌, List, [], ◌∷◌, ◌++◌, length, Option, Some, None, if◌then◌else◌}
-use Rattle.event_log.specs.declared.ids.CpuId.{CpuId}
-use Rattle.event_log.specs.declared.ids.Tid.{Tid}
-use Rattle.event_log.specs.declared.ids.BufId.{BufId}
-use Rattle.event_log.specs.declared.ids.LockId.{LockId}
-use Rattle.event_log.specs.declared.ids.LockId.TheVariants.{Pending, Buffer as AtBuffer}
-use Rattle.event_log.specs.declared.entries.Entry.{Entry}
-use Rattle.event_log.specs.History.{same_cpu}
-use Rattle.event_log.specs.Messages.{Message, no_message}
-use Rattle.event_log.specs.Runs.{Group, Sends, Receives, Closes}
-use Rattle.layer_traits.specs.declared.locked.Side.{Side}
-use Rattle.layer_traits.specs.declared.locked.Side.TheVariants.{Receivers, Senders}
-use Rattle.layer_traits.specs.declared.steps.Reason.{Reason}
-use Rattle.layer_traits.specs.declared.steps.Reason.TheVariants.{AllEnded, TraceFull}
-use Rattle.guest.specs.declared.instructions.Instruction.{Instruction}
+use Rattle.event_log.specs.{declared.ids.CpuId.CpuId, declared.ids.Tid.Tid, declared.ids.BufId.BufId, declared.ids.LockId.LockId}
+use Rattle.event_log.specs.{declared.ids.LockId.TheVariants.Pending, declared.ids.LockId.TheVariants.Buffer as AtBuffer, declared.entries.Entry.Entry}
+use Rattle.event_log.specs.{History.same_cpu, Messages.Message, Messages.no_message, Runs.Group, Runs.Sends, Runs.Receives, Runs.Closes}
+use Rattle.layer_traits.specs.declared.{locked.Side.Side, locked.Side.TheVariants.Receivers, locked.Side.TheVariants.Senders, steps.Reason.Reason}
+use Rattle.layer_traits.specs.declared.{steps.Reason.TheVariants.AllEnded, steps.Reason.TheVariants.TraceFull, call_states.Stage.Stage}
+use Rattle.guest.specs.{declared.instructions.Instruction.Instruction, State.State, State.message_from, State.after_local, State.after_send, State.after_recv}
+use Rattle.guest.specs.{State.after_close, State.after_closed, State.after_yield}
 use Rattle.guest.specs.declared.instructions.Instruction.TheVariants.{Set, Add, Sub, Jnz, Send, Recv, Close, Yield as YieldLine, Exit}
-use Rattle.guest.specs.State.{State, message_from, after_local, after_send, after_recv, after_close, after_closed, after_yield}
-use Rattle.cpu.specs.Table.Blocks.{Name, AcqQ, Enter, TryPut, TryTake, Shut, WaitOn, SigRecv, SigSend, RelQ, Pend, TakeAll, side_of, effect_of}
-use Rattle.cpu.specs.Table.Blocks.{Reported, Position, Done, WasClosed, DidShut, NotYet, Drained, Answer}
-use Rattle.layer_traits.specs.declared.call_states.Stage.{Stage}
+use Rattle.cpu.specs.Table.Blocks.{Name, AcqQ, Enter, TryPut, TryTake, Shut, WaitOn, SigRecv, SigSend, RelQ, Pend, TakeAll, side_of, effect_of, Reported}
+use Rattle.cpu.specs.Table.Blocks.{Position, Done, WasClosed, DidShut, NotYet, Drained, Answer}
 use Rattle.layer_traits.specs.declared.call_states.Stage.TheVariants.{Idle, Acquires, Enters, Tries, Waits, AcquiresAgain, Signals, SignalsOwn, Releases}
 use Rattle.cpu.specs.Table.Setups.{Setup, Call, Private, thread_at, with_thread, home_of, stands_at, home_threads, open_calls, have_ended}
 

@@ -1,19 +1,11 @@
 -- One step of a CPU, one step of a system, and the states that a system reaches.
 use Rattle.std.specs.Prelude.{ℕ, ◌+◌, ◌<◌, zero, suc, Bool, true, false, ◌==◌, List, [], ◌∷◌, ◌++◌, Option, Some, None, slice_get, slice_set}
-use Rattle.event_log.specs.declared.ids.CpuId.{CpuId}
-use Rattle.event_log.specs.declared.ids.LockId.{LockId}
-use Rattle.event_log.specs.Actions.{Action, phase, next_action}
-use Rattle.event_log.specs.Sections.{block_after, sections_in}
-use Rattle.layer_traits.specs.declared.steps.Reason.{Reason}
-use Rattle.layer_traits.specs.declared.steps.Reason.TheVariants.{StepsUsed}
-use Rattle.layer_traits.specs.declared.steps.Step.{Step}
-use Rattle.layer_traits.specs.declared.steps.Step.TheVariants.{Stepped, Halted}
-use Rattle.layer_traits.specs.Plans.{reply, is_in_section}
-use Rattle.layer_traits.specs.Along.{Outcome, Along}
-use Rattle.cpu.specs.Table.Blocks.{Block, Name, Answer}
-use Rattle.cpu.specs.Table.Edits.{kernel}
-use Rattle.cpu.specs.Table.Setups.{Setup, Private, at_boot, opening}
-use Rattle.cpu.specs.Table.Choice.{asked, Choice, Halts, Alone, Goes, choice, after_section}
+use Rattle.event_log.specs.{declared.ids.CpuId.CpuId, declared.ids.LockId.LockId, Actions.Action, Actions.phase, Actions.next_action, Sections.block_after}
+use Rattle.event_log.specs.{Sections.sections_in}
+use Rattle.layer_traits.specs.declared.steps.{Reason.Reason, Reason.TheVariants.StepsUsed, Step.Step, Step.TheVariants.Stepped, Step.TheVariants.Halted}
+use Rattle.layer_traits.specs.{Plans.reply, Plans.is_in_section, Along.Outcome, Along.Along}
+use Rattle.cpu.specs.Table.{Blocks.Block, Blocks.Name, Blocks.Answer, Edits.kernel, Setups.Setup, Setups.Private, Setups.at_boot, Setups.opening, Choice.asked}
+use Rattle.cpu.specs.Table.{Choice.Choice, Choice.Halts, Choice.Alone, Choice.Goes, Choice.choice, Choice.after_section}
 
 -- A CPU's step.
 

@@ -2,12 +2,10 @@
 use Rattle.std.specs.Prelude.{◌≡◌, true, [], ◌∷◌, Some, None}
 use Rattle.event_log.specs.declared.entries.Kind.TheVariants.{Send as SendKind, Recv as RecvKind}
 use Rattle.layer_traits.specs.declared.steps.Reason.TheVariants.{AllEnded}
-use Rattle.guest.specs.declared.instructions.Into.TheVariants.{All}
-use Rattle.guest.specs.declared.instructions.Register.TheVariants.{Reg0, Reg1, Reg2}
-use Rattle.guest.specs.declared.instructions.Source.TheVariants.{First}
-use Rattle.guest.specs.declared.instructions.Instruction.TheVariants.{Set, Send, Recv}
-use Rattle.cpu.specs.Table.Setups.{Setup}
-use Rattle.cpu.specs.Table.Worked.{buffer_numbered, of, run, traces, ended, reason, at_buffer_0, leaves, entry, setup_of, sends}
+use Rattle.guest.specs.declared.instructions.{Into.TheVariants.All, Register.TheVariants.Reg0, Register.TheVariants.Reg1, Register.TheVariants.Reg2}
+use Rattle.guest.specs.declared.instructions.{Source.TheVariants.First, Instruction.TheVariants.Set, Instruction.TheVariants.Send, Instruction.TheVariants.Recv}
+use Rattle.cpu.specs.Table.{Setups.Setup, Worked.buffer_numbered, Worked.of, Worked.run, Worked.traces, Worked.ended, Worked.reason, Worked.at_buffer_0}
+use Rattle.cpu.specs.Table.{Worked.leaves, Worked.entry, Worked.setup_of, Worked.sends}
 
 -- one thread that sends its first two registers, receives the message into all of them, and sends the third
 abbrev pub words_alone : Setup

@@ -1,24 +1,14 @@
 -- Worked runs of small systems, each from boot by a schedule, and what they leave. Each is a fact by computation.
 use Rattle.std.specs.Prelude.{◌≡◌, ℕ, true, false, List, [], ◌∷◌, map, Bool, Option, Some, None, slice_get}
-use Rattle.event_log.specs.declared.ids.Tid.{Tid}
-use Rattle.event_log.specs.declared.ids.BufId.{BufId}
-use Rattle.event_log.specs.declared.ids.LockId.TheVariants.{Pending, Buffer as AtBuffer}
-use Rattle.event_log.specs.declared.entries.Kind.{Kind}
-use Rattle.event_log.specs.declared.entries.Kind.TheVariants.{Send as SendKind, Recv as RecvKind}
-use Rattle.event_log.specs.declared.entries.Entry.{Entry}
-use Rattle.event_log.specs.Messages.{Message}
-use Rattle.event_log.specs.Actions.{takes, gives, phase, Waits}
-use Rattle.layer_traits.specs.declared.steps.Reason.{Reason}
-use Rattle.layer_traits.specs.declared.steps.Reason.TheVariants.{AllEnded, TraceFull}
-use Rattle.guest.specs.declared.instructions.Instruction.{Instruction}
-use Rattle.guest.specs.declared.instructions.Into.TheVariants.{One as ToOne}
-use Rattle.guest.specs.declared.instructions.Register.{Register}
-use Rattle.guest.specs.declared.instructions.Register.TheVariants.{Reg0, Reg1}
-use Rattle.guest.specs.declared.instructions.Source.TheVariants.{One as OfOne}
+use Rattle.event_log.specs.declared.{ids.Tid.Tid, ids.BufId.BufId, ids.LockId.TheVariants.Pending, ids.LockId.TheVariants.Buffer as AtBuffer, entries.Kind.Kind}
+use Rattle.event_log.specs.declared.{entries.Kind.TheVariants.Send as SendKind, entries.Kind.TheVariants.Recv as RecvKind, entries.Entry.Entry}
+use Rattle.event_log.specs.{Messages.Message, Actions.takes, Actions.gives, Actions.phase, Actions.Waits}
+use Rattle.layer_traits.specs.declared.steps.Reason.{Reason, TheVariants.AllEnded, TheVariants.TraceFull}
+use Rattle.guest.specs.declared.instructions.{Instruction.Instruction, Into.TheVariants.One as ToOne, Register.Register, Register.TheVariants.Reg0}
+use Rattle.guest.specs.declared.instructions.{Register.TheVariants.Reg1, Source.TheVariants.One as OfOne}
 use Rattle.guest.specs.declared.instructions.Instruction.TheVariants.{Set, Add, Send, Recv, Yield as YieldLine, Exit}
-use Rattle.cpu.specs.Table.Blocks.{Block, OfBuffer, OfPending}
-use Rattle.cpu.specs.Table.Setups.{Setup, Call, Private, thread_at}
-use Rattle.cpu.specs.Table.Steps.{Whole, cpu_numbered, whole_at_boot, steps_by, block_at, halted_at}
+use Rattle.cpu.specs.Table.{Blocks.Block, Blocks.OfBuffer, Blocks.OfPending, Setups.Setup, Setups.Call, Setups.Private, Setups.thread_at, Steps.Whole}
+use Rattle.cpu.specs.Table.{Steps.cpu_numbered, Steps.whole_at_boot, Steps.steps_by, Steps.block_at, Steps.halted_at}
 
 abbrev pub thread : ℕ → Tid
 thread n = record { 0 = n }

@@ -1,39 +1,23 @@
 -- The plan of each poll is a line of the step table: it asks for the table's section, and what it makes of the section's answer is what
 -- the table makes of it.
 use Rattle.std.specs.Prelude.{◌≡◌, ◌⊎◌, ◌<◌, Bool, true, false, List, Option, Some, None, IsSome, length, map, option_map, slice_get}
-use Rattle.event_log.specs.declared.entries.Entry.{Entry}
-use Rattle.event_log.specs.declared.ids.BufId.{BufId}
-use Rattle.event_log.specs.declared.ids.CpuId.{CpuId}
-use Rattle.event_log.specs.declared.ids.LockId.{LockId}
-use Rattle.event_log.specs.declared.ids.LockId.TheVariants.{Pending, Buffer}
-use Rattle.event_log.specs.declared.ids.Tid.{Tid}
-use Rattle.event_log.specs.Actions.{Action, phase, renamed}
-use Rattle.guest.specs.declared.instructions.Instruction.{Instruction}
+use Rattle.event_log.specs.{declared.entries.Entry.Entry, Actions.Action, Actions.phase, Actions.renamed}
+use Rattle.event_log.specs.declared.ids.{BufId.BufId, CpuId.CpuId, LockId.LockId, LockId.TheVariants.Pending, LockId.TheVariants.Buffer, Tid.Tid}
+use Rattle.guest.specs.{declared.instructions.Instruction.Instruction, State.State, State.next_of, State.message_from}
+use Rattle.layer_traits.specs.{declared.calls.Call.Call, declared.calls.Effect.Effect, declared.conditions.CvOut.CvOut}
+use Rattle.layer_traits.specs.{declared.buffer_edits.BufferOut.BufferOut, declared.locked.QOut.QOut, declared.call_states.Stage.Stage, LockLaw.slept_for}
+use Rattle.layer_traits.specs.{Plans.Left, Plans.Plan, Plans.Act, Plans.is_in_section, BufferLaw.Buffering, BufferLaw.fifo_plan, BufferLaw.call_state_of}
+use Rattle.layer_traits.specs.declared.steps.{Reason.Reason, Step.Step, Step.TheVariants.Stepped, Step.TheVariants.Halted}
+use Rattle.layer_traits.specs.declared.call_states.Stage.TheVariants.{Idle, Acquires, Enters, Tries, Waits, AcquiresAgain, Signals, SignalsOwn, Releases}
+use Rattle.cpu.specs.{Table.Blocks.Name, Table.Setups.Setup, Table.Setups.Private, Table.Setups.program_of, Table.Setups.opening as table_opening}
+use Rattle.cpu.specs.{Table.Choice.asked, Table.Choice.after_section, Table.Steps.cpu_step, Table.Steps.halted_at, Tower.Views.TowerName, Tower.Views.TowerOut}
+use Rattle.cpu.specs.{Tower.Views.TowerAnswer, Tower.Views.TowerBlock, Tower.Views.tower, Tower.Views.name_of, Tower.Views.view, Tower.Views.answer_view}
+use Rattle.cpu.specs.{Tower.Privates.guest_at, Tower.Privates.private_after, Tower.Privates.private_of, Tower.Privates.threads_in}
 use Rattle.guest.specs.declared.instructions.Instruction.TheVariants as instruction
-use Rattle.guest.specs.State.{State, next_of, message_from}
-use Rattle.layer_traits.specs.declared.calls.Call.{Call}
 use Rattle.layer_traits.specs.declared.calls.Call.TheVariants as asks_for
-use Rattle.layer_traits.specs.declared.calls.Effect.{Effect}
-use Rattle.layer_traits.specs.declared.conditions.CvOut.{CvOut}
 use Rattle.layer_traits.specs.declared.conditions.CvOut.TheVariants as cv
-use Rattle.layer_traits.specs.declared.buffer_edits.BufferOut.{BufferOut}
-use Rattle.layer_traits.specs.declared.locked.QOut.{QOut}
 use Rattle.layer_traits.specs.declared.locked.QOut.TheVariants as lock
 use Rattle.layer_traits.specs.declared.queue_edits.QueueBlock.TheVariants as block
-use Rattle.layer_traits.specs.declared.steps.Reason.{Reason}
-use Rattle.layer_traits.specs.declared.steps.Step.{Step}
-use Rattle.layer_traits.specs.declared.steps.Step.TheVariants.{Stepped, Halted}
-use Rattle.layer_traits.specs.declared.call_states.Stage.{Stage}
-use Rattle.layer_traits.specs.declared.call_states.Stage.TheVariants.{Idle, Acquires, Enters, Tries, Waits, AcquiresAgain, Signals, SignalsOwn, Releases}
-use Rattle.layer_traits.specs.LockLaw.{slept_for}
-use Rattle.layer_traits.specs.Plans.{Left, Plan, Act, is_in_section}
-use Rattle.layer_traits.specs.BufferLaw.{Buffering, fifo_plan, call_state_of}
-use Rattle.cpu.specs.Table.Blocks.{Name}
-use Rattle.cpu.specs.Table.Setups.{Setup, Private, program_of, opening as table_opening}
-use Rattle.cpu.specs.Table.Choice.{asked, after_section}
-use Rattle.cpu.specs.Table.Steps.{cpu_step, halted_at}
-use Rattle.cpu.specs.Tower.Views.{TowerName, TowerOut, TowerAnswer, TowerBlock, tower, name_of, view, answer_view}
-use Rattle.cpu.specs.Tower.Privates.{guest_at, private_after, private_of, threads_in}
 
 -- the outcome of a section that woke this thread
 abbrev pub outcome_of : QOut (CvOut BufferOut) → Tid → TowerOut

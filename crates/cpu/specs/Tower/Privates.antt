@@ -1,31 +1,19 @@
 -- A CPU's part, its guests by thread number and its trace as the table's private state. Where the part does a woken thread's next
 -- section, or its caller's next one, only once that runs again, the table has already gone on: both do the same actions.
 use Rattle.std.specs.Prelude.{ℕ, ◌+◌, Bool, true, false, ◌&&◌, List, [], ◌∷◌, ◌++◌, Option, Some, None, is_some, option_map, slice_index_or, slice_set}
-use Rattle.event_log.specs.declared.entries.Entry.{Entry}
-use Rattle.event_log.specs.declared.entries.Kind.{Kind}
-use Rattle.event_log.specs.declared.entries.Kind.TheVariants as kind
-use Rattle.event_log.specs.declared.ids.BufId.{BufId}
-use Rattle.event_log.specs.declared.ids.CpuId.{CpuId}
-use Rattle.event_log.specs.declared.ids.Tid.{Tid}
-use Rattle.event_log.specs.Messages.{Message, no_message}
-use Rattle.event_log.specs.Runs.{Group, Sends, Receives, Closes}
+use Rattle.event_log.specs.{declared.entries.Entry.Entry, declared.entries.Kind.Kind, declared.ids.BufId.BufId, declared.ids.CpuId.CpuId, declared.ids.Tid.Tid}
+use Rattle.event_log.specs.{Messages.Message, Messages.no_message, Runs.Group, Runs.Sends, Runs.Receives, Runs.Closes}
 use Rattle.guest.specs.State.{State, at_start, next_of, after_yield}
 use Rattle.thread_blocks.specs.Queues.{is_in}
-use Rattle.layer_traits.specs.declared.calls.Call.{Call as TowerCall}
-use Rattle.layer_traits.specs.declared.calls.Call.TheVariants as asks
-use Rattle.layer_traits.specs.declared.calls.Effect.{Effect}
-use Rattle.layer_traits.specs.declared.calls.Reply.{Reply}
-use Rattle.layer_traits.specs.declared.passes.Pass.{Pass}
-use Rattle.layer_traits.specs.declared.passes.Pass.TheVariants as pass
-use Rattle.layer_traits.specs.declared.call_states.Stage.{Stage}
+use Rattle.layer_traits.specs.{declared.calls.Call.Call as TowerCall, declared.calls.Effect.Effect, declared.calls.Reply.Reply, declared.passes.Pass.Pass}
+use Rattle.layer_traits.specs.{declared.call_states.Stage.Stage, declared.call_states.CallState.CallState, LockLaw.slept_for, Places.Threads, Places.is_thread}
+use Rattle.layer_traits.specs.{Plans.Left, BufferLaw.Buffering, BufferLaw.begun_at, BufferLaw.buffer_of, BufferLaw.entry_of, BufferLaw.going}
+use Rattle.layer_traits.specs.{BufferLaw.call_state_of}
 use Rattle.layer_traits.specs.declared.call_states.Stage.TheVariants.{Idle, Acquires, Enters, Tries, Waits, AcquiresAgain, Signals, SignalsOwn, Releases}
-use Rattle.layer_traits.specs.declared.call_states.CallState.{CallState}
-use Rattle.layer_traits.specs.LockLaw.{slept_for}
-use Rattle.layer_traits.specs.Places.{Threads, is_thread}
-use Rattle.layer_traits.specs.Plans.{Left}
-use Rattle.layer_traits.specs.BufferLaw.{Buffering, begun_at, buffer_of, entry_of, going, call_state_of}
-use Rattle.cpu.specs.Guests.{after_answer}
-use Rattle.cpu.specs.Table.Setups.{Setup, Call, Thread, Private, program_of}
+use Rattle.cpu.specs.{Guests.after_answer, Table.Setups.Setup, Table.Setups.Call, Table.Setups.Thread, Table.Setups.Private, Table.Setups.program_of}
+use Rattle.event_log.specs.declared.entries.Kind.TheVariants as kind
+use Rattle.layer_traits.specs.declared.calls.Call.TheVariants as asks
+use Rattle.layer_traits.specs.declared.passes.Pass.TheVariants as pass
 
 -- the table's stage of a call: one whose caller slept for the lock, or waited, has done that section
 abbrev pub stage_of : Stage → (slept waits : Option BufId) → Stage

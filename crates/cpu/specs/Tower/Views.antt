@@ -1,38 +1,25 @@
 -- The layers seen as the step table: the table's name of each section, its block and its answer.
 use Rattle.std.specs.Prelude.{◌≡◌, ℕ}
-use Rattle.event_log.specs.declared.entries.Kind.{Kind}
-use Rattle.event_log.specs.declared.entries.Kind.TheVariants as kind
-use Rattle.event_log.specs.declared.ids.Tid.{Tid}
-use Rattle.event_log.specs.Messages.{Message}
-use Rattle.layer_traits.specs.declared.locked.QEdit.TheVariants.{Acquire, Inside, Release}
-use Rattle.layer_traits.specs.declared.locked.QOut.{QOut}
-use Rattle.layer_traits.specs.declared.locked.QOut.TheVariants as lock
-use Rattle.layer_traits.specs.declared.locked.Side.{Side}
-use Rattle.layer_traits.specs.declared.locked.Side.TheVariants.{Receivers, Senders}
-use Rattle.layer_traits.specs.declared.conditions.CvEdit.TheVariants.{Edit, SignalFront}
-use Rattle.layer_traits.specs.declared.conditions.CvLeave.TheVariants.{Leave, Wait}
-use Rattle.layer_traits.specs.declared.conditions.CvOut.{CvOut}
-use Rattle.layer_traits.specs.declared.conditions.CvOut.TheVariants as cv
-use Rattle.layer_traits.specs.declared.buffer_edits.BufferEdit.{BufferEdit}
-use Rattle.layer_traits.specs.declared.buffer_edits.BufferEdit.TheVariants as edit
-use Rattle.layer_traits.specs.declared.buffer_edits.BufferOut.{BufferOut}
-use Rattle.layer_traits.specs.declared.buffer_edits.BufferOut.TheVariants as out
-use Rattle.layer_traits.specs.declared.queue_edits.QueueBlock.{QueueBlock}
-use Rattle.layer_traits.specs.declared.queue_edits.QueueBlock.TheVariants as block
-use Rattle.layer_traits.specs.declared.queue_edits.QueueEdit.{QueueEdit}
-use Rattle.layer_traits.specs.declared.queue_edits.QueueEdit.TheVariants as queue
-use Rattle.layer_traits.specs.declared.queues.QueueAnswer.{QueueAnswer}
-use Rattle.layer_traits.specs.declared.queues.QueueAnswer.TheVariants as told
-use Rattle.layer_traits.specs.declared.sleeps.Outcome.{Outcome}
-use Rattle.layer_traits.specs.BufferBlocks.{BufferState}
-use Rattle.layer_traits.specs.BufferProtocol.{buffer_rules}
-use Rattle.layer_traits.specs.Conditions.{CvCall}
-use Rattle.layer_traits.specs.Locking.{LockState, lock_moves, lock_rules}
-use Rattle.layer_traits.specs.Plans.{Table, table_of}
-use Rattle.layer_traits.specs.QueueRules.{queue_rules}
-use Rattle.cpu.specs.Table.Blocks.{Buffer, Block, OfBuffer, OfPending, Name, AcqQ, Enter, TryPut, TryTake, Shut, WaitOn, SigRecv}
-use Rattle.cpu.specs.Table.Blocks.{SigSend, RelQ, Pend, TakeAll, Reported, Nothing, Position, Done, WasClosed, DidShut, NotYet, Drained, Answer}
+use Rattle.event_log.specs.{declared.entries.Kind.Kind, declared.ids.Tid.Tid, Messages.Message}
+use Rattle.layer_traits.specs.declared.{locked.QEdit.TheVariants.Acquire, locked.QEdit.TheVariants.Inside, locked.QEdit.TheVariants.Release, locked.QOut.QOut}
+use Rattle.layer_traits.specs.declared.{locked.Side.Side, locked.Side.TheVariants.Receivers, locked.Side.TheVariants.Senders}
+use Rattle.layer_traits.specs.declared.{conditions.CvEdit.TheVariants.Edit, conditions.CvEdit.TheVariants.SignalFront, conditions.CvLeave.TheVariants.Leave}
+use Rattle.layer_traits.specs.declared.{conditions.CvLeave.TheVariants.Wait, conditions.CvOut.CvOut, buffer_edits.BufferEdit.BufferEdit}
+use Rattle.layer_traits.specs.declared.{buffer_edits.BufferOut.BufferOut, queue_edits.QueueBlock.QueueBlock, queue_edits.QueueEdit.QueueEdit}
+use Rattle.layer_traits.specs.declared.{queues.QueueAnswer.QueueAnswer, sleeps.Outcome.Outcome}
+use Rattle.layer_traits.specs.{BufferBlocks.BufferState, BufferProtocol.buffer_rules, Conditions.CvCall, Locking.LockState, Locking.lock_moves}
+use Rattle.layer_traits.specs.{Locking.lock_rules, Plans.Table, Plans.table_of, QueueRules.queue_rules}
+use Rattle.cpu.specs.Table.Blocks.{Buffer, Block, OfBuffer, OfPending, Name, AcqQ, Enter, TryPut, TryTake, Shut, WaitOn, SigRecv, SigSend, RelQ, Pend, TakeAll}
+use Rattle.cpu.specs.Table.Blocks.{Reported, Nothing, Position, Done, WasClosed, DidShut, NotYet, Drained, Answer}
 use Rattle.cpu.specs.Table.Edits.{edited, answer, reports}
+use Rattle.event_log.specs.declared.entries.Kind.TheVariants as kind
+use Rattle.layer_traits.specs.declared.locked.QOut.TheVariants as lock
+use Rattle.layer_traits.specs.declared.conditions.CvOut.TheVariants as cv
+use Rattle.layer_traits.specs.declared.buffer_edits.BufferEdit.TheVariants as edit
+use Rattle.layer_traits.specs.declared.buffer_edits.BufferOut.TheVariants as out
+use Rattle.layer_traits.specs.declared.queue_edits.QueueBlock.TheVariants as block
+use Rattle.layer_traits.specs.declared.queue_edits.QueueEdit.TheVariants as queue
+use Rattle.layer_traits.specs.declared.queues.QueueAnswer.TheVariants as told
 
 -- the names, answers and blocks of the layers' sections
 abbrev pub TowerName : Type 0

@@ -1,20 +1,11 @@
 -- No wake-up is lost: whoever is the first of its line, is asleep beside a free lock and has something to do, does not exist.
 use Rattle.std.specs.Prelude.{◌≡◌, ℕ, ◌≤◌, ◌<◌, true, List, [], Some, None}
-use Rattle.event_log.specs.declared.ids.CpuId.{CpuId}
-use Rattle.event_log.specs.declared.ids.Tid.{Tid}
-use Rattle.event_log.specs.declared.ids.BufId.{BufId}
-use Rattle.event_log.specs.declared.ids.LockId.TheVariants.{Buffer as AtBuffer}
-use Rattle.event_log.specs.declared.entries.Kind.{Kind}
-use Rattle.event_log.specs.Messages.{Message}
-use Rattle.event_log.specs.Buffers.{IsAllowedEffect}
-use Rattle.event_log.specs.Runs.{Sends, Receives, group_of}
-use Rattle.event_log.specs.History.{own_events}
-use Rattle.event_log.specs.Actions.{Action, cpu_of_action}
-use Rattle.event_log.specs.Sections.{Section, sections_in}
-use Rattle.cpu.specs.Table.Blocks.{Buffer, OfBuffer, Name, front, stands_in}
-use Rattle.cpu.specs.Table.Setups.{Setup, Private}
-use Rattle.cpu.specs.Table.Steps.{Whole, IsReached, block_at, AlongTable}
-use Rattle.cpu.specs.Wakeups.Order.{block_of, IsInOrder}
+use Rattle.event_log.specs.{declared.ids.CpuId.CpuId, declared.ids.Tid.Tid, declared.ids.BufId.BufId, declared.ids.LockId.TheVariants.Buffer as AtBuffer}
+use Rattle.event_log.specs.{declared.entries.Kind.Kind, Messages.Message, Buffers.IsAllowedEffect, Runs.Sends, Runs.Receives, Runs.group_of, History.own_events}
+use Rattle.event_log.specs.{Actions.Action, Actions.cpu_of_action, Sections.Section, Sections.sections_in}
+use Rattle.cpu.specs.{Table.Blocks.Buffer, Table.Blocks.OfBuffer, Table.Blocks.Name, Table.Blocks.front, Table.Blocks.stands_in, Table.Setups.Setup}
+use Rattle.cpu.specs.{Table.Setups.Private, Table.Steps.Whole, Table.Steps.IsReached, Table.Steps.block_at, Table.Steps.AlongTable, Wakeups.Order.block_of}
+use Rattle.cpu.specs.{Wakeups.Order.IsInOrder}
 
 -- the buffer allows an effect of this kind with this message
 abbrev pub Allows : Buffer → Kind → Message → Type 0

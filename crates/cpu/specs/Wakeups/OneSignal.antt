@@ -1,15 +1,10 @@
 -- What is lost where a call signals the other side alone: a concrete history.
 use Rattle.std.specs.Prelude.{◌≡◌, ℕ, List, [], ◌∷◌, Some}
-use Rattle.event_log.specs.declared.ids.LockId.TheVariants.{Buffer as AtBuffer}
-use Rattle.event_log.specs.Messages.{Message}
-use Rattle.event_log.specs.Sections.{Section}
+use Rattle.event_log.specs.{declared.ids.LockId.TheVariants.Buffer as AtBuffer, Messages.Message, Sections.Section}
 use Rattle.layer_traits.specs.declared.locked.Side.TheVariants.{Receivers, Senders}
 use Rattle.cpu.specs.Table.Blocks.{Buffer, OfBuffer, Name, AcqQ, Enter, TryPut, TryTake, Shut, WaitOn, SigRecv, SigSend, RelQ}
-use Rattle.cpu.specs.Table.Setups.{Setup}
-use Rattle.cpu.specs.Table.Steps.{cpu_numbered}
-use Rattle.cpu.specs.Table.Worked.{thread, buffer_numbered, setup_of}
-use Rattle.cpu.specs.Wakeups.Order.{block_of}
-use Rattle.cpu.specs.Wakeups.Lost.{NoWakeUpIsLost}
+use Rattle.cpu.specs.{Table.Setups.Setup, Table.Steps.cpu_numbered, Table.Worked.thread, Table.Worked.buffer_numbered, Table.Worked.setup_of}
+use Rattle.cpu.specs.{Wakeups.Order.block_of, Wakeups.Lost.NoWakeUpIsLost}
 
 -- three threads, each at home on the CPU of its number, and one buffer for two messages
 abbrev pub three_threads : Setup

@@ -2,8 +2,7 @@
 
 ghost use Rattle.std.specs.Prelude.{◌≡◌, ℕ, ◌+◌, ◌≤◌, ◌∷◌, ◌++◌, IfOk, Some, None, [], length, map, replicate, slice_get, slice_index_or, vec_capacity};
 ghost use Rattle.event_log.specs.declared.ids.TheConstants.{CPUS, THREADS};
-ghost use Rattle.layer_traits.specs.BufferLaw.{buffering_at_start, no_call};
-ghost use Rattle.layer_traits.specs.Places.{at_boot};
+ghost use Rattle.layer_traits.specs.{BufferLaw.buffering_at_start, BufferLaw.no_call, Places.at_boot};
 ghost use Rattle.cpu.specs.Boots.{IsBooted, IsBootedAs};
 
 use crate::cpus::Cpu;
@@ -94,13 +93,9 @@ impl<I: Owned + Drop> System<I>
 where
     I::Machine: Drop,
 {
-    ghost use Rattle.cpu.specs.Boots.{AreTables};
-    ghost use Rattle.cpu.specs.Claims.{FollowPrograms, HasOneOrder, StandsOnce, StayHome, cpu_shown, shown_of};
-    ghost use Rattle.cpu.specs.Cpus.{IsCpu};
-    ghost use Rattle.cpu.specs.Sound.{BootsByTable, SoundByTable};
-    ghost use Rattle.cpu.specs.Observed.{ObservedByTable};
-    ghost use Rattle.cpu.specs.Systems.{IsSystem};
-    ghost use Rattle.cpu.specs.Tables.{IsTabled};
+    ghost use Rattle.cpu.specs.{Boots.AreTables, Claims.FollowPrograms, Claims.HasOneOrder, Claims.StandsOnce, Claims.StayHome, Claims.cpu_shown};
+    ghost use Rattle.cpu.specs.{Claims.shown_of, Cpus.IsCpu, Sound.BootsByTable, Sound.SoundByTable, Observed.ObservedByTable, Systems.IsSystem};
+    ghost use Rattle.cpu.specs.{Tables.IsTabled};
     ghost use Rattle.layer_traits.specs.Openings.{AreOpenable};
 
     /// A system before its first step: buffers of these capacities, threads of these homes, and one

@@ -30,8 +30,7 @@ pub(crate) struct Fresh<T: CountTable> {
 impl<T: CountTable> Model for Fresh<T> {
     ghost use Rattle.std.specs.Prelude.{ℕ};
     ghost use Rattle.table_machine.specs.SeatViews.{SeatView};
-    ghost use Rattle.cpu_workers.specs.declared.counting.AddOne.{AddOne as AnAddOne};
-    ghost use Rattle.cpu_workers.specs.Counts.{IsFresh};
+    ghost use Rattle.cpu_workers.specs.{declared.counting.AddOne.AddOne as AnAddOne, Counts.IsFresh};
 
     ghost Value = { SeatView AnAddOne ℕ };
 
@@ -71,8 +70,7 @@ pub(crate) struct MadeBy {
 }
 
 impl Promise<Option<Key<AddOne>>> for MadeBy {
-    ghost use Rattle.cpu_workers.specs.Counts.{MayHaveMade};
-    ghost use Rattle.cpu_workers.specs.declared.counting.TheConstants.{NUMBER};
+    ghost use Rattle.cpu_workers.specs.{Counts.MayHaveMade, declared.counting.TheConstants.NUMBER};
 
     ghost kept_by = { λ p r. MayHaveMade NUMBER p.key.value r p.times };
 }

@@ -2,8 +2,8 @@
 
 ghost use Rattle.std.specs.Prelude.{◌≡◌, ◌*◌, ◌<◌, ◌≤◌, ◌^◌, [], ◌∷◌, IsErr, IfOk, IfErr, OnErr};
 ghost use Rattle.table_machine.specs.SeatViews.{new_seat_views};
-ghost use Rattle.cpu_workers.specs.Counts.{AllHaveMade, IsNumberOfFrees, counting};
-ghost use Rattle.cpu_workers.specs.declared.counting.CountFault.TheVariants.{NoMemory as LacksMemory};
+ghost use Rattle.cpu_workers.specs.{Counts.AllHaveMade, Counts.IsNumberOfFrees, Counts.counting};
+ghost use Rattle.cpu_workers.specs.{declared.counting.CountFault.TheVariants.NoMemory as LacksMemory};
 
 use crate::counting::threads::{Refused, work_all};
 use crate::counting::{AddOne, CountFault, NUMBER};

@@ -3,8 +3,7 @@
 ghost use Rattle.std.specs.Prelude.{◌≡◌, ◌≤◌, [], IsSome, IfOk, IfErr, OnOk, OnErr, All, length, vec_capacity};
 ghost use Rattle.layer_traits.specs.OneLock.{opened};
 ghost use Rattle.table_machine.specs.SeatViews.{new_seat_view};
-ghost use Rattle.cpu_workers.specs.Counts.{AllHaveMade, HasMade, IsFresh, MayHaveMade};
-ghost use Rattle.cpu_workers.specs.Reports.{Both};
+ghost use Rattle.cpu_workers.specs.{Counts.AllHaveMade, Counts.HasMade, Counts.IsFresh, Counts.MayHaveMade, Reports.Both};
 ghost use Rattle.cpu_workers.specs.declared.counting.CountFault.TheVariants.{NoMemory as LacksMemory, NoThread as LacksThread};
 
 use crate::counting::keys::{CountTable, Fresh, KeySlot, MadeBy};

@@ -1,19 +1,13 @@
 -- A put and a take at their section polls are steps of a buffer's block.
-use Rattle.std.proofs.Common.{◌≡◌, ℕ, Bool, true, false, ◌||◌, List, [], ◌∷◌, length, nat_lt, if◌then◌else◌}
-use Rattle.std.proofs.Common.{refl, sym, arith, lt-ltb}
+use Rattle.std.proofs.Common.{◌≡◌, ℕ, Bool, true, false, ◌||◌, List, [], ◌∷◌, length, nat_lt, if◌then◌else◌, refl, sym, arith, lt-ltb}
 use Rattle.std.proofs.lemmas.Bool.{and_parts, ltb-true}
 use Rattle.event_log.specs.declared.entries.Kind.TheVariants.{Send, Recv, SendClosed, RecvClosed}
-use Rattle.event_log.specs.declared.ids.Tid.{Tid}
-use Rattle.event_log.specs.Buffers.{IsAllowedEffect, after_effect}
-use Rattle.event_log.specs.Messages.{Message}
-use Rattle.event_log.specs.Runs.{Receives, Sends, group_of}
-use Rattle.layer_traits.specs.declared.locked.Side.{Side}
-use Rattle.layer_traits.specs.declared.locked.Side.TheVariants.{Receivers, Senders}
-use Rattle.layer_traits.specs.BufferBlocks.{BufferState, effect_kind, first_item, is_first, is_next, items_put, line_of, may_go}
-use Rattle.layer_traits.specs.BufferBlocks.{other_items, drawn_of, put_in, taken_out}
+use Rattle.event_log.specs.{declared.ids.Tid.Tid, Buffers.IsAllowedEffect, Buffers.after_effect, Messages.Message, Runs.Receives, Runs.Sends, Runs.group_of}
+use Rattle.layer_traits.specs.declared.locked.Side.{Side, TheVariants.Receivers, TheVariants.Senders}
+use Rattle.layer_traits.specs.BufferBlocks.{BufferState, effect_kind, first_item, is_first, is_next, items_put, line_of, may_go, other_items, drawn_of, put_in}
+use Rattle.layer_traits.specs.BufferBlocks.{taken_out}
 use Rattle.layer_traits.proofs.ItemLemmas.{drop_one}
-use Rattle.fifo_buffer.specs.BlockSteps.{BlockStep, kind_on}
-use Rattle.fifo_buffer.specs.Stances.{same_side}
+use Rattle.fifo_buffer.specs.{BlockSteps.BlockStep, BlockSteps.kind_on, Stances.same_side}
 
 put_counts : (closed : Bool) → group_of (if closed then SendClosed else Send) ≡ Sends
 put_counts true = refl

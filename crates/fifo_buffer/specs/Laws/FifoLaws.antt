@@ -1,35 +1,21 @@
 -- The laws of the layer of buffers, from those of the conditions beneath.
-use Rattle.std.proofs.Common.{◌≡◌, ℕ, ◌<◌, Bool, true, false, List, [], ◌∷◌, length, Option, Some, None, option_map}
-use Rattle.std.proofs.Common.{slice_get, if◌then◌else◌, refl, ap, sym, ◌∙◌, arith, ◌⊎◌, inl, inr}
+use Rattle.std.proofs.Common.{◌≡◌, ℕ, ◌<◌, Bool, true, false, List, [], ◌∷◌, length, Option, Some, None, option_map, slice_get, if◌then◌else◌, refl, ap, sym}
+use Rattle.std.proofs.Common.{◌∙◌, arith, ◌⊎◌, inl, inr}
 use Rattle.std.proofs.lemmas.Option.{slice_get_within}
-use Rattle.event_log.specs.declared.ids.BufId.{BufId}
-use Rattle.event_log.specs.declared.ids.CpuId.{CpuId}
-use Rattle.event_log.specs.declared.ids.LockId.{LockId}
-use Rattle.event_log.specs.declared.ids.LockId.TheVariants.{Pending, Buffer}
-use Rattle.event_log.specs.declared.ids.Tid.{Tid}
-use Rattle.event_log.specs.History.{IsLawful, same_lock}
-use Rattle.layer_traits.specs.declared.buffer_edits.BufferEdit.{BufferEdit}
-use Rattle.layer_traits.specs.declared.buffer_edits.BufferOut.{BufferOut}
-use Rattle.layer_traits.specs.declared.moves.WaitList.{WaitList}
-use Rattle.layer_traits.specs.declared.queue_edits.QueueBlock.{QueueBlock}
-use Rattle.layer_traits.specs.declared.scheds.SchedCall.{SchedCall}
-use Rattle.layer_traits.specs.declared.scheds.SchedCall.TheVariants as sched
-use Rattle.layer_traits.specs.declared.call_states.CallState.{CallState}
-use Rattle.layer_traits.specs.BufferEffects.{MayTakeEffect, effects_in, fresh_lock, opening_locks}
-use Rattle.layer_traits.specs.BufferProtocol.{BufferLock, BufferSection, buffer_monitor_rules}
-use Rattle.layer_traits.specs.Conditions.{CvCall, cv_rules}
-use Rattle.layer_traits.specs.CvLaw.{Waiting}
-use Rattle.layer_traits.specs.IpcLaw.{WaitListsAgree}
-use Rattle.layer_traits.specs.ListsAgree.{is_at}
-use Rattle.layer_traits.specs.LockLaw.{LocksAgree, lock_kernel}
-use Rattle.layer_traits.specs.Locking.{wait_list_in, lock_after, lock_edited}
-use Rattle.layer_traits.specs.Places.{Asleep, At, count_in, one_if, wait_channel_of, where_is}
-use Rattle.layer_traits.specs.QueueBlocks.{homes_in, inner}
-use Rattle.layer_traits.specs.Queues.{QueueAllowed, buffer_sections, moves_in}
+use Rattle.event_log.specs.{declared.ids.BufId.BufId, declared.ids.CpuId.CpuId, declared.ids.LockId.LockId, declared.ids.LockId.TheVariants.Pending}
+use Rattle.event_log.specs.{declared.ids.LockId.TheVariants.Buffer, declared.ids.Tid.Tid, History.IsLawful, History.same_lock}
+use Rattle.layer_traits.specs.{declared.buffer_edits.BufferEdit.BufferEdit, declared.buffer_edits.BufferOut.BufferOut, declared.moves.WaitList.WaitList}
+use Rattle.layer_traits.specs.{declared.queue_edits.QueueBlock.QueueBlock, declared.scheds.SchedCall.SchedCall, declared.call_states.CallState.CallState}
+use Rattle.layer_traits.specs.{BufferEffects.MayTakeEffect, BufferEffects.effects_in, BufferEffects.fresh_lock, BufferEffects.opening_locks}
+use Rattle.layer_traits.specs.{BufferProtocol.BufferLock, BufferProtocol.BufferSection, BufferProtocol.buffer_monitor_rules, Conditions.CvCall}
+use Rattle.layer_traits.specs.{Conditions.cv_rules, CvLaw.Waiting, IpcLaw.WaitListsAgree, ListsAgree.is_at, LockLaw.LocksAgree, LockLaw.lock_kernel}
+use Rattle.layer_traits.specs.{Locking.wait_list_in, Locking.lock_after, Locking.lock_edited, Places.Asleep, Places.At, Places.count_in, Places.one_if}
+use Rattle.layer_traits.specs.{Places.wait_channel_of, Places.where_is, QueueBlocks.homes_in, QueueBlocks.inner, Queues.QueueAllowed, Queues.buffer_sections}
+use Rattle.layer_traits.specs.{Queues.moves_in}
 use Rattle.layer_traits.proofs.ListsLemmas.{wait_channel_here}
-use Rattle.fifo_buffer.specs.FifoFits.{BootsSo, PartFits, caps_in}
-use Rattle.fifo_buffer.specs.Laws.Tallies.{effects_lawful}
-use Rattle.fifo_buffer.specs.SectionPolls.{BufferEvent, under_way_at}
+use Rattle.fifo_buffer.specs.{FifoFits.BootsSo, FifoFits.PartFits, FifoFits.caps_in, Laws.Tallies.effects_lawful, SectionPolls.BufferEvent}
+use Rattle.fifo_buffer.specs.{SectionPolls.under_way_at}
+use Rattle.layer_traits.specs.declared.scheds.SchedCall.TheVariants as sched
 
 -- each effect may come after those before it
 pub fifo_lawful : (opening : LockId → Option (QueueBlock BufferLock)) (past : List BufferEvent) → BootsSo opening

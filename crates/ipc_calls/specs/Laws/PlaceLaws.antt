@@ -1,31 +1,21 @@
 -- What a part tells of where a thread stands is so, and of each thread some part can tell it.
-use Rattle.std.specs.Prelude.{◌≡◌, ◌≢◌, ℕ, ◌<◌, Bool, true, false, ◌||◌, ◌&&◌, List, Option, Some}
-use Rattle.std.specs.Prelude.{None, length, option_map, option_and_then, if◌then◌else◌, refl}
+use Rattle.std.specs.Prelude.{◌≡◌, ◌≢◌, ℕ, ◌<◌, Bool, true, false, ◌||◌, ◌&&◌, List, Option, Some, None, length, option_map, option_and_then, if◌then◌else◌}
+use Rattle.std.specs.Prelude.{refl}
 use Rattle.std.specs.Option.{option_or}
-use Rattle.std.proofs.lemmas.Option.{same_Some, slice_get-get_or}
-use Rattle.std.proofs.lemmas.Bool.{or_parts}
+use Rattle.std.proofs.lemmas.{Option.same_Some, Option.slice_get-get_or, Bool.or_parts}
 use Rattle.std.proofs.Common.{inl, inr, ap, subst, sym, ◌∙◌, arith}
-use Rattle.event_log.specs.declared.ids.BufId.{BufId}
-use Rattle.event_log.specs.declared.ids.CpuId.{CpuId}
-use Rattle.event_log.specs.declared.ids.LockId.{LockId}
-use Rattle.event_log.specs.declared.ids.LockId.TheVariants.{Buffer}
-use Rattle.event_log.specs.declared.ids.Tid.{Tid}
-use Rattle.event_log.specs.History.{same_cpu}
+use Rattle.event_log.specs.{declared.ids.BufId.BufId, declared.ids.CpuId.CpuId, declared.ids.LockId.LockId, declared.ids.LockId.TheVariants.Buffer}
+use Rattle.event_log.specs.{declared.ids.Tid.Tid, History.same_cpu}
 use Rattle.event_log.proofs.Same.{same_cpu_self}
-use Rattle.layer_traits.specs.declared.moves.WaitList.{WaitList}
-use Rattle.layer_traits.specs.declared.moves.WaitList.TheVariants.{Sleepers, Receivers, Senders}
-use Rattle.layer_traits.specs.IpcLaw.{WaitListsAgree}
-use Rattle.layer_traits.specs.ListsAgree.{is_at}
-use Rattle.layer_traits.specs.Owned.{IsHeld, wait_list_among}
-use Rattle.layer_traits.specs.Places.{AreMoves, Asleep, At, Hand, Home, Pend, WaitChannel, Step, Where, count_in, home_of}
-use Rattle.layer_traits.specs.Places.{is_hand, is_here, is_home, is_pend, is_thread, one_if, pending_by, wait_channel_of, where_is}
-use Rattle.layer_traits.specs.Observed.{IsObservedAs, ReadsPlace, queue_place}
-use Rattle.layer_traits.proofs.CountLemmas.{in_counted, is_cpu_of}
-use Rattle.layer_traits.proofs.ListsLemmas.{at_wait_channel, count_none, counted_in, wait_channel_here}
-use Rattle.layer_traits.proofs.PlaceLemmas.{pend_count, pend_home, pend_where}
+use Rattle.layer_traits.specs.{declared.moves.WaitList.WaitList, declared.moves.WaitList.TheVariants.Sleepers, declared.moves.WaitList.TheVariants.Receivers}
+use Rattle.layer_traits.specs.{declared.moves.WaitList.TheVariants.Senders, IpcLaw.WaitListsAgree, ListsAgree.is_at, Owned.IsHeld, Owned.wait_list_among}
+use Rattle.layer_traits.specs.{Places.AreMoves, Places.Asleep, Places.At, Places.Hand, Places.Home, Places.Pend, Places.WaitChannel, Places.Step, Places.Where}
+use Rattle.layer_traits.specs.{Places.count_in, Places.home_of, Places.is_hand, Places.is_here, Places.is_home, Places.is_pend, Places.is_thread, Places.one_if}
+use Rattle.layer_traits.specs.{Places.pending_by, Places.wait_channel_of, Places.where_is, Observed.IsObservedAs, Observed.ReadsPlace, Observed.queue_place}
+use Rattle.layer_traits.proofs.{CountLemmas.in_counted, CountLemmas.is_cpu_of, ListsLemmas.at_wait_channel, ListsLemmas.count_none, ListsLemmas.counted_in}
+use Rattle.layer_traits.proofs.{ListsLemmas.wait_channel_here, PlaceLemmas.pend_count, PlaceLemmas.pend_home, PlaceLemmas.pend_where}
 use Rattle.thread_blocks.specs.Queues.{is_in}
-use Rattle.ipc_calls.specs.Parts.{IsSilentOf, asleep_at, wait_list_read, pends_read, said}
-use Rattle.ipc_calls.specs.PlaceLaws.{Watched}
+use Rattle.ipc_calls.specs.{Parts.IsSilentOf, Parts.asleep_at, Parts.wait_list_read, Parts.pends_read, Parts.said, PlaceLaws.Watched}
 
 -- who is said to stand in a queue that was told stands in one
 said_in : {P : Type 0} (t : Tid) (queue : Option (List Tid)) → said (option_map (is_in t) queue) ≡ true

@@ -1,24 +1,15 @@
 -- The log of grant words as which a words log is told is legal, and has the same phases, actions and sections.
 use Rattle.std.proofs.Common.{◌≡◌, ℕ, ◌+◌, ◌%◌, ◌^◌, List, [], ◌∷◌, ◌==◌, if◌then◌else◌, refl, ap, sym, subst, ◌∙◌, Option, Some, None, MatchOption}
-use Rattle.event_log.specs.declared.ids.CpuId.{CpuId}
-use Rattle.event_log.specs.declared.ids.LockId.{LockId}
-use Rattle.event_log.specs.declared.ids.TheConstants.{CPUS}
-use Rattle.event_log.specs.declared.events.Event.{Event}
-use Rattle.event_log.specs.declared.events.Event.TheVariants.{Draw, Look, Free}
-use Rattle.event_log.specs.declared.grants.GrantEvent.TheVariants.{Peek}
-use Rattle.event_log.specs.Actions.{Take as TakeSpot, Try as TryEntry, Give as GiveOn, acts_of, takes, gives, spot_of}
-use Rattle.event_log.specs.Grants.{IsLegalGrants, acts_of_grants, grant_lock_phase, grant_word}
-use Rattle.event_log.specs.History.{IsLawful, same_cpu}
-use Rattle.event_log.specs.Sections.{Section, block_after, sections_in}
-use Rattle.event_log.specs.WordsLog.{IsLegalWords, MayFollow, Idle, Holding, Waiting, lock_phase}
-use Rattle.event_log.proofs.Foreign.{sections_acts}
-use Rattle.event_log.proofs.GrantWords.{legal_grants, takes_grants}
-use Rattle.event_log.proofs.Tickets.{legal_acts, takes_acts}
-use Rattle.layer_traits.specs.declared.edits.Mark.{Mark}
-use Rattle.layer_traits.specs.AsGrants.{GrantsAgree, as_grants}
-use Rattle.layer_traits.specs.GrantProtocol.{GrantMayCome, SomeoneHasIt, grant_sections}
-use Rattle.layer_traits.specs.OneLock.{SomeoneInside}
-use Rattle.layer_traits.specs.WordsProtocol.{MayCome, KeepsProtocol, edit_of, sections, words_legal}
+use Rattle.event_log.specs.{declared.ids.CpuId.CpuId, declared.ids.LockId.LockId, declared.ids.TheConstants.CPUS, declared.grants.GrantEvent.TheVariants.Peek}
+use Rattle.event_log.specs.{Actions.Take as TakeSpot, Actions.Try as TryEntry, Actions.Give as GiveOn, Actions.acts_of, Actions.takes, Actions.gives}
+use Rattle.event_log.specs.{Actions.spot_of, Grants.IsLegalGrants, Grants.acts_of_grants, Grants.grant_lock_phase, Grants.grant_word, History.IsLawful}
+use Rattle.event_log.specs.{History.same_cpu, Sections.Section, Sections.block_after, Sections.sections_in, WordsLog.IsLegalWords, WordsLog.MayFollow}
+use Rattle.event_log.specs.{WordsLog.Idle, WordsLog.Holding, WordsLog.Waiting, WordsLog.lock_phase}
+use Rattle.event_log.specs.declared.events.Event.{Event, TheVariants.Draw, TheVariants.Look, TheVariants.Free}
+use Rattle.event_log.proofs.{Foreign.sections_acts, GrantWords.legal_grants, GrantWords.takes_grants, Tickets.legal_acts, Tickets.takes_acts}
+use Rattle.layer_traits.specs.{declared.edits.Mark.Mark, AsGrants.GrantsAgree, AsGrants.as_grants, GrantProtocol.GrantMayCome, GrantProtocol.SomeoneHasIt}
+use Rattle.layer_traits.specs.{GrantProtocol.grant_sections, OneLock.SomeoneInside, WordsProtocol.MayCome, WordsProtocol.KeepsProtocol, WordsProtocol.edit_of}
+use Rattle.layer_traits.specs.{WordsProtocol.sections, WordsProtocol.words_legal}
 
 module _ {M : Type 0} where
   abbrev same : M → M

@@ -1,17 +1,10 @@
 -- A machine in which nothing was done has the blocks of its capacities and homes.
 use Rattle.std.specs.Prelude.{◌≡◌, ◌⊎◌, ℕ, List, [], Option, Some, None, IsSome, option_map, slice_get, refl}
 use Rattle.std.proofs.Common.{inl, inr, ap, subst, sym, ◌∙◌}
-use Rattle.event_log.specs.declared.ids.BufId.{BufId}
-use Rattle.event_log.specs.declared.ids.CpuId.{CpuId}
-use Rattle.event_log.specs.declared.ids.LockId.{LockId}
-use Rattle.event_log.specs.declared.ids.LockId.TheVariants.{Pending, Buffer}
-use Rattle.event_log.specs.declared.ids.Tid.{Tid}
-use Rattle.layer_traits.specs.declared.queue_edits.QueueBlock.{QueueBlock}
-use Rattle.layer_traits.specs.declared.queue_edits.QueueBlock.TheVariants.{Queue, Above}
-use Rattle.layer_traits.specs.BufferEffects.{fresh_lock, opening_locks}
-use Rattle.layer_traits.specs.BufferProtocol.{BufferLock}
-use Rattle.layer_traits.specs.IpcLaw.{OpensSo}
-use Rattle.layer_traits.specs.QueueBlocks.{StartsAs, StartsWell, above_of, homes_in, inner}
+use Rattle.event_log.specs.declared.ids.{BufId.BufId, CpuId.CpuId, LockId.LockId, LockId.TheVariants.Pending, LockId.TheVariants.Buffer, Tid.Tid}
+use Rattle.layer_traits.specs.declared.queue_edits.QueueBlock.{QueueBlock, TheVariants.Queue, TheVariants.Above}
+use Rattle.layer_traits.specs.{BufferEffects.fresh_lock, BufferEffects.opening_locks, BufferProtocol.BufferLock, IpcLaw.OpensSo, QueueBlocks.StartsAs}
+use Rattle.layer_traits.specs.{QueueBlocks.StartsWell, QueueBlocks.above_of, QueueBlocks.homes_in, QueueBlocks.inner}
 
 module _ {B : Type 0} where
   -- a buffer's lock opens with the block that the layer above is shown

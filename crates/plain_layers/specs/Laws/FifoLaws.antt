@@ -2,26 +2,15 @@
 use Rattle.std.specs.Prelude.{◌≡◌, ◌⊎◌, ℕ, ◌<◌, Bool, true, false, List, [], ◌∷◌, length, Option, Some, None, option_map, slice_get, if◌then◌else◌, refl}
 use Rattle.std.proofs.Common.{ap, sym, ◌∙◌, arith, inl, inr}
 use Rattle.std.proofs.lemmas.Option.{slice_get_within}
-use Rattle.event_log.specs.declared.ids.BufId.{BufId}
-use Rattle.event_log.specs.declared.ids.LockId.{LockId}
-use Rattle.event_log.specs.declared.ids.LockId.TheVariants.{Pending, Buffer}
-use Rattle.event_log.specs.declared.ids.Tid.{Tid}
-use Rattle.event_log.specs.History.{same_lock}
-use Rattle.event_log.specs.Sections.{Section}
-use Rattle.layer_traits.specs.declared.moves.WaitList.{WaitList}
-use Rattle.layer_traits.specs.declared.queue_edits.QueueBlock.{QueueBlock}
-use Rattle.layer_traits.specs.declared.queues.QueueEvent.{QueueEvent}
-use Rattle.layer_traits.specs.IpcLaw.{WaitListsAgree}
-use Rattle.layer_traits.specs.ListsAgree.{ListsAgree, is_at}
-use Rattle.layer_traits.specs.Places.{Asleep, At, count_in, one_if, wait_channel_of, where_is}
-use Rattle.layer_traits.specs.QueueBlocks.{homes_in, inner}
-use Rattle.layer_traits.specs.Queues.{buffer_sections, moves_in}
-use Rattle.layer_traits.specs.Sleeping.{wait_list_at, sleep_edited}
-use Rattle.layer_traits.specs.SleepLaw.{sleep_kernel}
+use Rattle.event_log.specs.{declared.ids.BufId.BufId, declared.ids.LockId.LockId, declared.ids.LockId.TheVariants.Pending}
+use Rattle.event_log.specs.{declared.ids.LockId.TheVariants.Buffer, declared.ids.Tid.Tid, History.same_lock, Sections.Section}
+use Rattle.layer_traits.specs.{declared.moves.WaitList.WaitList, declared.queue_edits.QueueBlock.QueueBlock, declared.queues.QueueEvent.QueueEvent}
+use Rattle.layer_traits.specs.{IpcLaw.WaitListsAgree, ListsAgree.ListsAgree, ListsAgree.is_at, Places.Asleep, Places.At, Places.count_in, Places.one_if}
+use Rattle.layer_traits.specs.{Places.wait_channel_of, Places.where_is, QueueBlocks.homes_in, QueueBlocks.inner, Queues.buffer_sections, Queues.moves_in}
+use Rattle.layer_traits.specs.{Sleeping.wait_list_at, Sleeping.sleep_edited, SleepLaw.sleep_kernel}
 use Rattle.layer_traits.proofs.ListsLemmas.{wait_channel_here}
-use Rattle.plain_layers.specs.declared.attempts.Attempt.{Attempt}
-use Rattle.plain_layers.specs.Attempts.{attempts}
-use Rattle.plain_layers.specs.Fifos.{PlainLocked, caps_in, fresh_buffer, fresh_buffers, wait_lists_in, locked_after}
+use Rattle.plain_layers.specs.{declared.attempts.Attempt.Attempt, Attempts.attempts, Fifos.PlainLocked, Fifos.caps_in, Fifos.fresh_buffer, Fifos.fresh_buffers}
+use Rattle.plain_layers.specs.{Fifos.wait_lists_in, Fifos.locked_after}
 
 -- a lock that is there after some sections was there at the start
 none_after : (s : Section Attempt) (x : Option PlainLocked) (b : Bool) → x ≡ None → (if b then option_map (sleep_edited attempts s.edit) x else x) ≡ None

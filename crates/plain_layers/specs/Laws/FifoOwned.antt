@@ -3,37 +3,17 @@ use Rattle.std.specs.Prelude.{◌≡◌, ◌<◌, List, [], ◌∷◌, ◌++◌,
 use Rattle.std.proofs.Common.{ap, sym, ◌∙◌, subst}
 use Rattle.std.proofs.lemmas.Option.{same_Some, slice_get-get_or}
 use Rattle.std.specs.List.{AllByRecursion}
-use Rattle.event_log.specs.declared.entries.Entry.{Entry}
-use Rattle.event_log.specs.declared.ids.BufId.{BufId}
-use Rattle.event_log.specs.declared.ids.CpuId.{CpuId}
-use Rattle.event_log.specs.declared.ids.LockId.{LockId}
-use Rattle.event_log.specs.declared.ids.LockId.TheVariants.{Buffer}
-use Rattle.event_log.specs.declared.ids.Tid.{Tid}
-use Rattle.event_log.specs.declared.ids.TheConstants.{CPUS}
-use Rattle.event_log.specs.Buffers.{items_of}
-use Rattle.event_log.specs.History.{IsLawful}
-use Rattle.event_log.specs.Runs.{is_closed}
-use Rattle.event_log.specs.Sections.{Section}
-use Rattle.layer_traits.specs.declared.calls.Effect.{Effect}
-use Rattle.layer_traits.specs.declared.moves.WaitList.{WaitList}
-use Rattle.layer_traits.specs.declared.queue_edits.QueueBlock.{QueueBlock}
-use Rattle.layer_traits.specs.declared.queues.QueueCall.{QueueCall}
-use Rattle.layer_traits.specs.declared.queues.QueueCall.TheVariants.{Push, TakeAll, OnBuffer}
-use Rattle.layer_traits.specs.declared.queues.QueueEvent.{QueueEvent}
-use Rattle.layer_traits.specs.BufferEffects.{contents_of}
-use Rattle.layer_traits.specs.BufferLaw.{entry_of}
-use Rattle.layer_traits.specs.Owned.{IsObserved}
-use Rattle.layer_traits.specs.QueueBlocks.{above_of, inner}
-use Rattle.layer_traits.specs.Queues.{IsKnownEvent, buffer_sections, with_section}
-use Rattle.layer_traits.specs.Sleeping.{wait_list_at, sleep_edited}
-use Rattle.layer_traits.specs.Observed.{IsObservedAs}
-use Rattle.layer_traits.proofs.Alone.{block_there}
-use Rattle.layer_traits.proofs.OwnedLemmas.{shown_under, observed_as, viewed_shown}
-use Rattle.plain_layers.specs.declared.attempts.Attempt.{Attempt}
-use Rattle.plain_layers.specs.Attempts.{attempts}
-use Rattle.plain_layers.specs.FifoOwned.{closed_of, items_in, nobody, nothing_read, wait_lists_of}
-use Rattle.plain_layers.specs.Fifos.{PlainLocked, caps_in, effect_by, entries_in, fresh_buffer, fresh_buffers, wait_lists_in, locked_after}
-use Rattle.plain_layers.specs.Laws.FifoTallies.{plain_tally}
+use Rattle.event_log.specs.{declared.entries.Entry.Entry, Buffers.items_of, History.IsLawful, Runs.is_closed, Sections.Section}
+use Rattle.event_log.specs.declared.ids.{BufId.BufId, CpuId.CpuId, LockId.LockId, LockId.TheVariants.Buffer, Tid.Tid, TheConstants.CPUS}
+use Rattle.layer_traits.specs.{declared.calls.Effect.Effect, declared.moves.WaitList.WaitList, declared.queue_edits.QueueBlock.QueueBlock}
+use Rattle.layer_traits.specs.{declared.queues.QueueCall.QueueCall, declared.queues.QueueCall.TheVariants.Push, declared.queues.QueueCall.TheVariants.TakeAll}
+use Rattle.layer_traits.specs.{declared.queues.QueueCall.TheVariants.OnBuffer, declared.queues.QueueEvent.QueueEvent, BufferEffects.contents_of}
+use Rattle.layer_traits.specs.{BufferLaw.entry_of, Owned.IsObserved, QueueBlocks.above_of, QueueBlocks.inner, Queues.IsKnownEvent, Queues.buffer_sections}
+use Rattle.layer_traits.specs.{Queues.with_section, Sleeping.wait_list_at, Sleeping.sleep_edited, Observed.IsObservedAs}
+use Rattle.layer_traits.proofs.{Alone.block_there, OwnedLemmas.shown_under, OwnedLemmas.observed_as, OwnedLemmas.viewed_shown}
+use Rattle.plain_layers.specs.{declared.attempts.Attempt.Attempt, Attempts.attempts, FifoOwned.closed_of, FifoOwned.items_in, FifoOwned.nobody}
+use Rattle.plain_layers.specs.{FifoOwned.nothing_read, FifoOwned.wait_lists_of, Fifos.PlainLocked, Fifos.caps_in, Fifos.effect_by, Fifos.entries_in}
+use Rattle.plain_layers.specs.{Fifos.fresh_buffer, Fifos.fresh_buffers, Fifos.wait_lists_in, Fifos.locked_after, Laws.FifoTallies.plain_tally}
 
 -- a block that is seen is there
 pub there_viewed : {A B : Type 0} (view : A → B) (o : Option A) → IsSome (option_map view o) → IsSome o

@@ -1,27 +1,13 @@
 -- What a machine of lists tells: all is at home, and no part ever has anything in its hands.
 use Rattle.std.specs.Prelude.{◌≡◌, List, Option, Some, None, IsSome, option_map, slice_get}
 use Rattle.std.proofs.Common.{refl, sym, ◌∙◌, subst}
-use Rattle.event_log.specs.declared.ids.BufId.{BufId}
-use Rattle.event_log.specs.declared.ids.CpuId.{CpuId}
-use Rattle.event_log.specs.declared.ids.LockId.{LockId}
-use Rattle.event_log.specs.declared.ids.LockId.TheVariants.{Pending, Buffer}
-use Rattle.event_log.specs.declared.ids.Tid.{Tid}
-use Rattle.event_log.specs.Sections.{Section, block_after}
-use Rattle.layer_traits.specs.declared.queue_edits.QueueBlock.{QueueBlock}
-use Rattle.layer_traits.specs.declared.queue_edits.QueueBlock.TheVariants.{Queue, Above}
-use Rattle.layer_traits.specs.declared.queues.QueueEvent.{QueueEvent}
-use Rattle.layer_traits.specs.MoveRules.{MoveRules}
-use Rattle.layer_traits.specs.OneLock.{opened}
-use Rattle.layer_traits.specs.Owned.{IsObserved}
-use Rattle.layer_traits.specs.Places.{pending_by}
-use Rattle.layer_traits.specs.Protocol.{Rules}
-use Rattle.layer_traits.specs.QueueBlocks.{above_of, inner}
-use Rattle.layer_traits.specs.Queues.{buffer_sections, kernel, moves_in}
+use Rattle.event_log.specs.{declared.ids.BufId.BufId, declared.ids.CpuId.CpuId, declared.ids.LockId.LockId, declared.ids.LockId.TheVariants.Pending}
+use Rattle.event_log.specs.{declared.ids.LockId.TheVariants.Buffer, declared.ids.Tid.Tid, Sections.Section, Sections.block_after}
+use Rattle.layer_traits.specs.declared.queue_edits.QueueBlock.{QueueBlock, TheVariants.Queue, TheVariants.Above}
+use Rattle.layer_traits.specs.{declared.queues.QueueEvent.QueueEvent, MoveRules.MoveRules, OneLock.opened, Owned.IsObserved, Places.pending_by, Protocol.Rules}
+use Rattle.layer_traits.specs.{QueueBlocks.above_of, QueueBlocks.inner, Queues.buffer_sections, Queues.kernel, Queues.moves_in}
 use Rattle.layer_traits.proofs.Alone.{block_there}
-use Rattle.plain_layers.specs.declared.kernel.Lists.{Lists}
-use Rattle.plain_layers.specs.declared.kernel.Opening.{Opening}
-use Rattle.plain_layers.specs.Kernels.{IsKernel, opening_of}
-use Rattle.plain_layers.specs.Tables.{IsTable}
+use Rattle.plain_layers.specs.{declared.kernel.Lists.Lists, declared.kernel.Opening.Opening, Kernels.IsKernel, Kernels.opening_of, Tables.IsTable}
 
 -- what is there and at home is shown
 shown_at_home : {P A : Type 0} (Fits : P → Type 0) (cpu_of : P → CpuId) (IsInside : CpuId → Type 0) (home truth : Option A) → home ≡ truth → IsSome truth

@@ -1,15 +1,9 @@
 -- What the table has at home is what the sections leave, and what it has not some CPU has in its hands.
 use Rattle.std.specs.Prelude.{◌≡◌, ℕ, List, Option, Some, None, MatchOption}
 use Rattle.std.proofs.Common.{sym, subst}
-use Rattle.event_log.specs.declared.events.Event.{Event}
-use Rattle.event_log.specs.declared.ids.LockId.{LockId}
-use Rattle.event_log.specs.Sections.{block_after}
-use Rattle.layer_traits.specs.declared.edits.Mark.{Mark}
-use Rattle.layer_traits.specs.OneLock.{NobodyInside, SomeoneInside}
-use Rattle.layer_traits.specs.WordsProtocol.{sections}
-use Rattle.plain_machine.specs.declared.cells.Cell.{Cell}
-use Rattle.plain_machine.specs.Machine.{HasCell}
-use Rattle.plain_machine.specs.Table.{home_at, home_in}
+use Rattle.event_log.specs.{declared.events.Event.Event, declared.ids.LockId.LockId, Sections.block_after}
+use Rattle.layer_traits.specs.{declared.edits.Mark.Mark, OneLock.NobodyInside, OneLock.SomeoneInside, WordsProtocol.sections}
+use Rattle.plain_machine.specs.{declared.cells.Cell.Cell, Machine.HasCell, Table.home_at, Table.home_in}
 
 pub home_reads : {E B K : Type 0} (Fit : ℕ → ℕ → K → Type 0) (edited : E → B → B) (opening : LockId → Option B) (log : List (Event (Mark E)))
     (cells : List (Option (Cell K B))) (lock : LockId)

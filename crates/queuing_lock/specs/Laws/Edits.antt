@@ -1,20 +1,17 @@
 -- What a section beneath does to a block is what the call does to the lock that the block is.
 use Rattle.std.proofs.Common.{◌≡◌, false, List, Option, Some, None, refl}
 use Rattle.event_log.specs.declared.ids.Tid.{Tid}
-use Rattle.layer_traits.specs.declared.locked.QEdit.{QEdit}
-use Rattle.layer_traits.specs.declared.locked.QEdit.TheVariants.{Acquire, Inside, Release}
-use Rattle.layer_traits.specs.declared.locked.QOut.TheVariants.{Did}
-use Rattle.layer_traits.specs.declared.locked.Side.{Side}
-use Rattle.layer_traits.specs.declared.locked.Side.TheVariants as side
-use Rattle.layer_traits.specs.declared.locked.WakeWaiter.{WakeWaiter}
-use Rattle.layer_traits.specs.declared.locked.WakeWaiter.TheVariants as signal
-use Rattle.layer_traits.specs.declared.moves.WaitList.TheVariants.{Sleepers, Receivers, Senders}
-use Rattle.layer_traits.specs.Locking.{LockRules, wait_list_for, lock_answer, lock_edited, signalled, waiting_with, waiting_without}
-use Rattle.layer_traits.specs.Sleeping.{SleepState, left, wait_list_joined, sleep_answer, sleep_edited, woken}
-use Rattle.queuing_lock.specs.declared.edits.QBlock.{QBlock}
-use Rattle.queuing_lock.specs.declared.edits.QLockEdit.{QLockEdit}
-use Rattle.queuing_lock.specs.Nested.{busy_rules, edit_in, leaving, nested_lock_of}
+use Rattle.layer_traits.specs.declared.locked.{QEdit.QEdit, QEdit.TheVariants.Acquire, QEdit.TheVariants.Inside, QEdit.TheVariants.Release}
+use Rattle.layer_traits.specs.declared.locked.{QOut.TheVariants.Did, Side.Side, WakeWaiter.WakeWaiter}
+use Rattle.layer_traits.specs.{declared.moves.WaitList.TheVariants.Sleepers, declared.moves.WaitList.TheVariants.Receivers}
+use Rattle.layer_traits.specs.{declared.moves.WaitList.TheVariants.Senders, Locking.LockRules, Locking.wait_list_for, Locking.lock_answer, Locking.lock_edited}
+use Rattle.layer_traits.specs.{Locking.signalled, Locking.waiting_with, Locking.waiting_without, Sleeping.SleepState, Sleeping.left, Sleeping.wait_list_joined}
+use Rattle.layer_traits.specs.{Sleeping.sleep_answer, Sleeping.sleep_edited, Sleeping.woken}
+use Rattle.queuing_lock.specs.{declared.edits.QBlock.QBlock, declared.edits.QLockEdit.QLockEdit, Nested.busy_rules, Nested.edit_in, Nested.leaving}
+use Rattle.queuing_lock.specs.{Nested.nested_lock_of}
 use Rattle.thread_blocks.specs.Queues.{first, rest}
+use Rattle.layer_traits.specs.declared.locked.Side.TheVariants as side
+use Rattle.layer_traits.specs.declared.locked.WakeWaiter.TheVariants as signal
 
 -- Who leaves at a signal, and who joins that waits.
 

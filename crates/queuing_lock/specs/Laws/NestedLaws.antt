@@ -1,36 +1,21 @@
 -- The laws of the layer, by those of the layer beneath: the same history, threads and waiting lists under the layer's own names.
 use Rattle.std.proofs.Common.{◌≡◌, Bool, List, [], ◌∷◌, Option, Some, None, option_map, map, refl, ap, sym, ◌∙◌, subst}
 use Rattle.std.proofs.Math.Path.{transport}
-use Rattle.event_log.specs.declared.ids.CpuId.{CpuId}
-use Rattle.event_log.specs.declared.ids.LockId.{LockId}
-use Rattle.event_log.specs.History.{IsLawful}
-use Rattle.event_log.specs.Actions.{Action, phase, renamed}
-use Rattle.event_log.specs.Sections.{Section, block_after, renamed_section}
+use Rattle.event_log.specs.{declared.ids.CpuId.CpuId, declared.ids.LockId.LockId, History.IsLawful, Actions.Action, Actions.phase, Actions.renamed}
+use Rattle.event_log.specs.{Sections.Section, Sections.block_after, Sections.renamed_section}
 use Rattle.event_log.proofs.Renaming.{phase_renamed}
-use Rattle.layer_traits.specs.declared.locked.QEdit.{QEdit}
-use Rattle.layer_traits.specs.declared.locked.QOut.{QOut}
-use Rattle.layer_traits.specs.declared.moves.WaitList.{WaitList}
-use Rattle.layer_traits.specs.declared.moves.WaitList.TheVariants.{Sleepers, Receivers, Senders}
-use Rattle.layer_traits.specs.declared.queue_edits.QueueBlock.{QueueBlock}
-use Rattle.layer_traits.specs.declared.queue_edits.QueueEdit.{QueueEdit}
-use Rattle.layer_traits.specs.declared.queues.QueueEvent.{QueueEvent}
-use Rattle.layer_traits.specs.declared.scheds.SchedCall.{SchedCall}
-use Rattle.layer_traits.specs.declared.sleeps.Outcome.{Outcome}
-use Rattle.layer_traits.specs.ListsAgree.{ListsAgree, is_at}
-use Rattle.layer_traits.specs.Locking.{LockAllowed, LockRules, LockState, wait_list_in, lock_after}
-use Rattle.layer_traits.specs.LockLaw.{LocksAgree, lock_kernel}
-use Rattle.layer_traits.specs.Places.{AreMoves, Stands, Threads, count_in, one_if, wait_channel_of, where_is}
-use Rattle.layer_traits.specs.Plans.{is_in_section}
-use Rattle.layer_traits.specs.QueueBlocks.{homes_in, inner}
-use Rattle.layer_traits.specs.Queues.{Kernel, QueueAllowed, buffer_sections, moves_in}
-use Rattle.layer_traits.specs.Renaming.{renamed_edit, renamed_events, renamed_sched, viewed}
-use Rattle.layer_traits.specs.SleepLaw.{sleep_kernel}
-use Rattle.layer_traits.specs.Sleeping.{SleepState, wait_list_at, sleep_edited}
+use Rattle.layer_traits.specs.{declared.locked.QEdit.QEdit, declared.locked.QOut.QOut, declared.queue_edits.QueueBlock.QueueBlock}
+use Rattle.layer_traits.specs.{declared.queue_edits.QueueEdit.QueueEdit, declared.queues.QueueEvent.QueueEvent, declared.scheds.SchedCall.SchedCall}
+use Rattle.layer_traits.specs.{declared.sleeps.Outcome.Outcome, ListsAgree.ListsAgree, ListsAgree.is_at, Locking.LockAllowed, Locking.LockRules}
+use Rattle.layer_traits.specs.{Locking.LockState, Locking.wait_list_in, Locking.lock_after, LockLaw.LocksAgree, LockLaw.lock_kernel, Places.AreMoves}
+use Rattle.layer_traits.specs.{Places.Stands, Places.Threads, Places.count_in, Places.one_if, Places.wait_channel_of, Places.where_is, Plans.is_in_section}
+use Rattle.layer_traits.specs.{QueueBlocks.homes_in, QueueBlocks.inner, Queues.Kernel, Queues.QueueAllowed, Queues.buffer_sections, Queues.moves_in}
+use Rattle.layer_traits.specs.{Renaming.renamed_edit, Renaming.renamed_events, Renaming.renamed_sched, Renaming.viewed, SleepLaw.sleep_kernel}
+use Rattle.layer_traits.specs.{Sleeping.SleepState, Sleeping.wait_list_at, Sleeping.sleep_edited}
+use Rattle.layer_traits.specs.declared.moves.WaitList.{WaitList, TheVariants.Sleepers, TheVariants.Receivers, TheVariants.Senders}
 use Rattle.layer_traits.proofs.KernelRenaming.{Wraps, block_renamed, homes_viewed, inner_viewed, lawful_renamed, moves_renamed, sections_renamed}
-use Rattle.queuing_lock.specs.declared.edits.QBlock.{QBlock}
-use Rattle.queuing_lock.specs.declared.edits.QLockEdit.{QLockEdit}
-use Rattle.queuing_lock.specs.Laws.Edits.{answers, edits}
-use Rattle.queuing_lock.specs.Nested.{busy_rules, edit_in, nested_lock_of, locks}
+use Rattle.queuing_lock.specs.{declared.edits.QBlock.QBlock, declared.edits.QLockEdit.QLockEdit, Laws.Edits.answers, Laws.Edits.edits, Nested.busy_rules}
+use Rattle.queuing_lock.specs.{Nested.edit_in, Nested.nested_lock_of, Nested.locks}
 
 module _ {F R B O : Type 0} (rules : LockRules F R B O) (opening : LockId → Option (QueueBlock (SleepState (QBlock B)))) where
   -- what stands beneath

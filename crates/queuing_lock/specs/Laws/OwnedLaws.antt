@@ -1,25 +1,13 @@
 -- What the layer beneath tells of its blocks, the layer tells of their locks.
 use Rattle.std.proofs.Common.{List, Option, Some, option_map, ap, sym}
-use Rattle.event_log.specs.declared.ids.BufId.{BufId}
-use Rattle.event_log.specs.declared.ids.CpuId.{CpuId}
-use Rattle.event_log.specs.declared.ids.LockId.{LockId}
-use Rattle.event_log.specs.declared.ids.LockId.TheVariants.{Buffer}
-use Rattle.event_log.specs.declared.ids.Tid.{Tid}
-use Rattle.event_log.specs.Sections.{block_after}
-use Rattle.layer_traits.specs.declared.queue_edits.QueueBlock.{QueueBlock}
-use Rattle.layer_traits.specs.declared.queues.QueueEvent.{QueueEvent}
-use Rattle.layer_traits.specs.Locking.{LockRules, lock_after}
-use Rattle.layer_traits.specs.Owned.{IsObserved}
-use Rattle.layer_traits.specs.Places.{pending_by}
-use Rattle.layer_traits.specs.QueueBlocks.{inner}
-use Rattle.layer_traits.specs.Queues.{buffer_sections, moves_in}
-use Rattle.layer_traits.specs.Renaming.{renamed_events, viewed}
-use Rattle.layer_traits.specs.Sleeping.{SleepState, sleep_edited}
+use Rattle.event_log.specs.{declared.ids.BufId.BufId, declared.ids.CpuId.CpuId, declared.ids.LockId.LockId, declared.ids.LockId.TheVariants.Buffer}
+use Rattle.event_log.specs.{declared.ids.Tid.Tid, Sections.block_after}
+use Rattle.layer_traits.specs.{declared.queue_edits.QueueBlock.QueueBlock, declared.queues.QueueEvent.QueueEvent, Locking.LockRules, Locking.lock_after}
+use Rattle.layer_traits.specs.{Owned.IsObserved, Places.pending_by, QueueBlocks.inner, Queues.buffer_sections, Queues.moves_in, Renaming.renamed_events}
+use Rattle.layer_traits.specs.{Renaming.viewed, Sleeping.SleepState, Sleeping.sleep_edited}
 use Rattle.layer_traits.proofs.OwnedLemmas.{PartsOn, same_shown, shown_on, viewed_shown}
-use Rattle.queuing_lock.specs.declared.edits.QBlock.{QBlock}
-use Rattle.queuing_lock.specs.declared.edits.QLockEdit.{QLockEdit}
-use Rattle.queuing_lock.specs.Laws.NestedLaws.{beneath, here, lock_is, same_moves}
-use Rattle.queuing_lock.specs.Nested.{busy_rules, edit_in, nested_lock_of}
+use Rattle.queuing_lock.specs.{declared.edits.QBlock.QBlock, declared.edits.QLockEdit.QLockEdit, Laws.NestedLaws.beneath, Laws.NestedLaws.here}
+use Rattle.queuing_lock.specs.{Laws.NestedLaws.lock_is, Laws.NestedLaws.same_moves, Nested.busy_rules, Nested.edit_in, Nested.nested_lock_of}
 
 module _ {P Q F R B O : Type 0} (rules : LockRules F R B O) (opening : LockId → Option (QueueBlock (SleepState (QBlock B))))
     (past : List (QueueEvent (QLockEdit F R))) (parts : PartsOn P Q) where

@@ -1,29 +1,18 @@
 -- What calls of other CPUs leave as it is: whether a thread owns a lock or sleeps for it, or neither.
 use Rattle.std.proofs.Common.{◌≡◌, ◌≢◌, ◌⊎◌, inl, inr, Bool, ◌&&◌, ◌||◌, not, nat_lt, true, false, List, [], ◌∷◌, ◌++◌, Option, Some, None, option_map}
 use Rattle.std.proofs.Common.{if◌then◌else◌, refl, ap, sym, ◌∙◌, subst}
-use Rattle.event_log.specs.declared.ids.BufId.{BufId}
-use Rattle.event_log.specs.declared.ids.CpuId.{CpuId}
-use Rattle.event_log.specs.declared.ids.LockId.{LockId}
-use Rattle.event_log.specs.declared.ids.LockId.TheVariants.{Buffer}
-use Rattle.event_log.specs.declared.ids.Tid.{Tid}
-use Rattle.event_log.specs.declared.ids.TheConstants.{THREADS}
-use Rattle.event_log.specs.History.{AreOthers, IsLawful, same_cpu, same_lock}
+use Rattle.event_log.specs.{declared.ids.BufId.BufId, declared.ids.CpuId.CpuId, declared.ids.LockId.LockId, declared.ids.LockId.TheVariants.Buffer}
+use Rattle.event_log.specs.{declared.ids.Tid.Tid, declared.ids.TheConstants.THREADS, History.AreOthers, History.IsLawful, History.same_cpu, History.same_lock}
 use Rattle.event_log.proofs.Same.{same_cpu_self, same_lock_true}
-use Rattle.layer_traits.specs.declared.locked.QEdit.{QEdit}
-use Rattle.layer_traits.specs.declared.locked.QEdit.TheVariants.{Acquire, Inside, Release}
-use Rattle.layer_traits.specs.declared.queue_edits.QueueBlock.{QueueBlock}
-use Rattle.layer_traits.specs.declared.queues.QueueCall.{QueueCall}
-use Rattle.layer_traits.specs.declared.queues.QueueCall.TheVariants.{Push, TakeAll, OnBuffer}
-use Rattle.layer_traits.specs.declared.queues.QueueEvent.{QueueEvent}
-use Rattle.layer_traits.specs.Locking.{IsOwners, LockRules, LockState, lock_after, asked, lock_caller, lock_edited, owner_in}
-use Rattle.layer_traits.specs.LockLaw.{HasOrAwaits, lock_kernel}
-use Rattle.layer_traits.specs.Places.{home_of}
-use Rattle.layer_traits.specs.QueueBlocks.{homes_in, inner}
-use Rattle.layer_traits.specs.Queues.{CallAllowed, QueueAllowed, buffer_sections, cpu_of_queue_event, with_section}
+use Rattle.layer_traits.specs.{declared.locked.QEdit.QEdit, declared.locked.QEdit.TheVariants.Acquire, declared.locked.QEdit.TheVariants.Inside}
+use Rattle.layer_traits.specs.{declared.locked.QEdit.TheVariants.Release, declared.queue_edits.QueueBlock.QueueBlock, declared.queues.QueueCall.QueueCall}
+use Rattle.layer_traits.specs.{declared.queues.QueueCall.TheVariants.Push, declared.queues.QueueCall.TheVariants.TakeAll}
+use Rattle.layer_traits.specs.{declared.queues.QueueCall.TheVariants.OnBuffer, declared.queues.QueueEvent.QueueEvent, Locking.IsOwners, Locking.LockRules}
+use Rattle.layer_traits.specs.{Locking.LockState, Locking.lock_after, Locking.asked, Locking.lock_caller, Locking.lock_edited, Locking.owner_in}
+use Rattle.layer_traits.specs.{LockLaw.HasOrAwaits, LockLaw.lock_kernel, Places.home_of, QueueBlocks.homes_in, QueueBlocks.inner, Queues.CallAllowed}
+use Rattle.layer_traits.specs.{Queues.QueueAllowed, Queues.buffer_sections, Queues.cpu_of_queue_event, Queues.with_section, Sleeping.joined}
 use Rattle.thread_blocks.specs.Queues.{first, is_in, rest, same_tid}
-use Rattle.thread_blocks.proofs.Distinct.{out_of_rest, pushed_in}
-use Rattle.thread_blocks.proofs.Members.{same_tid_true}
-use Rattle.layer_traits.specs.Sleeping.{joined}
+use Rattle.thread_blocks.proofs.{Distinct.out_of_rest, Distinct.pushed_in, Members.same_tid_true}
 use Rattle.queuing_lock.specs.Steady.{HasNothing, IsOwner, IsPreserved, Keeps}
 
 module _ {F R B O : Type 0} (rules : LockRules F R B O) (opening : LockId → Option (QueueBlock (LockState B))) (kept : IsPreserved rules opening) where

@@ -1,11 +1,8 @@
 -- A scheduler's call is under way exactly where one is at the shared queues.
 use Rattle.std.specs.Prelude.{◌≡◌, Bool, List, Option, Some, None, is_some}
 use Rattle.std.proofs.Common.{refl, ap, ◌∙◌}
-use Rattle.event_log.specs.declared.ids.CpuId.{CpuId}
-use Rattle.event_log.specs.declared.ids.Tid.{Tid}
-use Rattle.event_log.specs.Actions.{Action, phase}
-use Rattle.layer_traits.specs.declared.queues.QueueEvent.{QueueEvent}
-use Rattle.layer_traits.specs.Plans.{is_in_section}
+use Rattle.event_log.specs.{declared.ids.CpuId.CpuId, declared.ids.Tid.Tid, Actions.Action, Actions.phase}
+use Rattle.layer_traits.specs.{declared.queues.QueueEvent.QueueEvent, Plans.is_in_section}
 use Rattle.scheduler.specs.Parts.{sched_under}
 
 -- a call is under way exactly where one is at the shared queues

@@ -2,21 +2,12 @@
 use Rattle.std.specs.Prelude.{◌≡◌, List, Option, Some, None, IsSome, option_map, map, refl}
 use Rattle.std.proofs.Common.{ap, sym, ◌∙◌}
 use Rattle.std.specs.Option.{option_and_then}
-use Rattle.event_log.specs.declared.ids.BufId.{BufId}
-use Rattle.event_log.specs.declared.ids.CpuId.{CpuId}
-use Rattle.event_log.specs.declared.ids.LockId.{LockId}
-use Rattle.event_log.specs.declared.ids.LockId.TheVariants.{Pending, Buffer}
-use Rattle.event_log.specs.declared.ids.Tid.{Tid}
-use Rattle.event_log.specs.Sections.{block_after}
-use Rattle.layer_traits.specs.declared.queue_edits.QueueBlock.{QueueBlock}
-use Rattle.layer_traits.specs.declared.queue_edits.QueueBlock.TheVariants.{Queue, Above}
-use Rattle.layer_traits.specs.MoveRules.{MoveRules, WakesSleepers}
-use Rattle.layer_traits.specs.Owned.{IsHeld, IsObserved}
-use Rattle.layer_traits.specs.Places.{pending_by}
-use Rattle.layer_traits.specs.Protocol.{Rules}
-use Rattle.layer_traits.specs.QueueBlocks.{StartsAs, inner, with_queue}
-use Rattle.layer_traits.specs.QueueRules.{queue_edited}
-use Rattle.layer_traits.specs.Queues.{buffer_sections, event_of, kernel, moves_in}
+use Rattle.event_log.specs.{declared.ids.BufId.BufId, declared.ids.CpuId.CpuId, declared.ids.LockId.LockId, declared.ids.LockId.TheVariants.Pending}
+use Rattle.event_log.specs.{declared.ids.LockId.TheVariants.Buffer, declared.ids.Tid.Tid, Sections.block_after}
+use Rattle.layer_traits.specs.{declared.queue_edits.QueueBlock.QueueBlock, declared.queue_edits.QueueBlock.TheVariants.Queue}
+use Rattle.layer_traits.specs.{declared.queue_edits.QueueBlock.TheVariants.Above, MoveRules.MoveRules, MoveRules.WakesSleepers, Owned.IsHeld, Owned.IsObserved}
+use Rattle.layer_traits.specs.{Places.pending_by, Protocol.Rules, QueueBlocks.StartsAs, QueueBlocks.inner, QueueBlocks.with_queue, QueueRules.queue_edited}
+use Rattle.layer_traits.specs.{Queues.buffer_sections, Queues.event_of, Queues.kernel, Queues.moves_in}
 use Rattle.layer_traits.proofs.NestedLemmas.{buffer_block, queue_block}
 use Rattle.shared_queue.specs.OwnedLaws.{Observers, above_in, queue_in}
 

@@ -1,41 +1,24 @@
 -- The laws of the layer, by those of the scheduler beneath.
 use Rattle.std.proofs.Common.{◌≡◌, Bool, true, List, [], ◌∷◌, ◌++◌, Option, Some, None, option_map, map, refl, ap, sym, ◌∙◌, subst, arith}
-use Rattle.std.proofs.Math.Path.{transport}
-use Rattle.std.proofs.lemmas.Option.{slice_get_within}
-use Rattle.event_log.specs.declared.ids.BufId.{BufId}
-use Rattle.event_log.specs.declared.ids.CpuId.{CpuId}
-use Rattle.event_log.specs.declared.ids.LockId.{LockId}
-use Rattle.event_log.specs.declared.ids.LockId.TheVariants.{Buffer}
-use Rattle.event_log.specs.declared.ids.Tid.{Tid}
-use Rattle.event_log.specs.History.{IsLawful}
-use Rattle.event_log.specs.Actions.{Action, phase, renamed}
-use Rattle.event_log.specs.Sections.{Section, block_after, renamed_section}
+use Rattle.std.proofs.{Math.Path.transport, lemmas.Option.slice_get_within}
+use Rattle.event_log.specs.declared.ids.{BufId.BufId, CpuId.CpuId, LockId.LockId, LockId.TheVariants.Buffer, Tid.Tid}
+use Rattle.event_log.specs.{History.IsLawful, Actions.Action, Actions.phase, Actions.renamed, Sections.Section, Sections.block_after, Sections.renamed_section}
 use Rattle.event_log.proofs.Renaming.{phase_renamed}
-use Rattle.layer_traits.specs.declared.queue_edits.QueueBlock.{QueueBlock}
-use Rattle.layer_traits.specs.declared.queue_edits.QueueEdit.{QueueEdit}
-use Rattle.layer_traits.specs.declared.queues.QueueEvent.{QueueEvent}
-use Rattle.layer_traits.specs.declared.scheds.SchedCall.{SchedCall}
-use Rattle.layer_traits.specs.declared.scheds.SchedCall.TheVariants as call
-use Rattle.layer_traits.specs.declared.sleeps.Outcome.{Outcome}
-use Rattle.layer_traits.specs.ListsAgree.{ListsAgree, is_at}
-use Rattle.layer_traits.specs.MoveRules.{WakesSleepers, asleep_by, edit_move, section_moves}
-use Rattle.layer_traits.specs.Places.{AreMoves, Home, Stands, count_in, Threads, home_of, is_wait_channel, one_if, wait_channel_of, step, where_is}
-use Rattle.layer_traits.specs.Plans.{is_in_section, table_of}
-use Rattle.layer_traits.specs.QueueBlocks.{StartsWell, homes_in, inner}
-use Rattle.layer_traits.specs.Queues.{Kernel, QueueAllowed, buffer_sections, kernel, moves_in}
-use Rattle.layer_traits.specs.Renaming.{renamed_edit, renamed_events, viewed}
-use Rattle.layer_traits.specs.Scheds.{EditStays}
-use Rattle.layer_traits.specs.SleepLaw.{MaySleep, sleep_kernel}
+use Rattle.layer_traits.specs.{declared.queue_edits.QueueBlock.QueueBlock, declared.queue_edits.QueueEdit.QueueEdit, declared.queues.QueueEvent.QueueEvent}
+use Rattle.layer_traits.specs.{declared.scheds.SchedCall.SchedCall, declared.sleeps.Outcome.Outcome, ListsAgree.ListsAgree, ListsAgree.is_at}
+use Rattle.layer_traits.specs.{MoveRules.WakesSleepers, MoveRules.asleep_by, MoveRules.edit_move, MoveRules.section_moves, Places.AreMoves, Places.Home}
+use Rattle.layer_traits.specs.{Places.Stands, Places.count_in, Places.Threads, Places.home_of, Places.is_wait_channel, Places.one_if, Places.wait_channel_of}
+use Rattle.layer_traits.specs.{Places.step, Places.where_is, Plans.is_in_section, Plans.table_of, QueueBlocks.StartsWell, QueueBlocks.homes_in}
+use Rattle.layer_traits.specs.{QueueBlocks.inner, Queues.Kernel, Queues.QueueAllowed, Queues.buffer_sections, Queues.kernel, Queues.moves_in}
+use Rattle.layer_traits.specs.{Renaming.renamed_edit, Renaming.renamed_events, Renaming.viewed, Scheds.EditStays, SleepLaw.MaySleep, SleepLaw.sleep_kernel}
 use Rattle.layer_traits.specs.Sleeping.{IsAwake, NobodySleeps, SleepRules, SleepState, wait_list_at, sleep_answer, sleep_edited, sleep_moves, sleep_rules}
-use Rattle.layer_traits.proofs.CallLemmas.{asleep_wait_channel, moves_append, moves_lawful, moves_others, moves_over, sections_asleep, upper_lawful}
+use Rattle.layer_traits.proofs.{CallLemmas.asleep_wait_channel, CallLemmas.moves_append, CallLemmas.moves_lawful, CallLemmas.moves_others}
+use Rattle.layer_traits.proofs.{CallLemmas.moves_over, CallLemmas.sections_asleep, CallLemmas.upper_lawful, ListsLemmas.lists_agree, ListsLemmas.section_wakes}
+use Rattle.layer_traits.proofs.{PlaceLemmas.current_at, PlaceLemmas.stands_others, PlanRenaming.block_viewed}
 use Rattle.layer_traits.proofs.KernelRenaming.{Wraps, homes_viewed, inner_viewed, lawful_renamed, moves_renamed, sections_renamed, stays_renamed}
-use Rattle.layer_traits.proofs.ListsLemmas.{lists_agree, section_wakes}
-use Rattle.layer_traits.proofs.PlaceLemmas.{current_at, stands_others}
-use Rattle.layer_traits.proofs.PlanRenaming.{block_viewed}
-use Rattle.sleep_wakeup.specs.declared.edits.SleepBlock.{SleepBlock}
-use Rattle.sleep_wakeup.specs.declared.edits.SleepEdit.{SleepEdit}
+use Rattle.sleep_wakeup.specs.{declared.edits.SleepBlock.SleepBlock, declared.edits.SleepEdit.SleepEdit, Parts.Deferred, Parts.as_edit, Parts.under_of}
 use Rattle.sleep_wakeup.specs.Nested.{NestedAllowed, edit_in, nested_answer, nested_edited, nested_moves, nested_rules, state_of, states}
-use Rattle.sleep_wakeup.specs.Parts.{Deferred, as_edit, under_of}
+use Rattle.layer_traits.specs.declared.scheds.SchedCall.TheVariants as call
 
 -- Sections.
 

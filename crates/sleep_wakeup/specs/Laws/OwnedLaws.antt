@@ -1,25 +1,14 @@
 -- What the scheduler beneath tells of its blocks, the layer tells of their waiting lists.
 use Rattle.std.proofs.Common.{◌≡◌, List, Option, Some, option_map, ap, sym, ◌∙◌}
-use Rattle.event_log.specs.declared.ids.BufId.{BufId}
-use Rattle.event_log.specs.declared.ids.CpuId.{CpuId}
-use Rattle.event_log.specs.declared.ids.LockId.{LockId}
-use Rattle.event_log.specs.declared.ids.LockId.TheVariants.{Buffer}
-use Rattle.event_log.specs.declared.ids.Tid.{Tid}
-use Rattle.event_log.specs.Sections.{block_after}
-use Rattle.layer_traits.specs.declared.queue_edits.QueueBlock.{QueueBlock}
-use Rattle.layer_traits.specs.declared.queues.QueueEvent.{QueueEvent}
-use Rattle.layer_traits.specs.Owned.{IsObserved}
-use Rattle.layer_traits.specs.Places.{pending_by}
-use Rattle.layer_traits.specs.QueueBlocks.{inner}
-use Rattle.layer_traits.specs.Queues.{buffer_sections, moves_in}
-use Rattle.layer_traits.specs.Renaming.{renamed_events, viewed}
-use Rattle.layer_traits.specs.Sleeping.{SleepRules, sleep_edited}
-use Rattle.layer_traits.proofs.KernelRenaming.{block_renamed, sections_renamed}
-use Rattle.layer_traits.proofs.OwnedLemmas.{PartsOn, same_shown, shown_on, viewed_shown}
-use Rattle.sleep_wakeup.specs.declared.edits.SleepBlock.{SleepBlock}
-use Rattle.sleep_wakeup.specs.declared.edits.SleepEdit.{SleepEdit}
-use Rattle.sleep_wakeup.specs.Laws.NestedLaws.{beneath, here, nested_wraps, same_moves}
-use Rattle.sleep_wakeup.specs.Nested.{edit_in, nested_edited, state_of}
+use Rattle.event_log.specs.{declared.ids.BufId.BufId, declared.ids.CpuId.CpuId, declared.ids.LockId.LockId, declared.ids.LockId.TheVariants.Buffer}
+use Rattle.event_log.specs.{declared.ids.Tid.Tid, Sections.block_after}
+use Rattle.layer_traits.specs.{declared.queue_edits.QueueBlock.QueueBlock, declared.queues.QueueEvent.QueueEvent, Owned.IsObserved, Places.pending_by}
+use Rattle.layer_traits.specs.{QueueBlocks.inner, Queues.buffer_sections, Queues.moves_in, Renaming.renamed_events, Renaming.viewed, Sleeping.SleepRules}
+use Rattle.layer_traits.specs.{Sleeping.sleep_edited}
+use Rattle.layer_traits.proofs.{KernelRenaming.block_renamed, KernelRenaming.sections_renamed, OwnedLemmas.PartsOn, OwnedLemmas.same_shown}
+use Rattle.layer_traits.proofs.{OwnedLemmas.shown_on, OwnedLemmas.viewed_shown}
+use Rattle.sleep_wakeup.specs.{declared.edits.SleepBlock.SleepBlock, declared.edits.SleepEdit.SleepEdit, Laws.NestedLaws.beneath, Laws.NestedLaws.here}
+use Rattle.sleep_wakeup.specs.{Laws.NestedLaws.nested_wraps, Laws.NestedLaws.same_moves, Nested.edit_in, Nested.nested_edited, Nested.state_of}
 
 module _ {P Q E B O : Type 0} (rules : SleepRules E B O) (opening : LockId → Option (QueueBlock (SleepBlock B))) (past : List (QueueEvent (SleepEdit E)))
     (parts : PartsOn P Q) where

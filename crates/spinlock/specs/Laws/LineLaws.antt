@@ -1,24 +1,14 @@
 -- What the two logs of lock words say of the line at a lock: the phases of the CPUs, and the tickets of their spots.
 use Rattle.std.proofs.Common.{◌≡◌, ℕ, ◌%◌, ◌^◌, ◌↔◌, List, [], ◌∷◌, Option, Some, None, MatchOption, ap, sym, subst, ◌∙◌, refl}
-use Rattle.event_log.specs.declared.ids.CpuId.{CpuId}
-use Rattle.event_log.specs.declared.ids.LockId.{LockId}
-use Rattle.event_log.specs.declared.events.Event.{Event}
-use Rattle.event_log.specs.declared.grants.GrantEvent.{GrantEvent}
-use Rattle.event_log.specs.declared.grants.GrantEvent.TheVariants.{Take, Peek, Give}
-use Rattle.event_log.specs.Actions.{Rests, Waits, Holds, phase, acts_of}
-use Rattle.event_log.specs.Grants.{IsLegalGrants, acts_of_grants, grant_lock_phase}
-use Rattle.event_log.specs.History.{IsLawful}
-use Rattle.event_log.specs.Sections.{Section, block_after, sections_in}
-use Rattle.event_log.specs.WordsLog.{LockPhase, Idle, Waiting, Holding, lock_phase}
-use Rattle.event_log.proofs.GrantWords.{phase_grants}
-use Rattle.event_log.proofs.Tickets.{phase_acts}
-use Rattle.event_log.proofs.Observed.{TicketOf, phase_of}
-use Rattle.layer_traits.specs.declared.edits.Mark.{Mark}
-use Rattle.layer_traits.specs.GrantProtocol.{GrantMayCome, SomeoneHasIt, grant_sections}
-use Rattle.layer_traits.specs.OneLock.{SomeoneInside}
-use Rattle.layer_traits.specs.WordsProtocol.{MayCome, edit_of, sections}
-use Rattle.layer_traits.proofs.PlanLemmas.{sections_acts}
-use Rattle.layer_traits.proofs.Seen.{sections_allowed}
+use Rattle.event_log.specs.{declared.ids.CpuId.CpuId, declared.ids.LockId.LockId, declared.events.Event.Event, declared.grants.GrantEvent.GrantEvent}
+use Rattle.event_log.specs.{declared.grants.GrantEvent.TheVariants.Take, declared.grants.GrantEvent.TheVariants.Peek}
+use Rattle.event_log.specs.{declared.grants.GrantEvent.TheVariants.Give, Actions.Rests, Actions.Waits, Actions.Holds, Actions.phase, Actions.acts_of}
+use Rattle.event_log.specs.{Grants.IsLegalGrants, Grants.acts_of_grants, Grants.grant_lock_phase, History.IsLawful, Sections.Section, Sections.block_after}
+use Rattle.event_log.specs.{Sections.sections_in, WordsLog.LockPhase, WordsLog.Idle, WordsLog.Waiting, WordsLog.Holding, WordsLog.lock_phase}
+use Rattle.event_log.proofs.{GrantWords.phase_grants, Tickets.phase_acts, Observed.TicketOf, Observed.phase_of}
+use Rattle.layer_traits.specs.{declared.edits.Mark.Mark, GrantProtocol.GrantMayCome, GrantProtocol.SomeoneHasIt, GrantProtocol.grant_sections}
+use Rattle.layer_traits.specs.{OneLock.SomeoneInside, WordsProtocol.MayCome, WordsProtocol.edit_of, WordsProtocol.sections}
+use Rattle.layer_traits.proofs.{PlanLemmas.sections_acts, Seen.sections_allowed}
 use Rattle.spinlock.specs.OwnedLaws.{SomeoneHolds}
 
 -- who rests is outside

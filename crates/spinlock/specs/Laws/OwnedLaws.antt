@@ -1,20 +1,12 @@
 -- What a machine of locks and the stages of its CPUs tell of a block is what the sections make of it.
 use Rattle.std.specs.Prelude.{◌≡◌, Bool, true, false, List, Option, Some, None, MatchOption, if◌then◌else◌, refl}
 use Rattle.std.proofs.Common.{ap, sym, ◌∙◌, subst}
-use Rattle.event_log.specs.declared.ids.CpuId.{CpuId}
-use Rattle.event_log.specs.declared.ids.LockId.{LockId}
-use Rattle.event_log.specs.Actions.{Action, Phase, Rests, Waits, Holds, AreLegal, phase}
-use Rattle.event_log.specs.History.{same_lock}
-use Rattle.event_log.specs.Sections.{block_after, sections_in}
-use Rattle.event_log.proofs.Exclusion.{is_at, knows}
-use Rattle.event_log.proofs.Same.{same_lock_self, same_lock_true}
-use Rattle.layer_traits.specs.Owned.{IsHeld, IsObserved}
-use Rattle.layer_traits.specs.Plans.{is_in_section}
-use Rattle.layer_traits.specs.Protocol.{Rules}
-use Rattle.spinlock.specs.declared.stages.TicketPhase.{TicketPhase}
-use Rattle.spinlock.specs.declared.stages.TicketPhase.TheVariants.{Out, Waiting, Holding}
-use Rattle.spinlock.specs.OwnedLaws.{SomeoneHolds}
-use Rattle.spinlock.specs.Stages.{StageFits, held_block}
+use Rattle.event_log.specs.{declared.ids.CpuId.CpuId, declared.ids.LockId.LockId, Actions.Action, Actions.Phase, Actions.Rests, Actions.Waits, Actions.Holds}
+use Rattle.event_log.specs.{Actions.AreLegal, Actions.phase, History.same_lock, Sections.block_after, Sections.sections_in}
+use Rattle.event_log.proofs.{Exclusion.is_at, Exclusion.knows, Same.same_lock_self, Same.same_lock_true}
+use Rattle.layer_traits.specs.{Owned.IsHeld, Owned.IsObserved, Plans.is_in_section, Protocol.Rules}
+use Rattle.spinlock.specs.declared.stages.TicketPhase.{TicketPhase, TheVariants.Out, TheVariants.Waiting, TheVariants.Holding}
+use Rattle.spinlock.specs.{OwnedLaws.SomeoneHolds, Stages.StageFits, Stages.held_block}
 
 -- the lock that a CPU holds
 abbrev lock_held : LockId → Phase → LockId

@@ -1,10 +1,8 @@
 -- Both kinds of words do what the counts say.
 use Rattle.std.proofs.Common.{◌≡◌, ◌≢◌, ℕ, ◌+◌, ◌%◌, ◌^◌, ◌<◌, ◌≤◌, ◌==◌, Bool, true, false, if◌then◌else◌, refl, ap, sym, subst, ◌∙◌, arith}
 use Rattle.std.proofs.lemmas.Bool.{eqb-true, eqb-false}
-use Rattle.event_log.specs.declared.ids.TheConstants.{CPUS}
-use Rattle.event_log.specs.Grants.{WordFits, after_give}
-use Rattle.event_log.proofs.GrantWords.{fits_at_start, fits_after, served_exactly}
-use Rattle.event_log.proofs.Tickets.{same_rests, next_rests}
+use Rattle.event_log.specs.{declared.ids.TheConstants.CPUS, Grants.WordFits, Grants.after_give}
+use Rattle.event_log.proofs.{GrantWords.fits_at_start, GrantWords.fits_after, GrantWords.served_exactly, Tickets.same_rests, Tickets.next_rests}
 use Rattle.table_machine.specs.Kinds.{IsWordKind, first_words, grant_words, ticket_words}
 
 at_most : (k : ℕ) → k < CPUS → k + 1 ≤ CPUS

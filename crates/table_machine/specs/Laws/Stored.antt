@@ -2,8 +2,7 @@
 use Rattle.std.proofs.Common.{◌≢◌, ℕ, ◌≤◌, ◌∙◌, arith}
 use Rattle.event_log.specs.declared.ids.TheConstants.{CPUS}
 use Rattle.event_log.proofs.Tickets.{same_rests, next_rests}
-use Rattle.table_machine.specs.Kinds.{IsWordKind}
-use Rattle.table_machine.specs.Stored.{stored_words}
+use Rattle.table_machine.specs.{Kinds.IsWordKind, Stored.stored_words}
 
 one_within : 1 ≤ CPUS
 one_within = omega arith

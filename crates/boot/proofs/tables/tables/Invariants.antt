@@ -1,6 +1,5 @@
 use Rattle.std.proofs.Common.{map}
-use Rattle.toml.specs.Data.{as_table}
-use Rattle.toml.specs.View.{table_view}
+use Rattle.toml.specs.{Data.as_table, View.table_view}
 use Rattle.boot.proofs.SeenLemmas.{SeenSoFar}
 use Rattle.boot.proofs.tables.tables.Given as goal
 

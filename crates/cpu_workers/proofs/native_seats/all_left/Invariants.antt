@@ -1,6 +1,5 @@
 use Rattle.std.proofs.Common.{◌≡◌, ◌≤◌, ◌++◌, length, vec_capacity}
-use Rattle.cpu_workers.specs.Natives.{HasLeftMachine}
-use Rattle.cpu_workers.specs.Reports.{Both}
+use Rattle.cpu_workers.specs.{Natives.HasLeftMachine, Reports.Both}
 use Rattle.cpu_workers.proofs.native_seats.all_left.Given as goal
 
 abbrev pub invariant-loop-one : goal.invariant-loop-one

@@ -1,9 +1,7 @@
 use Rattle.std.proofs.Common.{◌≡◌, ◌∙◌, subst, arith}
 use Rattle.event_log.specs.declared.ids.CpuId.{CpuId}
 use Rattle.layer_traits.specs.OnePlace.{cpu_at}
-use Rattle.cpu_workers.proofs.Joining.{both_length}
-use Rattle.cpu_workers.proofs.NativeLists.{all_ready, calls_so}
-use Rattle.cpu_workers.proofs.Seated.{both_back}
+use Rattle.cpu_workers.proofs.{Joining.both_length, NativeLists.all_ready, NativeLists.calls_so, Seated.both_back}
 use Rattle.cpu_workers.proofs.native_seats.call_each.Goals as goal
 
 pub call_all-requires-after_bounds : goal.call_all-requires-after_bounds

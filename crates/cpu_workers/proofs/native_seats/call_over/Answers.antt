@@ -2,19 +2,16 @@ use denote.Param.Send.{sendable}
 use Rattle.std.proofs.Crossing.{crosses}
 use Rattle.std.proofs.Common.{◌≡◌, ℕ, Some, refl, ap}
 use Rattle.std.specs.Prelude.{slice_get}
-use Rattle.layer_traits.specs.OnePlace.{cpu_at}
+use Rattle.layer_traits.specs.{OnePlace.cpu_at, QueueBlocks.StartsWell}
+use Rattle.fifo_buffer.specs.FifoFits.{BootsSo}
+use Rattle.cpu_workers.specs.Seating.{tower_acts}
+use Rattle.cpu_workers.proofs.{Crossing.fifo_send, Crossing.tower_sleeper_send, NativeLists.ok_so, Seated.found_within, TowerOpening.opens_tower}
+use Rattle.cpu_workers.proofs.{TowerOpening.seen_from_top}
 use Rattle.ipc_calls.proofs.ipc.Ipc.TheSendSync as ipc
 use Rattle.condvar.proofs.cond.Cond.TheSendSync as cond
 use Rattle.queuing_lock.proofs.qlock.QLock.TheSendSync as qlock
 use Rattle.scheduler.proofs.sched.Sched.TheSendSync as sched
 use Rattle.shared_queue.proofs.shared.SharedQueues.TheSendSync as shared
-use Rattle.fifo_buffer.specs.FifoFits.{BootsSo}
-use Rattle.layer_traits.specs.QueueBlocks.{StartsWell}
-use Rattle.cpu_workers.specs.Seating.{tower_acts}
-use Rattle.cpu_workers.proofs.Crossing.{fifo_send, tower_sleeper_send}
-use Rattle.cpu_workers.proofs.NativeLists.{ok_so}
-use Rattle.cpu_workers.proofs.Seated.{found_within}
-use Rattle.cpu_workers.proofs.TowerOpening.{opens_tower, seen_from_top}
 use Rattle.cpu_workers.proofs.native_seats.call_over.Goals as goal
 
 -- nothing was done in the machine, and the tower over it opens as its locks do

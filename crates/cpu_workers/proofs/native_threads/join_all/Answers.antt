@@ -1,6 +1,5 @@
 use Rattle.std.proofs.Common.{◌≤◌, ◌≡◌, ◌++◌, [], ◌∷◌, length, sym, subst, rules, vec_capacity, vec_len}
-use Rattle.cpu_workers.specs.Natives.{HasKept}
-use Rattle.cpu_workers.specs.Reports.{Both}
+use Rattle.cpu_workers.specs.{Natives.HasKept, Reports.Both}
 use Rattle.cpu_workers.proofs.Joining.{both_length, both_more, no_more, room_for, yield_more}
 use Rattle.cpu_workers.proofs.native_threads.join_all.Goals as goal
 

@@ -1,6 +1,5 @@
 use Rattle.std.proofs.Common.{◌≡◌, ◌≤◌, ◌++◌, length, vec_capacity}
-use Rattle.cpu_workers.specs.Natives.{HasKept}
-use Rattle.cpu_workers.specs.Reports.{Both}
+use Rattle.cpu_workers.specs.{Natives.HasKept, Reports.Both}
 use Rattle.cpu_workers.proofs.native_threads.join_all.Given as goal
 
 abbrev pub invariant-loop-child : goal.invariant-loop-child

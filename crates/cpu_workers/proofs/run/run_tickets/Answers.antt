@@ -1,16 +1,13 @@
 use Rattle.std.proofs.Common.{◌≡◌, List, length, Some, refl, sym, ap, ◌∙◌, subst, arith}
 use Rattle.std.specs.Prelude.{slice_get}
-use Rattle.event_log.specs.Actions.{acts_of}
-use Rattle.event_log.specs.WordsLog.{Idle, lock_phase}
-use Rattle.layer_traits.specs.OnePlace.{cpu_at}
-use Rattle.layer_traits.specs.WordsProtocol.{edit_of}
+use Rattle.event_log.specs.{Actions.acts_of, WordsLog.Idle, WordsLog.lock_phase}
+use Rattle.layer_traits.specs.{OnePlace.cpu_at, WordsProtocol.edit_of}
 use Rattle.table_machine.proofs.Fresh.{length_new}
-use Rattle.cpu_workers.specs.Closing.{Key}
-use Rattle.cpu_workers.specs.Seating.{Edit, HaveLeft}
-use Rattle.cpu_workers.proofs.SeatViews.{seat_views_are_of, seat_views_at, have_left, ready_at}
+use Rattle.cpu_workers.specs.{Closing.Key, Seating.Edit, Seating.HaveLeft}
+use Rattle.cpu_workers.proofs.{SeatViews.seat_views_are_of, SeatViews.seat_views_at, SeatViews.have_left, SeatViews.ready_at, Crossing.tower_seat_send}
+use Rattle.cpu_workers.proofs.{Crossing.turn_send}
 use denote.Param.Send.{param_send, arg_send}
 use Rattle.cpu_workers.proofs.run.run_tickets.Lts as lts
-use Rattle.cpu_workers.proofs.Crossing.{tower_seat_send, turn_send}
 use Rattle.cpu_workers.proofs.run.run_tickets.Goals as goal
 
 pub seats_at-requires : goal.seats_at-requires

@@ -1,7 +1,6 @@
 use Rattle.std.proofs.Common.{map, sym, subst}
 use Rattle.cpu_workers.specs.Seating.{HaveLeft}
-use Rattle.cpu_workers.proofs.SeatViews.{all_covered, all_over}
-use Rattle.cpu_workers.proofs.Observed.{lawful_so}
+use Rattle.cpu_workers.proofs.{SeatViews.all_covered, SeatViews.all_over, Observed.lawful_so}
 use Rattle.cpu_workers.proofs.run.run_waiters.Goals as goal
 
 pub closed-requires-clause-covers : goal.closed-requires-clause-covers

@@ -1,8 +1,6 @@
 use Rattle.std.proofs.Common.{◌<◌, ℕ, List, sym, ap, ◌∙◌, subst}
 use Rattle.event_log.specs.declared.ids.CpuId.{CpuId}
-use Rattle.layer_traits.specs.BufferEffects.{opening_locks}
-use Rattle.layer_traits.specs.OneLock.{AreDistinct, opened}
-use Rattle.layer_traits.specs.Openings.{AreOpenable}
+use Rattle.layer_traits.specs.{BufferEffects.opening_locks, OneLock.AreDistinct, OneLock.opened, Openings.AreOpenable}
 use Rattle.cpu.proofs.PlanGuests.{are_openable}
 use Rattle.cpu_workers.specs.Seating.{OpensPlan}
 use Rattle.cpu_workers.proofs.SeatViews.{ok_with}

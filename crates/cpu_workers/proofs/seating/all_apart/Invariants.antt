@@ -1,6 +1,5 @@
 use Rattle.std.proofs.Common.{◌≡◌, ◌≤◌, ◌++◌, length, vec_capacity}
-use Rattle.cpu_workers.specs.Reports.{Both}
-use Rattle.cpu_workers.specs.Seating.{IsApart}
+use Rattle.cpu_workers.specs.{Reports.Both, Seating.IsApart}
 use Rattle.cpu_workers.proofs.seating.all_apart.Given as goal
 
 abbrev pub invariant-loop-one : goal.invariant-loop-one

@@ -1,8 +1,7 @@
 use Rattle.std.proofs.Common.{◌∙◌, subst, arith}
 use Rattle.event_log.specs.declared.ids.CpuId.{CpuId}
 use Rattle.layer_traits.specs.OnePlace.{cpu_at}
-use Rattle.cpu_workers.proofs.Joining.{both_length}
-use Rattle.cpu_workers.proofs.Seated.{all_fresh, both_back, left_so}
+use Rattle.cpu_workers.proofs.{Joining.both_length, Seated.all_fresh, Seated.both_back, Seated.left_so}
 use Rattle.cpu_workers.proofs.seating.run_each.Goals as goal
 
 pub work_all-requires-after_bounds : goal.work_all-requires-after_bounds

@@ -1,8 +1,7 @@
 use Rattle.std.proofs.Common.{◌≡◌, ◌≤◌, ℕ, Some, drop, length, vec_capacity}
 use Rattle.std.specs.Prelude.{slice_get}
 use Rattle.layer_traits.specs.OnePlace.{cpu_at}
-use Rattle.cpu_workers.specs.Seating.{IsAtBoot}
-use Rattle.cpu_workers.specs.Working.{Working}
+use Rattle.cpu_workers.specs.{Seating.IsAtBoot, Working.Working}
 use Rattle.cpu_workers.proofs.seating.workers_over.Given as goal
 
 abbrev pub invariant-loop-number : goal.invariant-loop-number

@@ -1,6 +1,5 @@
 use Rattle.std.proofs.Common.{rules, ◌≡◌, ◌≤◌, true, arith}
-use Rattle.cpu_workers.specs.declared.gates.Go.TheVariants.{Limit, Pass}
-use Rattle.cpu_workers.specs.Reports.{MayTake, most}
+use Rattle.cpu_workers.specs.{declared.gates.Go.TheVariants.Limit, declared.gates.Go.TheVariants.Pass, Reports.MayTake, Reports.most}
 use Rattle.cpu_workers.proofs.Turning.{has_run, held_inside, held_so, holds_one, may_take_so, passed_on, passed_so, ran_none, ran_one}
 use Rattle.cpu_workers.proofs.turns.work.Goals as goal
 

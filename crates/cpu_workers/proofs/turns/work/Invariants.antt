@@ -1,6 +1,5 @@
 use Rattle.std.proofs.Common.{◌≡◌, true}
-use Rattle.cpu_workers.specs.declared.gates.Go.TheVariants.{Limit, Pass}
-use Rattle.cpu_workers.specs.Reports.{MayTake}
+use Rattle.cpu_workers.specs.{declared.gates.Go.TheVariants.Limit, declared.gates.Go.TheVariants.Pass, Reports.MayTake}
 use Rattle.cpu_workers.proofs.Turning.{HasPassed, Holds, Ran}
 use Rattle.cpu_workers.proofs.turns.work.Given as goal
 

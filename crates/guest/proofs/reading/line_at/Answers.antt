@@ -1,8 +1,7 @@
 -- The pieces are those of the text between single spaces.
 use Rattle.std.proofs.Common.{◌≡◌, ◌==◌, map, ap, sym, ◌∙◌, lit<}
 use Rattle.std.specs.List.{slice_split}
-use Rattle.std.proofs.lemmas.Iterator.Consumers.{map_from_collect}
-use Rattle.std.proofs.lemmas.Iterator.Splits.{YieldsList-from_str_split}
+use Rattle.std.proofs.lemmas.Iterator.{Consumers.map_from_collect, Splits.YieldsList-from_str_split}
 use Rattle.guest.specs.Language.{pieces_in, line_in, at_line}
 use Rattle.guest.proofs.reading.line_at.Goals.{After-pieces}
 use Rattle.guest.proofs.reading.line_at.Goals as goal

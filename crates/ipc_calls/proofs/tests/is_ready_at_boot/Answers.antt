@@ -1,6 +1,5 @@
 use Rattle.std.proofs.Common.{ap, ◌∙◌}
-use Rattle.layer_traits.specs.QueueBlocks.{inner}
-use Rattle.layer_traits.specs.Renaming.{viewed}
+use Rattle.layer_traits.specs.{QueueBlocks.inner, Renaming.viewed}
 use Rattle.queuing_lock.specs.Nested.{nested_lock_of}
 use Rattle.sleep_wakeup.specs.Nested.{state_of}
 use Rattle.ipc_calls.proofs.tests.is_ready_at_boot.Goals as goal

@@ -1,6 +1,5 @@
 use Rattle.std.proofs.Common.{◌+◌, ◌*◌, ◌∙◌, [], ap, arith, length, sym, zero-add}
-use Rattle.event_log.specs.Actions.{phase}
-use Rattle.event_log.specs.Sections.{sections_in}
+use Rattle.event_log.specs.{Actions.phase, Sections.sections_in}
 use Rattle.mctower.specs.Count.{after_rounds, sections_at}
 use Rattle.cpu_workers.specs.declared.counting.TheConstants.{NUMBER}
 use Rattle.mctower.proofs.CountLemmas.{gives_are_sections}

@@ -1,6 +1,5 @@
 use Rattle.std.proofs.Common.{◌≡◌}
-use Rattle.cpu.specs.Claims.{listed}
-use Rattle.cpu.specs.Systems.{halted_in}
+use Rattle.cpu.specs.{Claims.listed, Systems.halted_in}
 use Rattle.mctower.proofs.reading.halted_of.Given as goal
 
 abbrev pub invariant-loop-cpu : goal.invariant-loop-cpu

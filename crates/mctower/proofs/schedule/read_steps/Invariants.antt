@@ -1,8 +1,6 @@
 use Rattle.std.proofs.Common.{◌≡◌, ◌≤◌, ◌+◌, length, option_map}
-use Rattle.std.specs.List.{slice_split}
-use Rattle.std.specs.Option.{option_map_or}
-use Rattle.mctower.specs.Schedule.{is_comma, schedule_pieces, steps_in}
-use Rattle.mctower.specs.declared.schedule.TheConstants.{MOST_STEPS}
+use Rattle.std.specs.{List.slice_split, Option.option_map_or}
+use Rattle.mctower.specs.{Schedule.is_comma, Schedule.schedule_pieces, Schedule.steps_in, declared.schedule.TheConstants.MOST_STEPS}
 use Rattle.mctower.proofs.ScheduleLemmas.{after}
 use Rattle.mctower.proofs.schedule.read_steps.Given as goal
 

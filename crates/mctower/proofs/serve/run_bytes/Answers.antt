@@ -3,24 +3,16 @@ use Rattle.std.specs.Prelude.{if◌then◌else◌}
 use Rattle.std.specs.Io.KnownBytes.{Appends}
 use Rattle.std.proofs.lemmas.List.{append-nil}
 use Rattle.event_log.specs.declared.ids.CpuId.{CpuId}
-use Rattle.boot.specs.declared.refusals.BootError.{BootError}
-use Rattle.boot.specs.Plan.{BootPlan, plan_of}
+use Rattle.boot.specs.{declared.refusals.BootError.BootError, Plan.BootPlan, Plan.plan_of}
 use Rattle.tracer.specs.Sinks.{Outs}
 use Rattle.tracer.proofs.SinkLemmas.{all_out, outs_then}
-use Rattle.mctower.specs.declared.refusals.Refusal.{Refusal}
+use Rattle.mctower.specs.declared.refusals.Refusal.{Refusal, TheVariants.NoMemory, TheVariants.WriteFault, TheVariants.Plan as BadPlan}
 use Rattle.cpu.specs.Claims.{Shown}
-use Rattle.mctower.specs.declared.serve.Done.{Done}
-use Rattle.mctower.specs.declared.serve.Done.TheVariants.{Ran}
-use Rattle.mctower.specs.declared.states.State.{State}
-use Rattle.mctower.specs.State.{IsStateOf}
-use Rattle.mctower.specs.Running.{IsRunOf, NoCondition, RunsText, Tells}
-use Rattle.mctower.specs.Output.{Output, between}
-use Rattle.mctower.specs.Serve.{OfPlan, RefusedBy, RunsPlan, ReportsRun}
-use Rattle.mctower.specs.Refusals.{from_fault}
-use Rattle.mctower.specs.declared.run.Fault.{Fault}
-use Rattle.mctower.specs.declared.run.Fault.TheVariants as run
-use Rattle.mctower.specs.declared.refusals.Refusal.TheVariants.{NoMemory, WriteFault, Plan as BadPlan}
+use Rattle.mctower.specs.{declared.serve.Done.Done, declared.serve.Done.TheVariants.Ran, declared.states.State.State, State.IsStateOf, Running.IsRunOf}
+use Rattle.mctower.specs.{Running.NoCondition, Running.RunsText, Running.Tells, Output.Output, Output.between, Serve.OfPlan, Serve.RefusedBy, Serve.RunsPlan}
+use Rattle.mctower.specs.{Serve.ReportsRun, Refusals.from_fault, declared.run.Fault.Fault}
 use Rattle.mctower.proofs.TabledLemmas.{state_of_run}
+use Rattle.mctower.specs.declared.run.Fault.TheVariants as run
 use Rattle.mctower.proofs.serve.run_bytes.Goals as goal
 
 -- what is to be told of a run whose text was put out, and nothing more behind it

@@ -1,6 +1,5 @@
 use Rattle.std.proofs.Common.{inr, subst}
-use Rattle.mctower.specs.Output.{between}
-use Rattle.mctower.specs.Serve.{OfBytes, RunsPlan}
+use Rattle.mctower.specs.{Output.between, Serve.OfBytes, Serve.RunsPlan}
 use Rattle.mctower.proofs.serve.serve_run.Goals as goal
 
 pub returns-clause-runs : goal.returns-clause-runs

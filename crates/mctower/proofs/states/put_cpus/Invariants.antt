@@ -1,8 +1,6 @@
 use Rattle.std.proofs.Common.{◌≡◌, take, false}
-use Rattle.std.specs.List.{flat_map}
-use Rattle.std.specs.Io.KnownBytes.{Appends}
-use Rattle.tracer.specs.Sinks.{has_failed, writer_of}
-use Rattle.tracer.specs.TraceText.{text_line, numbered}
+use Rattle.std.specs.{List.flat_map, Io.KnownBytes.Appends}
+use Rattle.tracer.specs.{Sinks.has_failed, Sinks.writer_of, TraceText.text_line, TraceText.numbered}
 use Rattle.mctower.specs.StateLines.{halted_pieces}
 use Rattle.mctower.proofs.states.put_cpus.Given as goal
 

@@ -1,6 +1,5 @@
 use Rattle.std.proofs.Common.{ℕ, ◌<◌, get_or}
-use Rattle.event_log.specs.declared.entries.Entry.{Entry}
-use Rattle.event_log.specs.Messages.{IsMessage}
+use Rattle.event_log.specs.{declared.entries.Entry.Entry, Messages.IsMessage}
 use Rattle.mctower.proofs.texts.values_fit.Given as goal
 
 abbrev pub invariant-loop-entry : goal.invariant-loop-entry

@@ -3,9 +3,7 @@ use Rattle.boot.specs.Plan.{plan_of}
 use Rattle.tracer.specs.Gather.{traces_in}
 use Rattle.cpu.specs.Claims.{buffer_at, listed}
 use Rattle.cpu_workers.specs.Seating.{items_of_block}
-use Rattle.mctower.specs.Output.{between}
-use Rattle.mctower.specs.Serve.{WorksPlan}
-use Rattle.mctower.specs.Texts.{HaveText, Writes}
+use Rattle.mctower.specs.{Output.between, Serve.WorksPlan, Texts.HaveText, Texts.Writes}
 use Rattle.mctower.proofs.ThreadsLemmas.{not_written, of_read, report_has, worked}
 use Rattle.mctower.proofs.threads.work_plan.Goals as goal
 

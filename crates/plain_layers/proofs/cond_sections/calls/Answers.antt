@@ -1,11 +1,7 @@
 use Rattle.std.proofs.Common.{rules, ◌≡◌, Some, None, sym, ◌∙◌, subst}
 use Rattle.event_log.specs.declared.ids.LockId.TheVariants.{Buffer}
-use Rattle.layer_traits.specs.Conditions.{cv_rules}
-use Rattle.layer_traits.specs.LockLaw.{lock_kernel}
-use Rattle.layer_traits.specs.Locking.{IsOwners, lock_after, lock_caller}
-use Rattle.layer_traits.specs.Payloads.{cv_meant}
-use Rattle.layer_traits.specs.QueueBlocks.{inner}
-use Rattle.layer_traits.specs.Queues.{buffer_sections}
+use Rattle.layer_traits.specs.{Conditions.cv_rules, LockLaw.lock_kernel, Locking.IsOwners, Locking.lock_after, Locking.lock_caller, Payloads.cv_meant}
+use Rattle.layer_traits.specs.{QueueBlocks.inner, Queues.buffer_sections}
 use Rattle.plain_layers.specs.LockSections.{call_alone}
 use Rattle.plain_layers.proofs.CondSectionLemmas.{may_begin, owner_told}
 use Rattle.plain_layers.proofs.cond_sections.calls.Goals as goal

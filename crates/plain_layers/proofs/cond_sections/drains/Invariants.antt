@@ -1,8 +1,5 @@
 use Rattle.std.proofs.Common.{◌≡◌, ◌≢◌, ◌+◌, ◌≤◌, true, false, None}
-use Rattle.layer_traits.specs.declared.passes.Pass.TheVariants.{Drain}
-use Rattle.layer_traits.specs.declared.scheds.SchedCall.TheVariants.{Pass}
-use Rattle.layer_traits.specs.Passes.{MayPass}
-use Rattle.layer_traits.specs.SleepLaw.{MayCall}
+use Rattle.layer_traits.specs.{declared.passes.Pass.TheVariants.Drain, declared.scheds.SchedCall.TheVariants.Pass, Passes.MayPass, SleepLaw.MayCall}
 use Rattle.plain_layers.proofs.cond_sections.drains.Given as goal
 
 -- so many polls as section polls of the loop are done

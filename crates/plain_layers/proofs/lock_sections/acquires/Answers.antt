@@ -1,12 +1,7 @@
 use Rattle.std.proofs.Common.{rules, ◌≡◌, ◌≢◌, Some, None, sym, ◌∙◌}
 use Rattle.event_log.specs.declared.ids.LockId.TheVariants.{Buffer}
-use Rattle.layer_traits.specs.declared.locked.QEdit.TheVariants.{Acquire}
-use Rattle.layer_traits.specs.LockLaw.{lock_kernel}
-use Rattle.layer_traits.specs.Locking.{lock_after}
-use Rattle.layer_traits.specs.QueueBlocks.{inner}
-use Rattle.layer_traits.specs.Queues.{buffer_sections}
-use Rattle.plain_layers.proofs.CondSectionLemmas.{owner_told}
-use Rattle.plain_layers.proofs.LockSectionLemmas.{may_begin}
+use Rattle.layer_traits.specs.{declared.locked.QEdit.TheVariants.Acquire, LockLaw.lock_kernel, Locking.lock_after, QueueBlocks.inner, Queues.buffer_sections}
+use Rattle.plain_layers.proofs.{CondSectionLemmas.owner_told, LockSectionLemmas.may_begin}
 use Rattle.plain_layers.proofs.lock_sections.acquires.Goals as goal
 
 -- the thread runs, nobody stands in the hand, and the machine tells that it does not own the lock

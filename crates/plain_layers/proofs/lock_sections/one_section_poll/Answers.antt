@@ -1,12 +1,8 @@
 use Rattle.std.proofs.Common.{◌≡◌, Option, Some, ap, sym, ◌∙◌, subst}
 use Rattle.event_log.specs.declared.ids.LockId.TheVariants.{Buffer}
-use Rattle.layer_traits.specs.declared.locked.QOut.{QOut}
-use Rattle.layer_traits.specs.declared.sleeps.Outcome.{Outcome}
-use Rattle.layer_traits.specs.LockLaw.{MayCallLock, lock_kernel}
-use Rattle.layer_traits.specs.Locking.{lock_caller, owner_of}
-use Rattle.layer_traits.specs.Payloads.{lock_meant, lock_told, outcome_told, told_by}
-use Rattle.layer_traits.specs.QueueBlocks.{inner}
-use Rattle.layer_traits.specs.Queues.{buffer_sections}
+use Rattle.layer_traits.specs.{declared.locked.QOut.QOut, declared.sleeps.Outcome.Outcome, LockLaw.MayCallLock, LockLaw.lock_kernel, Locking.lock_caller}
+use Rattle.layer_traits.specs.{Locking.owner_of, Payloads.lock_meant, Payloads.lock_told, Payloads.outcome_told, Payloads.told_by, QueueBlocks.inner}
+use Rattle.layer_traits.specs.{Queues.buffer_sections}
 use Rattle.plain_layers.specs.LockSections.{MayPollLockSection, call_alone}
 use Rattle.plain_layers.proofs.LockSectionLemmas.{after_alone, ended_after, goes_after, sleeps_after}
 use Rattle.plain_layers.proofs.lock_sections.one_section_poll.Goals as goal

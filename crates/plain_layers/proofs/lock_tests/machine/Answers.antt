@@ -1,8 +1,5 @@
 use Rattle.std.proofs.Common.{◌≡◌, ◌<◌, ◌∷◌, [], IsSome, ap, sym, subst, ◌∙◌, refl, slice_get, map}
-use Rattle.event_log.specs.declared.ids.BufId.{BufId}
-use Rattle.event_log.specs.declared.ids.CpuId.{CpuId}
-use Rattle.event_log.specs.declared.ids.LockId.TheVariants.{Buffer}
-use Rattle.event_log.specs.declared.ids.TheConstants.{CPUS}
+use Rattle.event_log.specs.declared.ids.{BufId.BufId, CpuId.CpuId, LockId.TheVariants.Buffer, TheConstants.CPUS}
 use Rattle.layer_traits.specs.QueueBlocks.{inner}
 use Rattle.queuing_lock.specs.Nested.{unowned}
 use Rattle.queuing_lock.proofs.BootLemmas.{rest_at_boot}

@@ -1,7 +1,7 @@
 use Rattle.std.proofs.Common.{◌≡◌, false, [], ◌∷◌, ◌++◌, if◌then◌else◌, is_err, is_ok, slice_get, ap, None, subst, sym, ◌∙◌}
 use Rattle.plain_layers.specs.QueueSections.{buffer_zero}
-use Rattle.plain_layers.proofs.queue_tests.cpus_meet.Goals as goal
 use Rattle.plain_layers.proofs.KernelLemmas.{one_pushed}
+use Rattle.plain_layers.proofs.queue_tests.cpus_meet.Goals as goal
 
 -- buffer 0 opens with the one block
 pub meet_at_one_queue-requires-clause-free : goal.meet_at_one_queue-requires-clause-free

@@ -1,8 +1,8 @@
-use Rattle.std.proofs.Common.{◌≡◌, false, List, [], ◌∷◌, ◌++◌, if◌then◌else◌, is_err, is_ok, slice_get, ap, Option, Some, None, Result, Ok, Err}
-use Rattle.std.proofs.Common.{IfOk, subst, sym, ◌∙◌}
+use Rattle.std.proofs.Common.{◌≡◌, false, List, [], ◌∷◌, ◌++◌, if◌then◌else◌, is_err, is_ok, slice_get, ap, Option, Some, None, Result, Ok, Err, IfOk, subst}
+use Rattle.std.proofs.Common.{sym, ◌∙◌}
 use Rattle.event_log.specs.declared.ids.BufId.{BufId}
-use Rattle.plain_layers.proofs.sched_tests.machine.Goals as goal
 use Rattle.plain_layers.proofs.KernelLemmas.{one_pushed}
+use Rattle.plain_layers.proofs.sched_tests.machine.Goals as goal
 
 -- buffer 0 opens with the one block
 opens_first : {W F B : Type 0} (r : Result W F) (opens : W → BufId → Option B) (items : List B) (x : B) → items ≡ x ∷ []

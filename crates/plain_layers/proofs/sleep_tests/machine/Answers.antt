@@ -1,8 +1,5 @@
 use Rattle.std.proofs.Common.{◌≡◌, ◌<◌, ◌∷◌, [], IsSome, ap, sym, subst, ◌∙◌, refl, slice_get, map}
-use Rattle.event_log.specs.declared.ids.BufId.{BufId}
-use Rattle.event_log.specs.declared.ids.CpuId.{CpuId}
-use Rattle.event_log.specs.declared.ids.LockId.TheVariants.{Buffer}
-use Rattle.event_log.specs.declared.ids.TheConstants.{CPUS}
+use Rattle.event_log.specs.declared.ids.{BufId.BufId, CpuId.CpuId, LockId.TheVariants.Buffer, TheConstants.CPUS}
 use Rattle.layer_traits.specs.QueueBlocks.{inner}
 use Rattle.sleep_wakeup.specs.Nested.{resting}
 use Rattle.sleep_wakeup.proofs.BootLemmas.{if_ok, nobody_at_boot, there_inside}

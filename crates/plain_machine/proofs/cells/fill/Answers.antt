@@ -1,7 +1,6 @@
 use Rattle.std.proofs.Common.{◌≡◌, ◌<◌, [], ◌∷◌, ◌++◌, All, length, append_assoc, ap, subst, sym, ◌∙◌}
 use Rattle.std.proofs.Math.ListN.{length-set}
-use Rattle.event_log.specs.declared.ids.LockId.{LockId}
-use Rattle.event_log.specs.Locks.{lock_number}
+use Rattle.event_log.specs.{declared.ids.LockId.LockId, Locks.lock_number}
 use Rattle.plain_machine.specs.Table.{AreFresh}
 use Rattle.plain_machine.proofs.TableLemmas.{fresh_pass}
 use Rattle.plain_machine.proofs.cells.fill.Goals as goal

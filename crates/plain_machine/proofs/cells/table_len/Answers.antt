@@ -1,9 +1,8 @@
 use Rattle.std.proofs.Common.{◌<◌, ◌≤◌, All, take, get_or, ap, subst, ◌∙◌, arith}
-use Rattle.std.proofs.lemmas.List.{take_all}
-use Rattle.std.proofs.lemmas.List.Elements.{All-more, All-weaker}
+use Rattle.std.proofs.lemmas.List.{take_all, Elements.All-more, Elements.All-weaker}
 use Rattle.event_log.specs.Locks.{lock_number}
-use Rattle.plain_machine.proofs.cells.table_len.Goals as goal
 use Rattle.plain_machine.proofs.cells.table_len.Goals.{then-len-end, else-len-end}
+use Rattle.plain_machine.proofs.cells.table_len.Goals as goal
 
 pub loop-entry-preserved : goal.loop-entry-preserved
 loop-entry-preserved g c =

@@ -1,7 +1,6 @@
 use Rattle.std.proofs.Common.{◌≡◌, ◌<◌, ◌++◌, IsSome, length, sym, subst, arith, slice_get}
 use Rattle.event_log.specs.declared.ids.LockId.TheVariants.{Pending, Buffer}
-use Rattle.layer_traits.specs.OneLock.{AreDistinct, opened}
-use Rattle.layer_traits.specs.QueueBlocks.{StartsWell, homes_in, inner}
+use Rattle.layer_traits.specs.{OneLock.AreDistinct, OneLock.opened, QueueBlocks.StartsWell, QueueBlocks.homes_in, QueueBlocks.inner}
 use Rattle.shared_queue.proofs.OpeningLemmas.{all_there, blocks_there, homes_read, locks_distinct, queues_there, starts_well}
 use Rattle.shared_queue.specs.Opening.{AreQueues, buffers_from}
 use Rattle.shared_queue.proofs.opening.queue_blocks.Goals as goal

@@ -1,8 +1,7 @@
 use Rattle.std.proofs.Common.{◌≡◌, ◌∷◌, ◌∙◌, ap, subst}
 use Rattle.event_log.specs.Actions.{next_action}
 use Rattle.layer_traits.proofs.Alone.{acts_alone}
-use Rattle.layer_traits.specs.Payloads.{told_by}
-use Rattle.layer_traits.specs.Plans.{table_of, answered, reply}
+use Rattle.layer_traits.specs.{Payloads.told_by, Plans.table_of, Plans.answered, Plans.reply}
 use Rattle.spinlock.proofs.sections.alone.Goals as goal
 
 pub returns-clause-acts : goal.returns-clause-acts

@@ -1,10 +1,9 @@
 use Rattle.std.proofs.Common.{◌≡◌, ℕ, ◌<◌, ◌≤◌, false, length, get_or, Some, vec_capacity}
-use Rattle.std.specs.Mem.Slots.{slots_items, slots_filled, slots_len}
-use Rattle.std.specs.Mem.Slots.Ownership.{Filled}
-use mathlib.Core.Option.{some}
-use lib.ListN.{get_elem?}
+use Rattle.std.specs.Mem.Slots.{slots_items, slots_filled, slots_len, Ownership.Filled}
 use Rattle.event_log.specs.declared.ids.LockId.{LockId}
 use Rattle.table_machine.specs.declared.views.Home.{Home}
+use mathlib.Core.Option.{some}
+use lib.ListN.{get_elem?}
 use Rattle.table_machine.proofs.close.returned.Given as goal
 
 abbrev pub invariant-loop-i : goal.invariant-loop-i

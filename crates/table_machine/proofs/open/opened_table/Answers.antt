@@ -1,10 +1,8 @@
 use Rattle.std.proofs.Common.{◌∙◌, ap, sym, subst, map, length}
 use Rattle.event_log.specs.declared.ids.LockId.{LockId}
 use Rattle.layer_traits.specs.OneLock.{AreDistinct}
-use Rattle.table_machine.specs.Layout.{AreFirst}
-use Rattle.table_machine.specs.Rule.{fresh_home}
-use Rattle.table_machine.proofs.Dealing.{opening_inv}
-use Rattle.table_machine.proofs.Laying.{laid_fits}
+use Rattle.table_machine.specs.{Layout.AreFirst, Rule.fresh_home}
+use Rattle.table_machine.proofs.{Dealing.opening_inv, Laying.laid_fits}
 use Rattle.table_machine.proofs.open.opened_table.Goals as goal
 
 pub new-requires : goal.new-requires

@@ -1,6 +1,5 @@
 use Rattle.std.proofs.Common.{◌<◌, ◌≤◌, ◌-◌, ◌≡◌, length, arith, ap, sym, subst, ◌∙◌, length-set}
-use Rattle.event_log.specs.declared.ids.LockId.{LockId}
-use Rattle.event_log.specs.Locks.{lock_number}
+use Rattle.event_log.specs.{declared.ids.LockId.LockId, Locks.lock_number}
 use Rattle.table_machine.proofs.Laying.{AreRanksFrom, ranks_more, ranks_all}
 use Rattle.table_machine.proofs.open.ranks_of.Goals as goal
 

@@ -1,6 +1,5 @@
 use Rattle.std.proofs.Common.{sym, ◌∙◌, arith}
-use Rattle.tracer.specs.Tallies.{progress_of}
-use Rattle.tracer.specs.Judging.{verdict_of}
+use Rattle.tracer.specs.{Tallies.progress_of, Judging.verdict_of}
 use Rattle.tracer.proofs.VerdictLemmas.{line_taken, line_refused}
 use Rattle.tracer.proofs.checking.judged.Goals as goal
 

@@ -1,6 +1,5 @@
 use Rattle.std.proofs.Common.{◌≡◌, ◌≤◌, ◌+◌, length}
-use Rattle.tracer.specs.Judging.{opening, lines_in, verdict_from}
-use Rattle.tracer.specs.Tallies.{progress_of}
+use Rattle.tracer.specs.{Judging.opening, Judging.lines_in, Judging.verdict_from, Tallies.progress_of}
 use Rattle.tracer.proofs.checking.judged.Given as goal
 
 abbrev pub invariant-loop-front : goal.invariant-loop-front

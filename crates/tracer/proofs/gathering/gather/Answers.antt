@@ -2,8 +2,8 @@ use Rattle.std.proofs.Common.{◌≡◌, ◌<◌, ◌+◌, ℕ, [], ◌∷◌, �
 use Rattle.std.proofs.lemmas.List.{length-map, length_push, get_or_default}
 use Rattle.tracer.specs.Gather.{traces_in, next_entry, NoneDueBelow}
 use Rattle.tracer.proofs.GatherLemmas.{gathers_start, gathers_next, gathered_all, gathered_no_order, some_left, some_left_in, next_within, left_of_vectors}
-use Rattle.tracer.proofs.gathering.gather.Goals as goal
 use Rattle.tracer.proofs.gathering.gather.Goals.{In-Some-first_ready}
+use Rattle.tracer.proofs.gathering.gather.Goals as goal
 
 pub loop-trace-init : goal.loop-trace-init
 loop-trace-init c = (

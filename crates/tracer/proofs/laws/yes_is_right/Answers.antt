@@ -1,5 +1,4 @@
-use Rattle.tracer.proofs.CompleteLemmas.{complete}
-use Rattle.tracer.proofs.SoundLemmas.{sound}
+use Rattle.tracer.proofs.{CompleteLemmas.complete, SoundLemmas.sound}
 use Rattle.tracer.proofs.laws.yes_is_right.Goals as goal
 
 pub returns-clause-sound : goal.returns-clause-sound

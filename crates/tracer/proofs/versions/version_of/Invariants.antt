@@ -1,6 +1,5 @@
 use Rattle.std.proofs.Common.{◌≡◌, drop}
-use Rattle.tracer.specs.declared.versions.Version.TheVariants.{One}
-use Rattle.tracer.specs.Versions.{version_from}
+use Rattle.tracer.specs.{declared.versions.Version.TheVariants.One, Versions.version_from}
 use Rattle.tracer.proofs.versions.version_of.Given as goal
 
 abbrev pub invariant-loop-entry : goal.invariant-loop-entry

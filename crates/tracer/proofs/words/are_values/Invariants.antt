@@ -1,6 +1,5 @@
 use Rattle.std.proofs.Common.{◌≡◌, drop}
-use Rattle.tracer.specs.Judging.{are_values}
-use Rattle.tracer.specs.Lines.{left_of}
+use Rattle.tracer.specs.{Judging.are_values, Lines.left_of}
 use Rattle.tracer.proofs.words.are_values.Given as goal
 
 abbrev pub invariant-loop-message : goal.invariant-loop-message

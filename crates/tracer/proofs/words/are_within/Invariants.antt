@@ -1,7 +1,6 @@
 use Rattle.std.proofs.Common.{◌≡◌, length}
 use Rattle.std.specs.List.{list_all}
-use Rattle.tracer.specs.Judging.{is_within}
-use Rattle.tracer.specs.Lines.{left_of}
+use Rattle.tracer.specs.{Judging.is_within, Lines.left_of}
 use Rattle.tracer.proofs.words.are_within.Given as goal
 
 abbrev pub invariant-loop-front : goal.invariant-loop-front

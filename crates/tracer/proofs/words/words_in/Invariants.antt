@@ -1,6 +1,5 @@
 use Rattle.std.proofs.Common.{◌≡◌, ◌+◌, ◌≤◌, ◌++◌, length, Ok}
-use Rattle.event_log.specs.declared.messages.TheConstants.{WORDS}
-use Rattle.event_log.specs.Reading.{◌>>=◌}
+use Rattle.event_log.specs.{declared.messages.TheConstants.WORDS, Reading.◌>>=◌}
 use Rattle.tracer.specs.Judging.{words_of, numbers_in}
 use Rattle.tracer.proofs.words.words_in.Given as goal
 

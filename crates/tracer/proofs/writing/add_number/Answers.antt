@@ -1,6 +1,5 @@
 use Rattle.std.proofs.Common.{◌≡◌, ◌+◌, ◌-◌, arith}
-use Rattle.std.proofs.lemmas.Fmt.{length-decimal-le}
-use Rattle.std.proofs.lemmas.List.{drop-set}
+use Rattle.std.proofs.lemmas.{Fmt.length-decimal-le, List.drop-set}
 use Rattle.tracer.proofs.writing.add_number.Goals as goal
 
 pub write_digits-at-requires : goal.write_digits-at-requires

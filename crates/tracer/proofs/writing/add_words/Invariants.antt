@@ -1,7 +1,6 @@
 use Rattle.std.proofs.Common.{◌≡◌, ◌+◌, ◌*◌, ◌≤◌, ◌++◌, length, drop}
 use Rattle.std.specs.List.{flat_map}
-use Rattle.tracer.specs.declared.writing.TheConstants.{LINE}
-use Rattle.tracer.specs.Pieces.{behind_comma}
+use Rattle.tracer.specs.{declared.writing.TheConstants.LINE, Pieces.behind_comma}
 use Rattle.tracer.proofs.writing.add_words.Given as goal
 
 abbrev pub invariant-loop-left : goal.invariant-loop-left

@@ -1,6 +1,5 @@
 use Rattle.std.proofs.Common.{sym}
-use Rattle.tracer.specs.TraceText.{message_text}
-use Rattle.tracer.specs.Pieces.{spaced}
+use Rattle.tracer.specs.{TraceText.message_text, Pieces.spaced}
 use Rattle.tracer.proofs.SinkLemmas.{failed_at}
 use Rattle.tracer.proofs.writing.put_messages.Goals as goal
 

@@ -1,8 +1,6 @@
 use Rattle.std.proofs.Common.{◌≡◌, take, false}
-use Rattle.std.specs.List.{flat_map}
-use Rattle.std.specs.Io.KnownBytes.{Appends}
-use Rattle.tracer.specs.TraceText.{message_text}
-use Rattle.tracer.specs.Pieces.{spaced}
+use Rattle.std.specs.{List.flat_map, Io.KnownBytes.Appends}
+use Rattle.tracer.specs.{TraceText.message_text, Pieces.spaced}
 use Rattle.tracer.proofs.writing.put_messages.Given as goal
 
 abbrev pub invariant-loop-message : goal.invariant-loop-message

@@ -1,25 +1,15 @@
 use Rattle.std.proofs.Common.{◌≡◌, ◌<◌, ◌∙◌, List, Option, None, if◌then◌else◌, is_some, slice_set, ap, sym, true, false, Some}
-use Rattle.layer_traits.specs.declared.conditions.CvOut.{CvOut}
-use Rattle.layer_traits.specs.declared.locked.QOut.{QOut}
-use Rattle.layer_traits.specs.declared.sleeps.Outcome.{Outcome}
-use Rattle.layer_traits.specs.Conditions.{CvCall, cv_rules}
-use Rattle.layer_traits.specs.CvLaw.{Waiting}
-use Rattle.layer_traits.specs.Locking.{lock_caller, lock_moves, lock_rules}
-use Rattle.layer_traits.specs.LockLaw.{lock_kernel, slept_for}
-use Rattle.layer_traits.specs.Payloads.{cv_meant, lock_meant}
-use Rattle.layer_traits.specs.Plans.{table_of}
-use Rattle.layer_traits.specs.QueueBlocks.{homes_in}
-use Rattle.layer_traits.specs.QueueRules.{queue_rules}
-use Rattle.layer_traits.specs.Queues.{moves_in}
-use Rattle.event_log.specs.declared.ids.BufId.{BufId}
-use Rattle.event_log.specs.declared.ids.TheConstants.{THREADS}
-use Rattle.event_log.specs.declared.ids.LockId.TheVariants.{Buffer}
+use Rattle.layer_traits.specs.{declared.conditions.CvOut.CvOut, declared.locked.QOut.QOut, declared.sleeps.Outcome.Outcome, Conditions.CvCall}
+use Rattle.layer_traits.specs.{Conditions.cv_rules, CvLaw.Waiting, Locking.lock_caller, Locking.lock_moves, Locking.lock_rules, LockLaw.lock_kernel}
+use Rattle.layer_traits.specs.{LockLaw.slept_for, Payloads.cv_meant, Payloads.lock_meant, Plans.table_of, QueueBlocks.homes_in, QueueRules.queue_rules}
+use Rattle.layer_traits.specs.{Queues.moves_in}
+use Rattle.event_log.specs.declared.ids.{BufId.BufId, TheConstants.THREADS, LockId.TheVariants.Buffer}
 use Rattle.condvar.specs.Waiting.{is_wait}
-use Rattle.condvar.proofs.CondLemmas.{complete_told, current_awake, current_small, lock_tells, over_polled, waits_follow, waits_polled, waits_told}
-use Rattle.condvar.proofs.CondLemmas.{wake_ended, wake_kept, wake_told}
-use Rattle.condvar.proofs.cond.CondThreadLayerCvLaw.poll.Given.{Over}
+use Rattle.condvar.proofs.{CondLemmas.complete_told, CondLemmas.current_awake, CondLemmas.current_small, CondLemmas.lock_tells, CondLemmas.over_polled}
+use Rattle.condvar.proofs.{CondLemmas.waits_follow, CondLemmas.waits_polled, CondLemmas.waits_told, CondLemmas.wake_ended, CondLemmas.wake_kept}
+use Rattle.condvar.proofs.{CondLemmas.wake_told, cond.CondThreadLayerCvLaw.poll.Given.Over, cond.CondThreadLayerCvLaw.poll.Goals.After-caller_of-t}
+use Rattle.condvar.proofs.{cond.CondThreadLayerCvLaw.poll.Goals.After-complete}
 use Rattle.condvar.proofs.cond.CondThreadLayerCvLaw.poll.Goals as goal
-use Rattle.condvar.proofs.cond.CondThreadLayerCvLaw.poll.Goals.{After-caller_of-t, After-complete}
 
 -- the caller is a thread of the machine
 small : (g : Over) (c : After-caller_of-t g) → c.caller_of-t.result.0 < THREADS

@@ -1,8 +1,6 @@
 use Rattle.std.proofs.Common.{refl, ◌∙◌, sym}
-use Rattle.cpu.proofs.Schedules.{current_within}
-use Rattle.cpu.proofs.TableCalls.{stopped_steps}
-use Rattle.cpu.proofs.CpuStates.{valid_cpu}
-use Rattle.cpu.proofs.Layered.{laws_of, layered, runs_home, observed_cpu, observed_outset, left_alone}
+use Rattle.cpu.proofs.{Schedules.current_within, TableCalls.stopped_steps, CpuStates.valid_cpu, Layered.laws_of, Layered.layered, Layered.runs_home}
+use Rattle.cpu.proofs.{Layered.observed_cpu, Layered.observed_outset, Layered.left_alone}
 use Rattle.cpu.proofs.cpus.Cpu.act.Goals as goal
 
 pub reason-requires : goal.reason-requires

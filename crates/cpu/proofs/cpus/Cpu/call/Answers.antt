@@ -1,17 +1,12 @@
 use Rattle.std.proofs.Common.{◌<◌, ◌++◌, length, Option, refl, ap, sym, ◌∙◌, subst, arith, vec_capacity}
 use Rattle.event_log.specs.declared.ids.CpuId.{CpuId}
-use Rattle.layer_traits.specs.declared.calls.Effect.{Effect}
-use Rattle.layer_traits.specs.BufferLaw.{answer_in, buffer_of, call_state_of, answer_with}
-use Rattle.cpu.specs.Guests.{entries_of, polled}
-use Rattle.cpu.specs.Cpus.{ActsGrow, programs_of, fresh_at, guest_at, stands_at, with_guest}
-use Rattle.cpu.proofs.GuestLists.{programs_with}
-use Rattle.cpu.proofs.Passing.{called_grows, follows_grow}
-use Rattle.cpu.proofs.Steps.{PolledCpu, noted_call, poll_buffer, poll_number, poll_room, poll_call_states, poll_within, polls_at}
-use Rattle.layer_traits.specs.QueueBlocks.{homes_in}
-use Rattle.cpu.proofs.TableCalls.{ObservedPoll, call_steps, call_tabled, hand_preserved}
-use Rattle.cpu.proofs.CpuStates.{valid_cpu}
-use Rattle.cpu.proofs.Layered.{acts_for, laws_of, layered, runs_home, observed_cpu, observed_outset}
-use Rattle.cpu.proofs.cpus.Cpu.call.Given.{Over}
+use Rattle.layer_traits.specs.{declared.calls.Effect.Effect, BufferLaw.answer_in, BufferLaw.buffer_of, BufferLaw.call_state_of, BufferLaw.answer_with}
+use Rattle.layer_traits.specs.{QueueBlocks.homes_in}
+use Rattle.cpu.specs.{Guests.entries_of, Guests.polled, Cpus.ActsGrow, Cpus.programs_of, Cpus.fresh_at, Cpus.guest_at, Cpus.stands_at, Cpus.with_guest}
+use Rattle.cpu.proofs.{GuestLists.programs_with, Passing.called_grows, Passing.follows_grow, Steps.PolledCpu, Steps.noted_call, Steps.poll_buffer}
+use Rattle.cpu.proofs.{Steps.poll_number, Steps.poll_room, Steps.poll_call_states, Steps.poll_within, Steps.polls_at, TableCalls.ObservedPoll}
+use Rattle.cpu.proofs.{TableCalls.call_steps, TableCalls.call_tabled, TableCalls.hand_preserved, CpuStates.valid_cpu, Layered.acts_for, Layered.laws_of}
+use Rattle.cpu.proofs.{Layered.layered, Layered.runs_home, Layered.observed_cpu, Layered.observed_outset, cpus.Cpu.call.Given.Over}
 use Rattle.cpu.proofs.cpus.Cpu.call.Goals as goal
 
 pub call_of-call-requires-clause-within : goal.call_of-call-requires-clause-within

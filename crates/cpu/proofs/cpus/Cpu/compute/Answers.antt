@@ -1,13 +1,8 @@
 use Rattle.std.proofs.Common.{List, length, Option, refl, ap, sym, ◌∙◌, subst, vec_capacity}
-use Rattle.cpu.specs.declared.guests.Guest.{Guest}
-use Rattle.cpu.specs.Cpus.{IsCpu, programs_of}
-use Rattle.cpu.proofs.GuestLists.{programs_with}
-use Rattle.cpu.proofs.Schedules.{noted_compute}
+use Rattle.cpu.specs.{declared.guests.Guest.Guest, Cpus.IsCpu, Cpus.programs_of, Tables.IsTabled, Tables.WentByTable}
+use Rattle.cpu.proofs.{GuestLists.programs_with, Schedules.noted_compute, TableCalls.computed_steps, TableCalls.computed_tabled, CpuStates.valid_cpu}
+use Rattle.cpu.proofs.{Layered.laws_of, Layered.layered, Layered.observed_cpu, Layered.observed_outset, Layered.left_alone}
 use Rattle.layer_traits.specs.declared.steps.Step.TheVariants.{Stepped}
-use Rattle.cpu.specs.Tables.{IsTabled, WentByTable}
-use Rattle.cpu.proofs.TableCalls.{computed_steps, computed_tabled}
-use Rattle.cpu.proofs.CpuStates.{valid_cpu}
-use Rattle.cpu.proofs.Layered.{laws_of, layered, observed_cpu, observed_outset, left_alone}
 use Rattle.cpu.proofs.cpus.Cpu.compute.Goals as goal
 
 pub returns-clause-is : goal.returns-clause-is

@@ -1,6 +1,4 @@
-use Rattle.cpu.proofs.Schedules.{current_within}
-use Rattle.cpu.proofs.CpuStates.{valid_cpu}
-use Rattle.cpu.proofs.Layered.{laws_of, layered, runs_home}
+use Rattle.cpu.proofs.{Schedules.current_within, CpuStates.valid_cpu, Layered.laws_of, Layered.layered, Layered.runs_home}
 use Rattle.cpu.proofs.cpus.Cpu.go.Goals as goal
 
 pub choice-requires : goal.choice-requires

@@ -1,10 +1,7 @@
 use Rattle.std.proofs.Common.{ap, subst, refl, ◌∙◌}
 use Rattle.event_log.specs.declared.ids.CpuId.{CpuId}
 use Rattle.layer_traits.specs.Looks.{Tries}
-use Rattle.cpu.proofs.CpuStates.{valid_cpu}
-use Rattle.cpu.proofs.Passing.{look_grows, others_same, others_grow}
-use Rattle.cpu.proofs.Schedules.{seen_stays}
-use Rattle.cpu.proofs.TableCalls.{looked_steps}
+use Rattle.cpu.proofs.{CpuStates.valid_cpu, Passing.look_grows, Passing.others_same, Passing.others_grow, Schedules.seen_stays, TableCalls.looked_steps}
 use Rattle.cpu.proofs.cpus.Cpu.look.Goals as goal
 
 pub returns-clause-is : goal.returns-clause-is

@@ -1,17 +1,11 @@
-use Rattle.std.proofs.Common.{rules, ◌≡◌, true, false, ◌++◌, Option, is_some, ap, sym, refl}
-use Rattle.std.proofs.Common.{◌∙◌, subst, if◌then◌else◌}
-use Rattle.event_log.specs.declared.ids.CpuId.{CpuId}
-use Rattle.event_log.specs.declared.ids.Tid.{Tid}
-use Rattle.layer_traits.specs.Places.{pending_by}
+use Rattle.std.proofs.Common.{rules, ◌≡◌, true, false, ◌++◌, Option, is_some, ap, sym, refl, ◌∙◌, subst, if◌then◌else◌}
+use Rattle.event_log.specs.declared.ids.{CpuId.CpuId, Tid.Tid}
+use Rattle.layer_traits.specs.{Places.pending_by, QueueBlocks.homes_in, BufferLaw.MovesGrow}
 use Rattle.cpu.specs.Cpus.{ActsGrow, passed_by, programs_of}
 use Rattle.cpu.proofs.Passing.{under_way_done, under_way_waits, follows_grow, others_same, programs_passed, passed_grows, others_grow}
-use Rattle.cpu.proofs.Schedules.{current_within, may_pass, noted_done, noted_wait}
-use Rattle.layer_traits.specs.QueueBlocks.{homes_in}
-use Rattle.layer_traits.specs.BufferLaw.{MovesGrow}
-use Rattle.cpu.proofs.TableCalls.{ObservedPass, hand_preserved, passed_steps, passed_tabled}
-use Rattle.cpu.proofs.CpuStates.{valid_cpu}
-use Rattle.cpu.proofs.Layered.{acts_for, laws_of, layered, runs_home, observed_cpu, observed_outset}
-use Rattle.cpu.proofs.cpus.Cpu.pass.Given.{Over}
+use Rattle.cpu.proofs.{Schedules.current_within, Schedules.may_pass, Schedules.noted_done, Schedules.noted_wait, TableCalls.ObservedPass}
+use Rattle.cpu.proofs.{TableCalls.hand_preserved, TableCalls.passed_steps, TableCalls.passed_tabled, CpuStates.valid_cpu, Layered.acts_for, Layered.laws_of}
+use Rattle.cpu.proofs.{Layered.layered, Layered.runs_home, Layered.observed_cpu, Layered.observed_outset, cpus.Cpu.pass.Given.Over}
 use Rattle.cpu.proofs.cpus.Cpu.pass.Goals as goal
 
 pub pass-done-requires-clause-may : goal.pass-done-requires-clause-may

@@ -2,21 +2,13 @@ use Rattle.std.proofs.Common.{◌≡◌, ◌<◌, ℕ, List, length, map, ap, sy
 use Rattle.std.specs.Prelude.{Option, Some, slice_get}
 use Rattle.std.proofs.lemmas.Option.{slice_get_within}
 use Rattle.event_log.specs.declared.ids.CpuId.{CpuId}
-use Rattle.layer_traits.specs.declared.steps.Step.TheVariants.{Stepped}
-use Rattle.layer_traits.specs.Along.{IsStep}
-use Rattle.layer_traits.specs.OnePlace.{cpu_at}
-use Rattle.cpu.specs.declared.cpus.Cpu.{Cpu}
-use Rattle.cpu.specs.Table.Steps.{cpu_step}
-use Rattle.cpu.specs.Tower.Composed.{named}
-use Rattle.cpu.specs.Systems.{own_reason, own_reason_in, reason_or}
-use Rattle.cpu.specs.Sound.{IsReachedByTable}
-use Rattle.cpu.proofs.Sounding.{Change, new_of, old_of, reached_on, same_plan, went_so}
-use Rattle.cpu.proofs.TableSystems.{own_live, shown_step}
-use Rattle.cpu.specs.Claims.{CpuShown, Shown}
-use Rattle.cpu.proofs.Advances.{live_room}
-use Rattle.cpu.proofs.ListReads.{read_at, shows_at}
+use Rattle.layer_traits.specs.{declared.steps.Step.TheVariants.Stepped, Along.IsStep, OnePlace.cpu_at}
+use Rattle.cpu.specs.{declared.cpus.Cpu.Cpu, Table.Steps.cpu_step, Tower.Composed.named, Systems.own_reason, Systems.own_reason_in, Systems.reason_or}
+use Rattle.cpu.specs.{Sound.IsReachedByTable, Claims.CpuShown, Claims.Shown}
+use Rattle.cpu.proofs.{Sounding.Change, Sounding.new_of, Sounding.old_of, Sounding.reached_on, Sounding.same_plan, Sounding.went_so, TableSystems.own_live}
+use Rattle.cpu.proofs.{TableSystems.shown_step, Advances.live_room, ListReads.read_at, ListReads.shows_at, LayeredSteps.shown_by, LayeredSteps.observed_by}
+use Rattle.cpu.proofs.{LayeredSteps.went_on, LayeredSteps.plan_preserved}
 use Rattle.cpu.proofs.systems.System.advance.Goals as goal
-use Rattle.cpu.proofs.LayeredSteps.{shown_by, observed_by, went_on, plan_preserved}
 
 pub go-requires-clause-number : goal.go-requires-clause-number
 go-requires-clause-number g c =

@@ -1,10 +1,7 @@
 use Rattle.std.proofs.Common.{subst, arith}
 use Rattle.std.proofs.lemmas.List.{length-map}
-use Rattle.cpu.specs.declared.cpus.Cpu.{Cpu}
-use Rattle.cpu.specs.Claims.{Shown, cpu_shown}
-use Rattle.cpu.specs.Sound.{ReturnsAlone}
-use Rattle.cpu.proofs.ListReads.{there_is}
-use Rattle.cpu.proofs.Sounding.{alone_of}
+use Rattle.cpu.specs.{declared.cpus.Cpu.Cpu, Claims.Shown, Claims.cpu_shown, Sound.ReturnsAlone}
+use Rattle.cpu.proofs.{ListReads.there_is, Sounding.alone_of}
 use Rattle.cpu.proofs.systems.System.alone.Goals as goal
 
 pub returns : goal.returns

@@ -1,6 +1,5 @@
 use Rattle.std.proofs.Common.{◌≡◌, ◌<◌, None, ap, sym, ◌∙◌, subst, arith, option_map}
-use Rattle.event_log.specs.declared.ids.TheConstants.{CPUS}
-use Rattle.event_log.specs.Buffers.{items_of}
+use Rattle.event_log.specs.{declared.ids.TheConstants.CPUS, Buffers.items_of}
 use Rattle.cpu.specs.Claims.{Shown}
 use Rattle.cpu.proofs.Observers.{held_here, item_at, up_to, up_to_end}
 use Rattle.cpu.proofs.systems.System.buffer.Goals as goal

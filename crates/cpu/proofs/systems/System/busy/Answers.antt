@@ -2,8 +2,7 @@ use Rattle.std.proofs.Common.{◌≡◌, ◌<◌, None, length, sym, ◌∙◌, 
 use Rattle.std.specs.Prelude.{slice_index_or}
 use Rattle.event_log.specs.declared.ids.TheConstants.{CPUS}
 use Rattle.cpu.specs.Claims.{Shown, buffer_at}
-use Rattle.cpu.proofs.ListReads.{listed_there}
-use Rattle.cpu.proofs.Observers.{held_here, item_at, up_to, up_to_end}
+use Rattle.cpu.proofs.{ListReads.listed_there, Observers.held_here, Observers.item_at, Observers.up_to, Observers.up_to_end}
 use Rattle.cpu.proofs.systems.System.busy.Goals as goal
 
 pub busy_in-requires-clause-acts : goal.busy_in-requires-clause-acts

@@ -2,18 +2,11 @@ use Rattle.std.proofs.Common.{◌≡◌, ℕ, map, Some, ap, sym, ◌∙◌, sub
 use Rattle.std.proofs.lemmas.Option.{same_Some}
 use Rattle.std.specs.Prelude.{Option, slice_get}
 use Rattle.event_log.specs.declared.ids.CpuId.{CpuId}
-use Rattle.cpu.specs.declared.cpus.Cpu.{Cpu}
-use Rattle.cpu.specs.Claims.{CpuShown, Shown, cpu_shown}
-use Rattle.cpu.specs.Systems.{halted_in, own_reason_in}
-use Rattle.cpu.proofs.ListReads.{read_at, shows_at}
-use Rattle.cpu.proofs.Schedules.{current_within}
+use Rattle.cpu.specs.{declared.cpus.Cpu.Cpu, Claims.CpuShown, Claims.Shown, Claims.cpu_shown, Systems.halted_in, Systems.own_reason_in, Cpus.step_answer}
+use Rattle.cpu.specs.{Table.Steps.cpu_step, Tower.Composed.named}
+use Rattle.cpu.proofs.{ListReads.read_at, ListReads.shows_at, Schedules.current_within, TableCalls.answers_step, CpuStates.valid_cpu, Layered.laws_of}
+use Rattle.cpu.proofs.{Layered.layered, Layered.runs_home, Layered.observed_cpu, Layered.observed_outset}
 use Rattle.layer_traits.specs.OnePlace.{cpu_at}
-use Rattle.cpu.specs.Cpus.{step_answer}
-use Rattle.cpu.specs.Table.Steps.{cpu_step}
-use Rattle.cpu.specs.Tower.Composed.{named}
-use Rattle.cpu.proofs.TableCalls.{answers_step}
-use Rattle.cpu.proofs.CpuStates.{valid_cpu}
-use Rattle.cpu.proofs.Layered.{laws_of, layered, runs_home, observed_cpu, observed_outset}
 use Rattle.cpu.proofs.systems.System.halted.Goals as goal
 
 pub reason-requires : goal.reason-requires

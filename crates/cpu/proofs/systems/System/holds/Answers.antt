@@ -1,40 +1,21 @@
 use Rattle.std.proofs.Common.{◌≡◌, ◌<◌, ◌^◌, length, map, reverse, refl, ap, sym, ◌∙◌, subst, arith}
 use Rattle.std.specs.List.{AllByRecursion}
 use Rattle.std.proofs.lemmas.List.{length-map}
-use Rattle.event_log.specs.declared.entries.Entry.{Entry}
-use Rattle.event_log.specs.declared.ids.TheConstants.{CPUS}
-use Rattle.event_log.proofs.Streams.{taken_put}
+use Rattle.event_log.specs.{declared.entries.Entry.Entry, declared.ids.TheConstants.CPUS, declared.ids.CpuId.CpuId, declared.ids.LockId.TheVariants.Pending}
+use Rattle.event_log.specs.{Actions.phase}
+use Rattle.event_log.proofs.{Streams.taken_put, Renaming.phase_renamed}
 use Rattle.layer_traits.proofs.EffectRunLemmas.{effects_are_run}
 use Rattle.cpu.specs.Claims.{CpuShown, FollowPrograms, HasOneOrder, MovesAgree, Shown, StandsOnce, StayHome, buffer_at}
-use Rattle.cpu.proofs.ListReads.{there_is}
-use Rattle.cpu.proofs.Onces.{once_of}
-use Rattle.cpu.proofs.Orders.{closed_by_order, follow_programs, stay_home, traces_interleaved}
-use Rattle.cpu.specs.Sound.{SoundByTable}
-use Rattle.cpu.proofs.Sounding.{shown_in, sound_of}
+use Rattle.cpu.proofs.{ListReads.there_is, Onces.once_of, Orders.closed_by_order, Orders.follow_programs, Orders.stay_home, Orders.traces_interleaved}
+use Rattle.cpu.proofs.{Sounding.shown_in, Sounding.sound_of, ListReads.shown_at, ListReads.shows_at, TableCalls.halted_read, Placing.ended_is}
+use Rattle.cpu.proofs.{Placing.place_read, Observing.has_buffer, Observing.pending_read, Layered.laws_of, Layered.layered, Layered.observed_cpu}
+use Rattle.cpu.proofs.{LayeredSteps.shown_by, LayeredSteps.cpus_have, LayeredSteps.observed_by}
+use Rattle.cpu.specs.{Sound.SoundByTable, Cpus.halted_at as own_halted_at, Sound.IsSetupFor, Table.Blocks.OfPending, Table.Setups.Setup, Table.Steps.block_at}
+use Rattle.cpu.specs.{Table.Steps.halted_at, Observed.CpuIsObserved, Observed.HasBuffer, Observed.ObservedByTable, Tower.Composed.named, Tower.Views.name_of}
 use Rattle.std.specs.Prelude.{ℕ, Some, slice_get}
 use Rattle.thread_blocks.specs.Queues.{is_in}
-use Rattle.event_log.specs.declared.ids.CpuId.{CpuId}
-use Rattle.event_log.specs.declared.ids.LockId.TheVariants.{Pending}
-use Rattle.event_log.specs.Actions.{phase}
-use Rattle.event_log.proofs.Renaming.{phase_renamed}
-use Rattle.layer_traits.specs.OnePlace.{cpu_at}
-use Rattle.layer_traits.specs.Places.{Threads, pending_by}
-use Rattle.layer_traits.specs.Plans.{is_in_section}
-use Rattle.cpu.specs.Cpus.{halted_at as own_halted_at}
-use Rattle.cpu.specs.Sound.{IsSetupFor}
-use Rattle.cpu.specs.Table.Blocks.{OfPending}
-use Rattle.cpu.specs.Table.Setups.{Setup}
-use Rattle.cpu.specs.Table.Steps.{block_at, halted_at}
-use Rattle.cpu.specs.Observed.{CpuIsObserved, HasBuffer, ObservedByTable}
-use Rattle.cpu.specs.Tower.Composed.{named}
-use Rattle.cpu.specs.Tower.Views.{name_of}
-use Rattle.cpu.proofs.ListReads.{shown_at, shows_at}
-use Rattle.cpu.proofs.TableCalls.{halted_read}
-use Rattle.cpu.proofs.Placing.{ended_is, place_read}
-use Rattle.cpu.proofs.Observing.{has_buffer, pending_read}
-use Rattle.cpu.proofs.Layered.{laws_of, layered, observed_cpu}
+use Rattle.layer_traits.specs.{OnePlace.cpu_at, Places.Threads, Places.pending_by, Plans.is_in_section}
 use Rattle.cpu.proofs.systems.System.holds.Goals as goal
-use Rattle.cpu.proofs.LayeredSteps.{shown_by, cpus_have, observed_by}
 
 pub returns-clause-sound : goal.returns-clause-sound
 returns-clause-sound g c = λ step. subst (λ (s : Shown). SoundByTable s) c.self.view_is (sound_of _ (c.self.invariant.sound.1 step))

@@ -1,10 +1,8 @@
 use Rattle.std.proofs.Common.{◌≡◌, ◌<◌, false, length, None, sym, ◌∙◌, subst, arith}
 use Rattle.std.specs.Prelude.{slice_index_or}
-use Rattle.event_log.specs.declared.ids.TheConstants.{CPUS}
-use Rattle.event_log.specs.Runs.{is_closed}
+use Rattle.event_log.specs.{declared.ids.TheConstants.CPUS, Runs.is_closed}
 use Rattle.cpu.specs.Claims.{Shown}
-use Rattle.cpu.proofs.ListReads.{listed_there}
-use Rattle.cpu.proofs.Observers.{held_here, item_at, up_to, up_to_end}
+use Rattle.cpu.proofs.{ListReads.listed_there, Observers.held_here, Observers.item_at, Observers.up_to, Observers.up_to_end}
 use Rattle.cpu.proofs.systems.System.is_closed.Goals as goal
 
 pub closed_at_home-requires-clause-acts : goal.closed_at_home-requires-clause-acts

@@ -2,21 +2,12 @@ use Rattle.std.proofs.Common.{rules, ◌≡◌, ◌<◌, ℕ, List, length, map,
 use Rattle.std.specs.Prelude.{slice_get}
 use Rattle.std.proofs.lemmas.Option.{slice_get_within}
 use Rattle.event_log.specs.declared.ids.CpuId.{CpuId}
-use Rattle.layer_traits.specs.declared.steps.Step.TheVariants.{Stepped}
-use Rattle.layer_traits.specs.Along.{IsStep}
-use Rattle.layer_traits.specs.OnePlace.{cpu_at}
-use Rattle.cpu.specs.declared.cpus.Cpu.{Cpu}
-use Rattle.cpu.specs.Table.Steps.{cpu_step}
-use Rattle.cpu.specs.Tower.Composed.{named}
-use Rattle.cpu.specs.Sound.{IsReachedByTable}
-use Rattle.cpu.proofs.Sounding.{Change, new_of, old_of, reached_on, same_plan, went_so}
-use Rattle.cpu.proofs.TableSystems.{shown_step}
-use Rattle.cpu.specs.Claims.{Shown}
-use Rattle.cpu.specs.Systems.{reason_of}
-use Rattle.cpu.proofs.Advances.{again, live_of}
-use Rattle.cpu.proofs.ListReads.{read_at, shows_at}
+use Rattle.layer_traits.specs.{declared.steps.Step.TheVariants.Stepped, Along.IsStep, OnePlace.cpu_at}
+use Rattle.cpu.specs.{declared.cpus.Cpu.Cpu, Table.Steps.cpu_step, Tower.Composed.named, Sound.IsReachedByTable, Claims.Shown, Systems.reason_of}
+use Rattle.cpu.proofs.{Sounding.Change, Sounding.new_of, Sounding.old_of, Sounding.reached_on, Sounding.same_plan, Sounding.went_so, TableSystems.shown_step}
+use Rattle.cpu.proofs.{Advances.again, Advances.live_of, ListReads.read_at, ListReads.shows_at, LayeredSteps.shown_by, LayeredSteps.observed_by}
+use Rattle.cpu.proofs.{LayeredSteps.went_on, LayeredSteps.works_by, LayeredSteps.plan_preserved}
 use Rattle.cpu.proofs.systems.System.looks.Goals as goal
-use Rattle.cpu.proofs.LayeredSteps.{shown_by, observed_by, went_on, works_by, plan_preserved}
 
 pub look-requires-clause-number : goal.look-requires-clause-number
 look-requires-clause-number g c =

@@ -1,9 +1,8 @@
 use Rattle.std.proofs.Common.{◌<◌, map, ◌∙◌, arith}
 use Rattle.event_log.specs.declared.ids.TheConstants.{CPUS}
-use Rattle.cpu.proofs.ListReads.{shows_at, there_is}
-use Rattle.cpu.proofs.Observers.{item_at, own_place, wait_channel_here, up_to, up_to_end}
+use Rattle.cpu.proofs.{ListReads.shows_at, ListReads.there_is, Observers.item_at, Observers.own_place, Observers.wait_channel_here, Observers.up_to}
+use Rattle.cpu.proofs.{Observers.up_to_end, LayeredSteps.shown_by}
 use Rattle.cpu.proofs.systems.System.place.Goals as goal
-use Rattle.cpu.proofs.LayeredSteps.{shown_by}
 
 pub returns-in-Some : goal.returns-in-Some
 returns-in-Some g c =

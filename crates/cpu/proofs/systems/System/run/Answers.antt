@@ -1,7 +1,6 @@
 use Rattle.std.proofs.Common.{refl}
 use Rattle.cpu.specs.Systems.{starts}
-use Rattle.cpu.proofs.Sounding.{ran_on, went_by}
-use Rattle.cpu.proofs.TableSystems.{ran_more, same_plans, went_on}
+use Rattle.cpu.proofs.{Sounding.ran_on, Sounding.went_by, TableSystems.ran_more, TableSystems.same_plans, TableSystems.went_on}
 use Rattle.cpu.proofs.systems.System.run.Goals as goal
 
 pub loop-cpu-init : goal.loop-cpu-init

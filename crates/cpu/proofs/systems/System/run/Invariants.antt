@@ -1,6 +1,5 @@
 use Rattle.std.proofs.Common.{take}
-use Rattle.cpu.specs.Sound.{RanByTable}
-use Rattle.cpu.specs.Systems.{Ran, SamePlan}
+use Rattle.cpu.specs.{Sound.RanByTable, Systems.Ran, Systems.SamePlan}
 use Rattle.cpu.proofs.systems.System.run.Given as goal
 
 abbrev pub invariant-loop-cpu : goal.invariant-loop-cpu

@@ -1,7 +1,6 @@
 use Rattle.std.proofs.Common.{rules, ◌≡◌, ◌<◌, false, length, Some, ap, sym, ◌∙◌, subst}
 use Rattle.layer_traits.specs.declared.steps.Step.TheVariants.{Halted}
-use Rattle.cpu.specs.Claims.{Shown}
-use Rattle.cpu.specs.Systems.{SteppedByTable}
+use Rattle.cpu.specs.{Claims.Shown, Systems.SteppedByTable}
 use Rattle.cpu.proofs.TableHalts.{halted_same, reasons_step}
 use Rattle.cpu.proofs.systems.System.step.Goals as goal
 

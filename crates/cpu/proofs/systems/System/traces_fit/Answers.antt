@@ -1,9 +1,7 @@
 use Rattle.std.proofs.Common.{◌≤◌, length, subst, arith}
-use Rattle.cpu.specs.Calm.{TracesFit}
-use Rattle.cpu.specs.Claims.{CpuShown, Shown}
-use Rattle.cpu.proofs.ListReads.{shown_at}
+use Rattle.cpu.specs.{Calm.TracesFit, Claims.CpuShown, Claims.Shown}
+use Rattle.cpu.proofs.{ListReads.shown_at, LayeredSteps.shown_by}
 use Rattle.cpu.proofs.systems.System.traces_fit.Goals as goal
-use Rattle.cpu.proofs.LayeredSteps.{shown_by}
 
 pub returns : goal.returns
 returns g c =

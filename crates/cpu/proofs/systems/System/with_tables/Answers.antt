@@ -1,21 +1,12 @@
 use Rattle.std.proofs.Common.{◌≡◌, ◌<◌, ◌^◌, ℕ, [], List, Option, length, map, refl, ap, sym, ◌∙◌, subst, arith}
 use Rattle.std.specs.Prelude.{slice_index_or}
-use Rattle.std.proofs.lemmas.List.{length-map}
-use Rattle.std.proofs.lemmas.Option.{slice_get-get_or, slice_get_within}
+use Rattle.std.proofs.lemmas.{List.length-map, Option.slice_get-get_or, Option.slice_get_within}
 use Rattle.layer_traits.specs.OnePlace.{cpu_at}
-use Rattle.cpu.specs.declared.cpus.Cpu.{Cpu}
-use Rattle.cpu.specs.declared.guests.Guest.{Guest}
-use Rattle.event_log.specs.declared.ids.CpuId.{CpuId}
-use Rattle.event_log.specs.Actions.{Action}
-use Rattle.cpu.specs.Boots.{AreGuests}
-use Rattle.cpu.specs.Claims.{cpu_shown, shown_of}
-use Rattle.cpu.specs.Sound.{BootsByTable}
-use Rattle.cpu.specs.Tables.{IsTabled, private}
-use Rattle.cpu.specs.Tower.Composed.{named}
-use Rattle.cpu.proofs.ListReads.{shown_at}
-use Rattle.cpu.proofs.Started.{IsNew, starts_by_table}
-use Rattle.cpu.proofs.TableCalls.{boots_tabled}
-use Rattle.cpu.proofs.Booting.{all_one, boots_as, opens, shows_all}
+use Rattle.cpu.specs.{declared.cpus.Cpu.Cpu, declared.guests.Guest.Guest, Boots.AreGuests, Claims.cpu_shown, Claims.shown_of, Sound.BootsByTable}
+use Rattle.cpu.specs.{Tables.IsTabled, Tables.private, Tower.Composed.named}
+use Rattle.event_log.specs.{declared.ids.CpuId.CpuId, Actions.Action}
+use Rattle.cpu.proofs.{ListReads.shown_at, Started.IsNew, Started.starts_by_table, TableCalls.boots_tabled, Booting.all_one, Booting.boots_as, Booting.opens}
+use Rattle.cpu.proofs.{Booting.shows_all}
 use Rattle.cpu.proofs.systems.System.with_tables.Goals as goal
 
 pub assembled-requires : goal.assembled-requires

@@ -1,9 +1,7 @@
 use Rattle.std.proofs.Common.{◌≡◌, ◌∷◌, ◌<◌, [], List, Option, Some, drop, length, map, ap, ◌∙◌, subst, arith, vec_capacity}
 use Rattle.std.specs.Prelude.{slice_get, slice_index_or}
 use Rattle.std.proofs.lemmas.List.{length-append}
-use Rattle.cpu.specs.declared.cpus.Cpu.{Cpu}
-use Rattle.cpu.specs.declared.guests.Guest.{Guest}
-use Rattle.cpu.specs.Boots.{IsBooted, IsBootedAs}
+use Rattle.cpu.specs.{declared.cpus.Cpu.Cpu, declared.guests.Guest.Guest, Boots.IsBooted, Boots.IsBootedAs}
 use Rattle.cpu.proofs.Booting.{at_end, drop_more, first_left}
 use Rattle.cpu.proofs.systems.opening.cpus_at_boot.Goals as goal
 

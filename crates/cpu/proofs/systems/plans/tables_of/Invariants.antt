@@ -1,6 +1,5 @@
 use Rattle.std.proofs.Common.{◌≡◌, ◌≤◌, length, map, vec_capacity}
-use Rattle.cpu.specs.Boots.{guests_for}
-use Rattle.cpu.specs.Claims.{listed}
+use Rattle.cpu.specs.{Boots.guests_for, Claims.listed}
 use Rattle.cpu.proofs.systems.plans.tables_of.Given as goal
 
 abbrev pub invariant-loop-number : goal.invariant-loop-number

@@ -1,14 +1,8 @@
 use Rattle.std.proofs.Common.{◌≡◌, false, List, map, reverse, ap, sym, ◌∙◌, subst}
-use Rattle.event_log.specs.declared.entries.Entry.{Entry}
-use Rattle.event_log.specs.declared.ids.CpuId.{CpuId}
-use Rattle.event_log.specs.Actions.{phase}
-use Rattle.event_log.specs.Sections.{sections_in}
-use Rattle.layer_traits.specs.BufferEffects.{effects_in}
-use Rattle.layer_traits.specs.Plans.{is_in_section}
-use Rattle.layer_traits.specs.Queues.{buffer_sections, event_of}
+use Rattle.event_log.specs.{declared.entries.Entry.Entry, declared.ids.CpuId.CpuId, Actions.phase, Sections.sections_in}
+use Rattle.layer_traits.specs.{BufferEffects.effects_in, Plans.is_in_section, Queues.buffer_sections, Queues.event_of}
 use Rattle.cpu.specs.Cpus.{of_cpu}
-use Rattle.cpu_workers.specs.Callers.{CallerView}
-use Rattle.cpu_workers.specs.Orders.{IsTraceOf}
+use Rattle.cpu_workers.specs.{Callers.CallerView, Orders.IsTraceOf}
 use Rattle.cpu_workers.proofs.callers.Caller.into_machine.Goals as goal
 
 pub returns-clause-trace : goal.returns-clause-trace

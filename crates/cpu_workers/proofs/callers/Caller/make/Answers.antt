@@ -1,10 +1,7 @@
 use Rattle.std.proofs.Common.{◌∷◌, [], List, length, reverse, ap, sym, ◌∙◌, subst, arith}
 use Rattle.std.proofs.lemmas.List.{reverse-append}
-use Rattle.event_log.specs.declared.entries.Entry.{Entry}
-use Rattle.event_log.specs.declared.ids.CpuId.{CpuId}
-use Rattle.layer_traits.specs.BufferEffects.{opening_locks}
-use Rattle.layer_traits.specs.BufferLaw.{buffer_of, entry_of}
-use Rattle.layer_traits.specs.QueueBlocks.{inner}
+use Rattle.event_log.specs.declared.{entries.Entry.Entry, ids.CpuId.CpuId}
+use Rattle.layer_traits.specs.{BufferEffects.opening_locks, BufferLaw.buffer_of, BufferLaw.entry_of, QueueBlocks.inner}
 use Rattle.cpu.specs.Cpus.{of_cpu}
 use Rattle.cpu_workers.specs.Calls.{Returned}
 use Rattle.cpu_workers.proofs.Making.{newest_carries}

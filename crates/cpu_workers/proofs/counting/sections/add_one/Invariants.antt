@@ -1,7 +1,6 @@
 use Rattle.std.proofs.Common.{◌≡◌}
 use Rattle.event_log.specs.declared.ids.CpuId.{CpuId}
-use Rattle.layer_traits.specs.Protocol.{section}
-use Rattle.layer_traits.specs.BufferLaw.{MayGoOn}
+use Rattle.layer_traits.specs.{Protocol.section, BufferLaw.MayGoOn}
 use Rattle.cpu_workers.specs.Counts.{made}
 use Rattle.cpu_workers.proofs.counting.sections.add_one.Given as goal
 

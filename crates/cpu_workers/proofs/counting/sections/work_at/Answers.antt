@@ -1,6 +1,5 @@
 use Rattle.std.proofs.Common.{◌≡◌, ◌+◌, IsSome, add_assoc, ap, subst, sym, ◌∙◌}
-use Rattle.cpu_workers.specs.declared.counting.TheConstants.{NUMBER}
-use Rattle.cpu_workers.specs.Counts.{made}
+use Rattle.cpu_workers.specs.{declared.counting.TheConstants.NUMBER, Counts.made}
 use Rattle.cpu_workers.proofs.counting.sections.work_at.Goals as goal
 
 pub add_one-requires-clause-lock : goal.add_one-requires-clause-lock

@@ -1,6 +1,5 @@
 use Rattle.std.proofs.Common.{◌≡◌, ◌+◌, None}
-use Rattle.cpu_workers.specs.declared.counting.TheConstants.{NUMBER}
-use Rattle.cpu_workers.specs.Counts.{made}
+use Rattle.cpu_workers.specs.{declared.counting.TheConstants.NUMBER, Counts.made}
 use Rattle.cpu_workers.proofs.counting.sections.work_at.Given as goal
 
 abbrev pub invariant-loop : goal.invariant-loop

@@ -1,8 +1,6 @@
 use Rattle.std.proofs.Common.{◌≡◌, ◌≤◌, ◌++◌, [], ◌∷◌, length, sym, subst, rules, vec_capacity, vec_len}
 use Rattle.table_machine.proofs.Returning.{yield_more, no_more}
-use Rattle.cpu_workers.specs.declared.counting.TheConstants.{NUMBER}
-use Rattle.cpu_workers.specs.Counts.{HasMade}
-use Rattle.cpu_workers.specs.Reports.{Both}
+use Rattle.cpu_workers.specs.{declared.counting.TheConstants.NUMBER, Counts.HasMade, Reports.Both}
 use Rattle.cpu_workers.proofs.Counts.{both_more, both_length, room_for}
 use Rattle.cpu_workers.proofs.counting.threads.join_all.Goals as goal
 

@@ -1,7 +1,5 @@
 use Rattle.std.proofs.Common.{◌≡◌, ◌≤◌, ◌++◌, length, vec_capacity}
-use Rattle.cpu_workers.specs.declared.counting.TheConstants.{NUMBER}
-use Rattle.cpu_workers.specs.Counts.{HasMade}
-use Rattle.cpu_workers.specs.Reports.{Both}
+use Rattle.cpu_workers.specs.{declared.counting.TheConstants.NUMBER, Counts.HasMade, Reports.Both}
 use Rattle.cpu_workers.proofs.counting.threads.join_all.Given as goal
 
 abbrev pub invariant-loop-child : goal.invariant-loop-child

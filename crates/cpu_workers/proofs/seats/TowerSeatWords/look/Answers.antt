@@ -1,7 +1,5 @@
 use Rattle.std.proofs.Common.{ℕ, ap, sym, ◌∙◌, subst}
-use Rattle.event_log.specs.declared.events.Event.TheVariants.{Look}
-use Rattle.event_log.specs.History.{Adds}
-use Rattle.event_log.specs.WordsLog.{cpu_of_event}
+use Rattle.event_log.specs.{declared.events.Event.TheVariants.Look, History.Adds, WordsLog.cpu_of_event}
 use Rattle.layer_traits.specs.OneLock.{opened}
 use Rattle.table_machine.specs.SeatViews.{SeatView}
 use Rattle.cpu_workers.specs.Seating.{Block, Edit}

@@ -1,9 +1,7 @@
 use Rattle.std.proofs.Common.{◌≡◌, sym, ◌∙◌, subst}
 use Rattle.cpu.specs.Table.Steps.{halted_at}
-use Rattle.cpu.proofs.CpuStates.{valid_cpu}
-use Rattle.cpu.proofs.Schedules.{current_within}
-use Rattle.cpu.proofs.Layered.{laws_of, layered, runs_home, observed_cpu}
-use Rattle.cpu.proofs.TableCalls.{halted_read}
+use Rattle.cpu.proofs.{CpuStates.valid_cpu, Schedules.current_within, Layered.laws_of, Layered.layered, Layered.runs_home, Layered.observed_cpu}
+use Rattle.cpu.proofs.{TableCalls.halted_read}
 use Rattle.cpu_workers.specs.Working.{IsPlanned, Working}
 use Rattle.cpu_workers.proofs.Planning.{own_reason, planned}
 use Rattle.cpu_workers.proofs.worker.Worker.halted.Goals as goal

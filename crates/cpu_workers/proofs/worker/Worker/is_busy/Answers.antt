@@ -1,6 +1,5 @@
 use Rattle.std.proofs.Common.{◌≡◌, ap, sym, ◌∙◌, subst}
-use Rattle.event_log.specs.declared.ids.CpuId.{CpuId}
-use Rattle.event_log.specs.Actions.{phase}
+use Rattle.event_log.specs.{declared.ids.CpuId.CpuId, Actions.phase}
 use Rattle.event_log.proofs.Renaming.{phase_renamed}
 use Rattle.layer_traits.specs.Plans.{is_in_section}
 use Rattle.cpu.specs.Tower.Views.{name_of}

@@ -1,10 +1,7 @@
 use Rattle.std.proofs.Common.{ap, sym, ◌∙◌, subst}
 use Rattle.event_log.specs.declared.ids.CpuId.{CpuId}
-use Rattle.layer_traits.specs.BufferEffects.{opening_locks}
-use Rattle.layer_traits.specs.QueueBlocks.{inner}
-use Rattle.cpu.specs.Table.Steps.{cpu_step}
-use Rattle.cpu.specs.Tables.{private}
-use Rattle.cpu.specs.Tower.Composed.{named}
+use Rattle.layer_traits.specs.{BufferEffects.opening_locks, QueueBlocks.inner}
+use Rattle.cpu.specs.{Table.Steps.cpu_step, Tables.private, Tower.Composed.named}
 use Rattle.cpu_workers.proofs.Planning.{planned, step_behind}
 use Rattle.cpu_workers.proofs.worker.Worker.step.Goals as goal
 

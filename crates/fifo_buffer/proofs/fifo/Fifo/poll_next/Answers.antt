@@ -1,6 +1,5 @@
 use Rattle.layer_traits.specs.BufferLaw.{answer_in}
-use Rattle.fifo_buffer.proofs.SectionPollTaken.{taken}
-use Rattle.fifo_buffer.proofs.Twice.{completes_as}
+use Rattle.fifo_buffer.proofs.{SectionPollTaken.taken, Twice.completes_as}
 use Rattle.fifo_buffer.proofs.fifo.Fifo.poll_next.Goals as goal
 
 pub returns-clause-section_polled : goal.returns-clause-section_polled

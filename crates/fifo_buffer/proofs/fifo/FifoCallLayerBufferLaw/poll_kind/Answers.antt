@@ -1,28 +1,15 @@
 use Rattle.std.proofs.Common.{arith, ◌≡◌, ◌∙◌, ap, sym, subst, refl, true, false, Some, inl, inr, ◌≤◌, ◌+◌, ◌++◌, None, if◌then◌else◌}
-use Rattle.event_log.specs.declared.ids.CpuId.{CpuId}
-use Rattle.event_log.specs.declared.ids.Tid.{Tid}
-use Rattle.layer_traits.specs.declared.calls.Reply.{Reply}
-use Rattle.layer_traits.specs.declared.call_states.Stage.{Stage}
-use Rattle.layer_traits.specs.declared.call_states.CallState.{CallState}
-use Rattle.layer_traits.specs.BufferLaw.{Buffering, answer_in, buffer_of, buffering, going, plan_at, plan_of, replied, call_state_of}
-use Rattle.layer_traits.specs.BufferProtocol.{buffer_rules}
-use Rattle.layer_traits.specs.Locking.{lock_moves, lock_rules}
-use Rattle.layer_traits.specs.Plans.{Follows, Left, table_of}
-use Rattle.layer_traits.specs.QueueRules.{queue_rules}
-use Rattle.layer_traits.specs.QueueBlocks.{homes_in, inner}
-use Rattle.layer_traits.specs.Queues.{buffer_sections}
+use Rattle.event_log.specs.declared.ids.{CpuId.CpuId, Tid.Tid}
+use Rattle.layer_traits.specs.{declared.calls.Reply.Reply, declared.call_states.Stage.Stage, declared.call_states.CallState.CallState, BufferLaw.Buffering}
+use Rattle.layer_traits.specs.{BufferLaw.answer_in, BufferLaw.buffer_of, BufferLaw.buffering, BufferLaw.going, BufferLaw.plan_at, BufferLaw.plan_of}
+use Rattle.layer_traits.specs.{BufferLaw.replied, BufferLaw.call_state_of, BufferProtocol.buffer_rules, Locking.lock_moves, Locking.lock_rules, Plans.Follows}
+use Rattle.layer_traits.specs.{Plans.Left, Plans.table_of, QueueRules.queue_rules, QueueBlocks.homes_in, QueueBlocks.inner, Queues.buffer_sections}
 use Rattle.thread_blocks.specs.Queues.{same_tid}
-use Rattle.fifo_buffer.specs.Stances.{called_at}
-use Rattle.fifo_buffer.specs.SectionPolls.{MayPollSection, SectionPolled, is_at_once}
-use Rattle.fifo_buffer.proofs.Chains.{follows_for, one_follows, two_follows}
-use Rattle.fifo_buffer.proofs.Finish.{called_by, finish, others_after}
-use Rattle.fifo_buffer.proofs.First.{first_may, goes_called}
-use Rattle.fifo_buffer.proofs.Recorded.{runs_home}
-use Rattle.fifo_buffer.specs.Laws.OwnedLaws.{block_there}
-use Rattle.fifo_buffer.proofs.Parts.{moves_grown, other_part}
-use Rattle.fifo_buffer.proofs.SectionPollTaken.{taken}
-use Rattle.fifo_buffer.proofs.Twice.{apart_call_state, ended_of, next_going, completes_as, exit_free, marks_of, under_way_by}
-use Rattle.fifo_buffer.proofs.Twice.{later_call, later_effect, next_may, other_call_state, runs_by, sizes_of, why, why_slept}
+use Rattle.fifo_buffer.specs.{Stances.called_at, SectionPolls.MayPollSection, SectionPolls.SectionPolled, SectionPolls.is_at_once, Laws.OwnedLaws.block_there}
+use Rattle.fifo_buffer.proofs.{Chains.follows_for, Chains.one_follows, Chains.two_follows, Finish.called_by, Finish.finish, Finish.others_after}
+use Rattle.fifo_buffer.proofs.{First.first_may, First.goes_called, Recorded.runs_home, Parts.moves_grown, Parts.other_part, SectionPollTaken.taken}
+use Rattle.fifo_buffer.proofs.Twice.{apart_call_state, ended_of, next_going, completes_as, exit_free, marks_of, under_way_by, later_call, later_effect}
+use Rattle.fifo_buffer.proofs.Twice.{next_may, other_call_state, runs_by, sizes_of, why, why_slept}
 use Rattle.fifo_buffer.proofs.fifo.FifoCallLayerBufferLaw.poll_kind.Goals as goal
 
 pub poll_section-done-requires-clause-buffer : goal.poll_section-done-requires-clause-buffer

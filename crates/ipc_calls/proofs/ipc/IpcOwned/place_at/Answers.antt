@@ -1,10 +1,8 @@
 use Rattle.std.proofs.Common.{◌≡◌, false, length, Some, inr, refl, ap, sym, ◌∙◌, subst}
 use Rattle.std.proofs.lemmas.Option.{same_Some}
-use Rattle.layer_traits.specs.Places.{Asleep, At, Pend, home_of, where_is}
+use Rattle.layer_traits.specs.{Places.Asleep, Places.At, Places.Pend, Places.home_of, Places.where_is, Observed.queue_place}
 use Rattle.event_log.specs.declared.ids.LockId.TheVariants.{Buffer}
-use Rattle.layer_traits.specs.Observed.{queue_place}
-use Rattle.ipc_calls.specs.Laws.PlaceLaws.{sleeps_there, read_pends, read_sleeps}
-use Rattle.ipc_calls.specs.Parts.{pends_read}
+use Rattle.ipc_calls.specs.{Laws.PlaceLaws.sleeps_there, Laws.PlaceLaws.read_pends, Laws.PlaceLaws.read_sleeps, Parts.pends_read}
 use Rattle.ipc_calls.proofs.ipc.IpcOwned.place_at.Goals as goal
 
 -- the queue that is read is that of the thread's home

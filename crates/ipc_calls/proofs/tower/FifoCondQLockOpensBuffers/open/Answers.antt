@@ -1,12 +1,8 @@
 use Rattle.std.proofs.Common.{◌≡◌, [], ◌<◌, ◌≤◌, IsSome, length, refl, rules, ◌∙◌, arith}
 use Rattle.std.proofs.lemmas.Result.{IfOk-weaker}
-use Rattle.event_log.specs.declared.ids.CpuId.{CpuId}
-use Rattle.event_log.specs.declared.ids.LockId.TheVariants.{Pending}
-use Rattle.event_log.specs.declared.ids.TheConstants.{CPUS}
+use Rattle.event_log.specs.declared.ids.{CpuId.CpuId, LockId.TheVariants.Pending, TheConstants.CPUS}
 use Rattle.fifo_buffer.proofs.Opening.{boots_well, caps_are}
-use Rattle.layer_traits.specs.BufferEffects.{opening_locks}
-use Rattle.layer_traits.specs.QueueBlocks.{homes_in, inner}
-use Rattle.layer_traits.specs.Renaming.{viewed}
+use Rattle.layer_traits.specs.{BufferEffects.opening_locks, QueueBlocks.homes_in, QueueBlocks.inner, Renaming.viewed}
 use Rattle.layer_traits.proofs.KernelRenaming.{homes_viewed, viewed_there}
 use Rattle.queuing_lock.specs.Nested.{nested_lock_of}
 use Rattle.ipc_calls.proofs.Opened.{both_ok}

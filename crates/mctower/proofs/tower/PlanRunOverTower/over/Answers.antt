@@ -1,7 +1,6 @@
 use Rattle.std.proofs.Common.{Ok, Err, refl}
 use Rattle.boot.specs.Plan.{plan_of}
-use Rattle.mctower.specs.Output.{between}
-use Rattle.mctower.specs.Running.{NoCondition}
+use Rattle.mctower.specs.{Output.between, Running.NoCondition}
 use Rattle.mctower.proofs.Unguarded.{fault_told, runs_text, state_of}
 use Rattle.mctower.proofs.tower.PlanRunOverTower.over.Goals as goal
 

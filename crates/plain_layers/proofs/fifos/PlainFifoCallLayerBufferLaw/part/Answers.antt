@@ -1,10 +1,8 @@
 use Rattle.std.proofs.Common.{ap}
 use Rattle.std.proofs.lemmas.List.{length-replicate}
 use Rattle.event_log.specs.declared.ids.TheConstants.{THREADS}
-use Rattle.layer_traits.specs.BufferLaw.{no_call}
-use Rattle.plain_layers.specs.declared.attempts.Tried.{Tried}
-use Rattle.layer_traits.specs.SleepLaw.{Sleeping, sleep_kernel}
-use Rattle.plain_layers.specs.Attempts.{attempts}
+use Rattle.layer_traits.specs.{BufferLaw.no_call, SleepLaw.Sleeping, SleepLaw.sleep_kernel}
+use Rattle.plain_layers.specs.{declared.attempts.Tried.Tried, Attempts.attempts}
 use Rattle.plain_layers.proofs.FifoLemmas.{no_events, nobody_waits, no_call_waits}
 use Rattle.plain_layers.proofs.fifos.PlainFifoCallLayerBufferLaw.part.Goals as goal
 

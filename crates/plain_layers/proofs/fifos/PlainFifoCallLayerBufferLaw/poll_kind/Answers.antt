@@ -1,21 +1,13 @@
 use Rattle.std.proofs.Common.{◌≡◌, ◌≢◌, ◌<◌, ◌≤◌, ◌+◌, ◌/◌, ℕ, ap, arith, List, Option, None, length, option_map, slice_set, subst, sym, ◌∙◌}
 use Rattle.std.proofs.Math.ListN.{length-set}
-use Rattle.event_log.specs.declared.ids.CpuId.{CpuId}
-use Rattle.event_log.specs.declared.ids.Tid.{Tid}
-use Rattle.event_log.specs.declared.ids.TheConstants.{THREADS}
-use Rattle.layer_traits.specs.BufferLaw.{Called, IsRefused, MovesGrow, answer_in, call_state_of, reply_with}
-use Rattle.layer_traits.specs.declared.calls.Effect.{Effect}
-use Rattle.layer_traits.specs.declared.calls.ReplyKind.{ReplyKind}
-use Rattle.layer_traits.specs.declared.call_states.Stage.TheVariants.{Idle}
-use Rattle.layer_traits.specs.declared.call_states.CallState.{CallState}
-use Rattle.layer_traits.specs.QueueBlocks.{homes_in, inner}
-use Rattle.layer_traits.specs.Queues.{buffer_sections, moves_in}
-use Rattle.layer_traits.specs.Renaming.{viewed}
-use Rattle.layer_traits.specs.SleepLaw.{sleep_kernel}
-use Rattle.plain_layers.specs.Attempts.{attempts, effect_in}
-use Rattle.plain_layers.specs.Fifos.{IsOwned, caps_in, entries_in, reply_to, call_state_after, shown}
-use Rattle.plain_layers.proofs.FifoLemmas.{buffer_there, done_called, done_deferred, done_moves, done_refused}
-use Rattle.plain_layers.proofs.FifoLemmas.{done_sleeps, owned_after, reply_left, reply_none, runs_small, set_waits}
+use Rattle.event_log.specs.declared.ids.{CpuId.CpuId, Tid.Tid, TheConstants.THREADS}
+use Rattle.layer_traits.specs.{BufferLaw.Called, BufferLaw.IsRefused, BufferLaw.MovesGrow, BufferLaw.answer_in, BufferLaw.call_state_of, BufferLaw.reply_with}
+use Rattle.layer_traits.specs.{QueueBlocks.homes_in, QueueBlocks.inner, Queues.buffer_sections, Queues.moves_in, Renaming.viewed, SleepLaw.sleep_kernel}
+use Rattle.layer_traits.specs.declared.{calls.Effect.Effect, calls.ReplyKind.ReplyKind, call_states.Stage.TheVariants.Idle, call_states.CallState.CallState}
+use Rattle.plain_layers.specs.{Attempts.attempts, Attempts.effect_in, Fifos.IsOwned, Fifos.caps_in, Fifos.entries_in, Fifos.reply_to, Fifos.call_state_after}
+use Rattle.plain_layers.specs.{Fifos.shown}
+use Rattle.plain_layers.proofs.FifoLemmas.{buffer_there, done_called, done_deferred, done_moves, done_refused, done_sleeps, owned_after, reply_left, reply_none}
+use Rattle.plain_layers.proofs.FifoLemmas.{runs_small, set_waits}
 use Rattle.plain_layers.proofs.fifos.PlainFifoCallLayerBufferLaw.poll_kind.Goals as goal
 
 half_of_two : (n k : ℕ) → n ≤ k + 2 → n / 2 ≤ k / 2 + 1

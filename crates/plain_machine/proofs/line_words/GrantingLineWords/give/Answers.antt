@@ -1,8 +1,8 @@
 use Rattle.std.proofs.Common.{◌∙◌}
 use Rattle.std.proofs.Math.ListN.{length-set}
 use Rattle.plain_machine.proofs.GrantLemmas.{granted}
-use Rattle.plain_machine.proofs.line_words.GrantingLineWords.give.Goals as goal
 use Rattle.event_log.proofs.Tickets.{next_rests}
+use Rattle.plain_machine.proofs.line_words.GrantingLineWords.give.Goals as goal
 
 pub returns : goal.returns
 returns c = λ taken given fits.

@@ -1,9 +1,7 @@
 use Rattle.std.proofs.Common.{◌%◌, ◌^◌, ap, sym, ◌∙◌}
-use Rattle.layer_traits.specs.OneLock.{opened}
-use Rattle.layer_traits.specs.WordsProtocol.{words_legal}
+use Rattle.layer_traits.specs.{OneLock.opened, WordsProtocol.words_legal}
 use Rattle.layer_traits.proofs.GrantLemmas.{tickets_as_grants, words_as_grants}
-use Rattle.plain_machine.specs.Fits.{GrantsFit}
-use Rattle.plain_machine.specs.Machine.{history}
+use Rattle.plain_machine.specs.{Fits.GrantsFit, Machine.history}
 use Rattle.plain_machine.proofs.MachineLemmas.{at_lock, shown_words}
 use Rattle.plain_machine.proofs.plain.Plain+E+Granting.words.Goals as goal
 

@@ -1,18 +1,11 @@
 use Rattle.std.proofs.Common.{Option, option_map, sym, subst}
 use Rattle.std.proofs.Math.Path.{transport}
-use Rattle.event_log.specs.declared.ids.LockId.{LockId}
-use Rattle.event_log.specs.History.{IsLawful}
-use Rattle.layer_traits.specs.declared.queue_edits.QueueBlock.{QueueBlock}
-use Rattle.layer_traits.specs.Queues.{QueueAllowed}
-use Rattle.layer_traits.specs.Renaming.{renamed_edit, renamed_events, renamed_sched, viewed}
-use Rattle.layer_traits.specs.Sleeping.{SleepState}
-use Rattle.queuing_lock.specs.declared.edits.QBlock.{QBlock}
-use Rattle.queuing_lock.specs.Laws.NestedLaws.{beneath, locks_lawful}
-use Rattle.queuing_lock.specs.Nested.{edit_in, nested_lock_of}
-use Rattle.queuing_lock.specs.Parts.{DeferredFits, SleptFits}
-use Rattle.layer_traits.proofs.KernelRenaming.{grows_renamed}
-use Rattle.layer_traits.proofs.LookLemmas.{tries_renamed}
-use Rattle.layer_traits.proofs.FrameLemmas.{viewed_stays}
+use Rattle.event_log.specs.{declared.ids.LockId.LockId, History.IsLawful}
+use Rattle.layer_traits.specs.{declared.queue_edits.QueueBlock.QueueBlock, Queues.QueueAllowed, Renaming.renamed_edit, Renaming.renamed_events}
+use Rattle.layer_traits.specs.{Renaming.renamed_sched, Renaming.viewed, Sleeping.SleepState}
+use Rattle.queuing_lock.specs.{declared.edits.QBlock.QBlock, Laws.NestedLaws.beneath, Laws.NestedLaws.locks_lawful, Nested.edit_in, Nested.nested_lock_of}
+use Rattle.queuing_lock.specs.{Parts.DeferredFits, Parts.SleptFits}
+use Rattle.layer_traits.proofs.{KernelRenaming.grows_renamed, LookLemmas.tries_renamed, FrameLemmas.viewed_stays}
 use Rattle.queuing_lock.proofs.SleptLemmas.{slept_goes}
 use Rattle.queuing_lock.proofs.qlock.QLockThreadLayerQLockLaw.look.Goals as goal
 

@@ -1,23 +1,12 @@
 use Rattle.std.proofs.Common.{Option, is_some, option_map, sym, subst}
 use Rattle.std.proofs.Math.Path.{transport}
-use Rattle.event_log.specs.declared.ids.LockId.{LockId}
-use Rattle.event_log.specs.History.{IsLawful}
-use Rattle.layer_traits.specs.declared.locked.QOut.{QOut}
-use Rattle.layer_traits.specs.declared.queue_edits.QueueBlock.{QueueBlock}
-use Rattle.layer_traits.specs.Passes.{MayPass}
-use Rattle.layer_traits.specs.Plans.{Left}
-use Rattle.layer_traits.specs.Queues.{QueueAllowed}
-use Rattle.layer_traits.specs.Renaming.{renamed_events, renamed_sched, viewed}
-use Rattle.layer_traits.specs.SleepLaw.{Sleeping, done_if}
-use Rattle.layer_traits.specs.Sleeping.{SleepState}
-use Rattle.queuing_lock.specs.declared.edits.QBlock.{QBlock}
-use Rattle.queuing_lock.specs.Laws.NestedLaws.{beneath, locks_lawful}
-use Rattle.queuing_lock.specs.Nested.{edit_in, nested_lock_of}
-use Rattle.queuing_lock.specs.Parts.{DeferredFits, SleptFits}
+use Rattle.event_log.specs.{declared.ids.LockId.LockId, History.IsLawful}
+use Rattle.layer_traits.specs.{declared.locked.QOut.QOut, declared.queue_edits.QueueBlock.QueueBlock, Passes.MayPass, Plans.Left, Queues.QueueAllowed}
+use Rattle.layer_traits.specs.{Renaming.renamed_events, Renaming.renamed_sched, Renaming.viewed, SleepLaw.Sleeping, SleepLaw.done_if, Sleeping.SleepState}
+use Rattle.queuing_lock.specs.{declared.edits.QBlock.QBlock, Laws.NestedLaws.beneath, Laws.NestedLaws.locks_lawful, Nested.edit_in, Nested.nested_lock_of}
+use Rattle.queuing_lock.specs.{Parts.DeferredFits, Parts.SleptFits}
 use Rattle.layer_traits.proofs.FrameLemmas.{viewed_stays}
-use Rattle.queuing_lock.proofs.DeferredLemmas.{deferred_passed}
-use Rattle.queuing_lock.proofs.PartLemmas.{locks_pass_follow, pass_here, pass_is}
-use Rattle.queuing_lock.proofs.PollLemmas.{slept_passed}
+use Rattle.queuing_lock.proofs.{DeferredLemmas.deferred_passed, PartLemmas.locks_pass_follow, PartLemmas.pass_here, PartLemmas.pass_is, PollLemmas.slept_passed}
 use Rattle.queuing_lock.proofs.qlock.QLockThreadLayerQLockLaw.pass.Goals as goal
 
 pub returns-clause-framed : goal.returns-clause-framed

@@ -1,32 +1,19 @@
 use Rattle.std.proofs.Common.{◌≡◌, refl, true, false, Option, Some, None, ◌≢◌, if◌then◌else◌, List, ◌<◌, is_some, option_map, slice_set, ap, sym, ◌∙◌, subst}
 use Rattle.std.proofs.Math.Path.{transport}
-use Rattle.event_log.specs.declared.ids.BufId.{BufId}
-use Rattle.event_log.specs.declared.ids.CpuId.{CpuId}
-use Rattle.event_log.specs.declared.ids.TheConstants.{THREADS}
-use Rattle.event_log.specs.History.{IsLawful}
-use Rattle.layer_traits.specs.declared.locked.QOut.{QOut}
-use Rattle.layer_traits.specs.declared.locked.QOut.TheVariants.{Acquired}
-use Rattle.layer_traits.specs.declared.scheds.SchedCall.TheVariants as call
-use Rattle.layer_traits.specs.declared.sleeps.Outcome.{Outcome}
-use Rattle.layer_traits.specs.Locking.{lock_caller}
-use Rattle.layer_traits.specs.LockLaw.{LockPolled, left_after, locking, slept_for}
-use Rattle.layer_traits.specs.Payloads.{lock_meant, lock_told, outcome_told}
-use Rattle.layer_traits.specs.Plans.{Left}
-use Rattle.layer_traits.specs.Queues.{QueueAllowed}
-use Rattle.layer_traits.specs.Renaming.{renamed_events, renamed_sched, viewed}
-use Rattle.layer_traits.specs.SleepLaw.{Sleeping}
+use Rattle.event_log.specs.{declared.ids.BufId.BufId, declared.ids.CpuId.CpuId, declared.ids.TheConstants.THREADS, History.IsLawful}
+use Rattle.layer_traits.specs.{declared.locked.QOut.QOut, declared.locked.QOut.TheVariants.Acquired, declared.sleeps.Outcome.Outcome, Locking.lock_caller}
+use Rattle.layer_traits.specs.{LockLaw.LockPolled, LockLaw.left_after, LockLaw.locking, LockLaw.slept_for, Payloads.lock_meant, Payloads.lock_told}
+use Rattle.layer_traits.specs.{Payloads.outcome_told, Plans.Left, Queues.QueueAllowed, Renaming.renamed_events, Renaming.renamed_sched, Renaming.viewed}
+use Rattle.layer_traits.specs.{SleepLaw.Sleeping}
 use Rattle.layer_traits.proofs.FrameLemmas.{untouched, viewed_stays}
-use Rattle.queuing_lock.specs.Laws.NestedLaws.{beneath, here}
-use Rattle.queuing_lock.specs.Nested.{edit_in, nested_lock_of}
-use Rattle.queuing_lock.specs.Parts.{DeferredFits, SleptFits, slept_left_by}
-use Rattle.queuing_lock.proofs.PartLemmas.{Before, caller_small, handed, deferred_after, locks}
-use Rattle.queuing_lock.proofs.PartLemmas.{locks_follow, none, others_after, owed, slept_after, slept_asks, slept_reported}
-use Rattle.queuing_lock.proofs.PartLemmas.{under_is}
-use Rattle.queuing_lock.proofs.PollLemmas.{reported_is, reported_told, slept_told}
-use Rattle.queuing_lock.proofs.SleptLemmas.{slept_less}
-use Rattle.queuing_lock.proofs.qlock.QLockThreadLayerQLockLaw.poll.Given.{Over}
+use Rattle.queuing_lock.specs.{Laws.NestedLaws.beneath, Laws.NestedLaws.here, Nested.edit_in, Nested.nested_lock_of, Parts.DeferredFits, Parts.SleptFits}
+use Rattle.queuing_lock.specs.{Parts.slept_left_by}
+use Rattle.queuing_lock.proofs.PartLemmas.{Before, caller_small, handed, deferred_after, locks, locks_follow, none, others_after, owed, slept_after, slept_asks}
+use Rattle.queuing_lock.proofs.PartLemmas.{slept_reported, under_is}
+use Rattle.queuing_lock.proofs.{PollLemmas.reported_is, PollLemmas.reported_told, PollLemmas.slept_told, SleptLemmas.slept_less}
+use Rattle.queuing_lock.proofs.qlock.QLockThreadLayerQLockLaw.poll.{Given.Over, Goals.Start, Goals.After-poll, Goals.After-complete}
+use Rattle.layer_traits.specs.declared.scheds.SchedCall.TheVariants as call
 use Rattle.queuing_lock.proofs.qlock.QLockThreadLayerQLockLaw.poll.Goals as goal
-use Rattle.queuing_lock.proofs.qlock.QLockThreadLayerQLockLaw.poll.Goals.{Start, After-poll, After-complete}
 
 -- what the part knows when the poll begins
 abbrev before : (g : Over) (c : Start g) → Before g.F.Locked.rules (g.S.ThreadLayer.opening c.args.m.now)

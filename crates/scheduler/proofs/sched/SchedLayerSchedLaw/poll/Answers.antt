@@ -1,24 +1,16 @@
 use Rattle.std.proofs.Common.{◌≡◌, ◌≢◌, List, Option, false, Some, None, refl, ap, sym, ◌∙◌, subst, subst₂}
 use Rattle.std.proofs.lemmas.Bool.{ne_eqb}
-use Rattle.event_log.specs.History.{IsLawful, same_cpu}
+use Rattle.event_log.specs.{History.IsLawful, History.same_cpu, declared.ids.CpuId.CpuId}
 use Rattle.event_log.proofs.Same.{cpu_numbered}
-use Rattle.layer_traits.specs.declared.scheds.SchedAnswer.TheVariants.{Done}
-use Rattle.layer_traits.specs.declared.queues.QueueAnswer.{QueueAnswer}
-use Rattle.layer_traits.specs.declared.queues.QueueCall.{QueueCall}
-use Rattle.layer_traits.specs.declared.scheds.SchedCall.{SchedCall}
-use Rattle.event_log.specs.declared.ids.CpuId.{CpuId}
-use Rattle.layer_traits.specs.Payloads.{call_meant, queue_told, sched_meant, told_by}
-use Rattle.layer_traits.specs.Places.{Threads}
-use Rattle.layer_traits.specs.QueueBlocks.{StartsWell, homes_in}
-use Rattle.layer_traits.specs.Queues.{QueueAllowed, kernel}
-use Rattle.layer_traits.specs.Scheds.{SchedPolled, own_by, queue_call}
-use Rattle.scheduler.specs.Owns.{local_after}
-use Rattle.scheduler.specs.Parts.{PartFits}
+use Rattle.layer_traits.specs.{declared.scheds.SchedAnswer.TheVariants.Done, declared.queues.QueueAnswer.QueueAnswer, declared.queues.QueueCall.QueueCall}
+use Rattle.layer_traits.specs.{declared.scheds.SchedCall.SchedCall, Payloads.call_meant, Payloads.queue_told, Payloads.sched_meant, Payloads.told_by}
+use Rattle.layer_traits.specs.{Places.Threads, QueueBlocks.StartsWell, QueueBlocks.homes_in, Queues.QueueAllowed, Queues.kernel, Scheds.SchedPolled}
+use Rattle.layer_traits.specs.{Scheds.own_by, Scheds.queue_call}
+use Rattle.scheduler.specs.{Owns.local_after, Parts.PartFits}
 use Rattle.layer_traits.proofs.FrameLemmas.{untouched}
 use Rattle.scheduler.proofs.StepLemmas.{call_may, done_fits, finish_ok, local_fits, local_polled, may_take, other_fits, waiting_fits}
-use Rattle.scheduler.proofs.sched.SchedLayerSchedLaw.poll.Given.{Over}
+use Rattle.scheduler.proofs.sched.SchedLayerSchedLaw.poll.{Given.Over, Goals.Start, Goals.In-Err, Goals.In-Ok, Goals.After-pass_locally, Goals.After-poll}
 use Rattle.scheduler.proofs.sched.SchedLayerSchedLaw.poll.Goals as goal
-use Rattle.scheduler.proofs.sched.SchedLayerSchedLaw.poll.Goals.{Start, In-Err, In-Ok, After-pass_locally, After-poll}
 
 -- what the part knows of the machine when the poll begins
 module _ (g : Over) (c : Start g) where

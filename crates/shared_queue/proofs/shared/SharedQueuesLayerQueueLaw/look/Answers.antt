@@ -1,7 +1,6 @@
 use Rattle.std.proofs.Common.{subst, sym}
 use Rattle.layer_traits.proofs.NestedLemmas.{event_grows}
-use Rattle.layer_traits.specs.QueueBlocks.{StartsWell}
-use Rattle.layer_traits.specs.QueueRules.{IsProperCall}
+use Rattle.layer_traits.specs.{QueueBlocks.StartsWell, QueueRules.IsProperCall}
 use Rattle.shared_queue.proofs.FrameLemmas.{raised}
 use Rattle.shared_queue.proofs.shared.SharedQueuesLayerQueueLaw.look.Goals as goal
 

@@ -1,12 +1,9 @@
 use Rattle.std.proofs.Common.{◌≡◌, None, Some, if◌then◌else◌, is_some, sym, subst}
 use Rattle.event_log.specs.History.{IsLawful}
 use Rattle.layer_traits.proofs.NestedLemmas.{may_section, polled_event}
-use Rattle.layer_traits.specs.Payloads.{call_meant, queue_told, told_by}
-use Rattle.layer_traits.specs.Polls.{MayPoll, Polled}
-use Rattle.layer_traits.specs.QueueBlocks.{StartsWell}
-use Rattle.layer_traits.specs.QueueRules.{SectionAllowed, queue_rules}
-use Rattle.shared_queue.proofs.FrameLemmas.{call_proper, raised}
-use Rattle.shared_queue.proofs.MeantLemmas.{meant_section}
+use Rattle.layer_traits.specs.{Payloads.call_meant, Payloads.queue_told, Payloads.told_by, Polls.MayPoll, Polls.Polled, QueueBlocks.StartsWell}
+use Rattle.layer_traits.specs.{QueueRules.SectionAllowed, QueueRules.queue_rules}
+use Rattle.shared_queue.proofs.{FrameLemmas.call_proper, FrameLemmas.raised, MeantLemmas.meant_section}
 use Rattle.shared_queue.proofs.shared.SharedQueuesLayerQueueLaw.poll.Goals as goal
 
 -- a call that may be polled is a section that may

@@ -1,8 +1,7 @@
 use Rattle.std.proofs.Common.{sym, ◌∙◌}
 use Rattle.event_log.specs.declared.ids.LockId.TheVariants.{Pending}
 use Rattle.layer_traits.proofs.KernelRenaming.{homes_viewed, there_viewed}
-use Rattle.sleep_wakeup.specs.Laws.NestedLaws.{nothing_seen}
-use Rattle.sleep_wakeup.specs.Nested.{state_of}
+use Rattle.sleep_wakeup.specs.{Laws.NestedLaws.nothing_seen, Nested.state_of}
 use Rattle.sleep_wakeup.proofs.PollLemmas.{fresh_deferred, nobody_beneath}
 use Rattle.sleep_wakeup.proofs.sleeper.SleeperThreadLayerSleepLaw.part.Goals as goal
 

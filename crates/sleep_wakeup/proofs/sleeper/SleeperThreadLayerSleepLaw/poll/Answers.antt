@@ -1,29 +1,17 @@
 use Rattle.std.proofs.Common.{◌≡◌, Option, Some, None, refl, map, option_map, ap, subst, sym, ◌∙◌}
-use Rattle.event_log.specs.declared.ids.BufId.{BufId}
-use Rattle.event_log.specs.declared.ids.Tid.{Tid}
-use Rattle.event_log.specs.Actions.{renamed}
-use Rattle.layer_traits.specs.declared.payloads.Payload.{Payload}
-use Rattle.layer_traits.specs.declared.scheds.SchedAnswer.{SchedAnswer}
-use Rattle.layer_traits.specs.declared.scheds.SchedCall.{SchedCall}
-use Rattle.layer_traits.specs.declared.sleeps.Outcome.{Outcome}
-use Rattle.layer_traits.specs.Payloads.{sched_meant, sched_told, told_by}
-use Rattle.layer_traits.specs.Places.{Threads}
-use Rattle.layer_traits.specs.Plans.{Follows, Left, table_of}
-use Rattle.layer_traits.specs.QueueBlocks.{homes_in}
-use Rattle.layer_traits.specs.QueueRules.{queue_rules}
-use Rattle.layer_traits.specs.Renaming.{renamed_edit, renamed_events, viewed}
-use Rattle.layer_traits.specs.Scheds.{MaySched, SchedPolled, sched_plan, left as sched_left}
-use Rattle.layer_traits.specs.SleepLaw.{MaySleep, SleepPolled, Sleeping, due, left_reported, sleep_plan}
-use Rattle.layer_traits.specs.Sleeping.{sleep_moves, sleep_rules}
-use Rattle.sleep_wakeup.specs.declared.deferred.DeferredOutcome.{DeferredOutcome}
-use Rattle.sleep_wakeup.specs.declared.edits.SleepEdit.{SleepEdit}
-use Rattle.sleep_wakeup.specs.Laws.NestedLaws.{beneath, here}
-use Rattle.sleep_wakeup.specs.Nested.{edit_in, nested_meant, nested_moves, nested_rules, nested_told, state_of}
-use Rattle.sleep_wakeup.specs.Parts.{Deferred, DeferredFits, as_edit, deferred_told, outcome_in, own_of}
+use Rattle.event_log.specs.{declared.ids.BufId.BufId, declared.ids.Tid.Tid, Actions.renamed}
+use Rattle.layer_traits.specs.declared.{payloads.Payload.Payload, scheds.SchedAnswer.SchedAnswer, scheds.SchedCall.SchedCall, sleeps.Outcome.Outcome}
+use Rattle.layer_traits.specs.{Payloads.sched_meant, Payloads.sched_told, Payloads.told_by, Places.Threads, Plans.Follows, Plans.Left, Plans.table_of}
+use Rattle.layer_traits.specs.{QueueBlocks.homes_in, QueueRules.queue_rules, Renaming.renamed_edit, Renaming.renamed_events, Renaming.viewed, Scheds.MaySched}
+use Rattle.layer_traits.specs.{Scheds.SchedPolled, Scheds.sched_plan, Scheds.left as sched_left, SleepLaw.MaySleep, SleepLaw.SleepPolled, SleepLaw.Sleeping}
+use Rattle.layer_traits.specs.{SleepLaw.due, SleepLaw.left_reported, SleepLaw.sleep_plan, Sleeping.sleep_moves, Sleeping.sleep_rules}
+use Rattle.sleep_wakeup.specs.{declared.deferred.DeferredOutcome.DeferredOutcome, declared.edits.SleepEdit.SleepEdit, Laws.NestedLaws.beneath}
+use Rattle.sleep_wakeup.specs.{Laws.NestedLaws.here, Nested.edit_in, Nested.nested_meant, Nested.nested_moves, Nested.nested_rules, Nested.nested_told}
+use Rattle.sleep_wakeup.specs.{Nested.state_of, Parts.Deferred, Parts.DeferredFits, Parts.as_edit, Parts.deferred_told, Parts.outcome_in, Parts.own_of}
 use Rattle.sleep_wakeup.proofs.PollLemmas.{hand_defers, nested_may, nested_sleep_follows, nested_sleeps, reported_is}
-use Rattle.sleep_wakeup.proofs.sleeper.SleeperThreadLayerSleepLaw.poll.Given.{Over}
+use Rattle.sleep_wakeup.proofs.sleeper.SleeperThreadLayerSleepLaw.poll.{Given.Over, Goals.Start, Goals.In-None, Goals.In-Some, Goals.After-poll}
+use Rattle.sleep_wakeup.proofs.sleeper.SleeperThreadLayerSleepLaw.poll.{Goals.After-complete, Goals.After-complete-in-Some-poll-2}
 use Rattle.sleep_wakeup.proofs.sleeper.SleeperThreadLayerSleepLaw.poll.Goals as goal
-use Rattle.sleep_wakeup.proofs.sleeper.SleeperThreadLayerSleepLaw.poll.Goals.{Start, In-None, In-Some, After-poll, After-complete, After-complete-in-Some-poll-2}
 
 -- the thread in the hand of these threads
 abbrev in_hand : Threads → Option Tid

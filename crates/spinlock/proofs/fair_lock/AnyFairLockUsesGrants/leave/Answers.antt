@@ -1,6 +1,5 @@
 use Rattle.std.proofs.Common.{sym, ◌∙◌}
-use Rattle.event_log.specs.Grants.{grant_lock_phase}
-use Rattle.event_log.specs.declared.grants.GrantEvent.TheVariants.{Give}
+use Rattle.event_log.specs.{Grants.grant_lock_phase, declared.grants.GrantEvent.TheVariants.Give}
 use Rattle.event_log.proofs.GrantWords.{phase_grants}
 use Rattle.layer_traits.specs.WordsProtocol.{edit_of, mark_of}
 use Rattle.spinlock.specs.Laws.LineLaws.{inside_of}

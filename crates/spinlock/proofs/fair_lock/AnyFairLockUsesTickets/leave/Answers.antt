@@ -1,11 +1,8 @@
 use Rattle.std.proofs.Common.{◌≡◌, Some, option_map, sym, subst, ◌∙◌}
-use Rattle.event_log.specs.Sections.{block_after}
-use Rattle.event_log.specs.WordsLog.{lock_phase}
-use Rattle.event_log.specs.declared.events.Event.TheVariants.{Free}
+use Rattle.event_log.specs.{Sections.block_after, WordsLog.lock_phase, declared.events.Event.TheVariants.Free}
 use Rattle.event_log.proofs.Tickets.{phase_acts}
 use Rattle.layer_traits.proofs.PlanLemmas.{sections_acts}
-use Rattle.layer_traits.specs.Protocol.{StaysAllowed, section}
-use Rattle.layer_traits.specs.WordsProtocol.{edit_of, mark_of}
+use Rattle.layer_traits.specs.{Protocol.StaysAllowed, Protocol.section, WordsProtocol.edit_of, WordsProtocol.mark_of}
 use Rattle.spinlock.specs.Laws.LineLaws.{inside_of}
 use Rattle.spinlock.proofs.LineLemmas.{event_adds}
 use Rattle.spinlock.proofs.fair_lock.AnyFairLockUsesTickets.leave.Goals as goal

@@ -1,6 +1,5 @@
 use Rattle.std.proofs.Common.{◌≡◌, refl, subst}
-use Rattle.event_log.specs.Actions.{Try}
-use Rattle.event_log.specs.Sections.{cpu_of_section, sections_in}
+use Rattle.event_log.specs.{Actions.Try, Sections.cpu_of_section, Sections.sections_in}
 use Rattle.spinlock.proofs.StageLemmas.{stepped, others_fit, others_rest, tried_fits, tried_grows, tried_again, hit_found, grown_by_none}
 use Rattle.spinlock.specs.Stages.{StageFits, hit_by}
 use Rattle.spinlock.proofs.spin_lock.SpinLockLayerLockLawEdit.look.Goals as goal

@@ -1,13 +1,10 @@
 use Rattle.std.proofs.Common.{◌≡◌, Some, None, refl, ap, subst, sym, ◌∙◌}
-use Rattle.event_log.specs.Actions.{Take, Try, Give}
-use Rattle.event_log.specs.Sections.{sections_in}
-use Rattle.layer_traits.specs.Plans.{Follows, table_of, section_plan, answered}
-use Rattle.layer_traits.specs.Protocol.{StaysAllowed, section}
-use Rattle.layer_traits.specs.Polls.{MayPoll, Polled}
+use Rattle.event_log.specs.{Actions.Take, Actions.Try, Actions.Give, Sections.sections_in}
+use Rattle.layer_traits.specs.{Plans.Follows, Plans.table_of, Plans.section_plan, Plans.answered, Protocol.StaysAllowed, Protocol.section, Polls.MayPoll}
+use Rattle.layer_traits.specs.{Polls.Polled}
 use Rattle.spinlock.proofs.StageLemmas.{stepped, others_fit, others_rest, joined_fits, joined_polled, joined_follows, tried_fits, tried_polled, tried_follows}
 use Rattle.spinlock.proofs.StageLemmas.{left_fits, left_polled, left_follows, hit_found, done_as_begun}
-use Rattle.spinlock.specs.declared.stages.TicketPhase.TheVariants.{Waiting}
-use Rattle.spinlock.specs.Stages.{StageFits, hit_by, stage_section}
+use Rattle.spinlock.specs.{declared.stages.TicketPhase.TheVariants.Waiting, Stages.StageFits, Stages.hit_by, Stages.stage_section}
 use Rattle.spinlock.proofs.spin_lock.SpinLockLayerLockLawEdit.poll.Goals as goal
 
 -- a section begins, which stays allowed: its CPU joins the line

@@ -1,9 +1,7 @@
 use Rattle.std.proofs.Common.{◌+◌, ◌%◌, ◌^◌, ◌∷◌, refl, ap, sym, ◌∙◌}
 use Rattle.atomic_table.specs.Table.{rest}
-use Rattle.table_machine.specs.Kinds.{given_on}
-use Rattle.table_machine.specs.Layout.{rank_of, word_at}
-use Rattle.table_machine.proofs.Asking.{at_word}
-use Rattle.table_machine.proofs.Holding.{free_asks, free_reads}
+use Rattle.table_machine.specs.{Kinds.given_on, Layout.rank_of, Layout.word_at}
+use Rattle.table_machine.proofs.{Asking.at_word, Holding.free_asks, Holding.free_reads}
 use Rattle.table_machine.proofs.keys.Key.free.Goals as goal
 
 pub store-requires : goal.store-requires

@@ -1,7 +1,6 @@
 use Rattle.std.proofs.Common.{ap, sym, ◌∙◌}
 use Rattle.table_machine.specs.Layout.{rank_of, word_at}
-use Rattle.table_machine.proofs.Asking.{at_word}
-use Rattle.table_machine.proofs.Holding.{look_asks, look_missed, look_hit}
+use Rattle.table_machine.proofs.{Asking.at_word, Holding.look_asks, Holding.look_missed, Holding.look_hit}
 use Rattle.table_machine.proofs.keys.Key.look.Goals as goal
 
 pub load-found-requires : goal.load-found-requires

@@ -1,5 +1,4 @@
-use Rattle.table_machine.proofs.Stepping.{notes_split}
-use Rattle.table_machine.proofs.Meeting.{one_table, has_words}
+use Rattle.table_machine.proofs.{Stepping.notes_split, Meeting.one_table, Meeting.has_words}
 use Rattle.table_machine.proofs.keys.Key.notes.Goals as goal
 
 pub split_seat-requires : goal.split_seat-requires

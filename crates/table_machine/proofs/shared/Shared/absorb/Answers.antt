@@ -1,7 +1,5 @@
 use Rattle.std.proofs.Common.{sym, ap, ◌∙◌}
-use Rattle.table_machine.proofs.Stepping.{notes_join}
-use Rattle.table_machine.proofs.Meeting.{has_words, meet_asks}
-use Rattle.table_machine.proofs.Closing.{absorb_reads, absorb_carries}
+use Rattle.table_machine.proofs.{Stepping.notes_join, Meeting.has_words, Meeting.meet_asks, Closing.absorb_reads, Closing.absorb_carries}
 use Rattle.table_machine.proofs.shared.Shared.absorb.Goals as goal
 
 pub join_seat-requires : goal.join_seat-requires

@@ -1,9 +1,6 @@
 use Rattle.std.proofs.Common.{refl, subst, [], ◌≡◌}
-use Rattle.table_machine.specs.Views.{viewed, cpus_from}
-use Rattle.table_machine.specs.SeatViews.{IsOver, Gathered}
-use Rattle.table_machine.proofs.Stepping.{enters}
-use Rattle.table_machine.proofs.Meeting.{has_words}
-use Rattle.table_machine.proofs.Returning.{yield_more, no_more, all_tail}
+use Rattle.table_machine.specs.{Views.viewed, Views.cpus_from, SeatViews.IsOver, SeatViews.Gathered}
+use Rattle.table_machine.proofs.{Stepping.enters, Meeting.has_words, Returning.yield_more, Returning.no_more, Returning.all_tail}
 use Rattle.table_machine.proofs.shared.Shared.gathered.Goals as goal
 
 pub load_new_seat-seat-requires : goal.load_new_seat-seat-requires

@@ -1,9 +1,7 @@
 use Rattle.std.proofs.Common.{◌∷◌, [], sym, ap, subst, ◌∙◌, List}
 use Rattle.event_log.specs.declared.ids.Tid.{Tid}
-use Rattle.thread_blocks.specs.Queues.{is_in, rest}
-use Rattle.thread_blocks.specs.Links.{Hold}
-use Rattle.thread_blocks.proofs.Distinct.{front_is, first_known, first_once}
-use Rattle.thread_blocks.proofs.Holding.{walk_held, held_walk, fronted}
+use Rattle.thread_blocks.specs.{Queues.is_in, Queues.rest, Links.Hold}
+use Rattle.thread_blocks.proofs.{Distinct.front_is, Distinct.first_known, Distinct.first_once, Holding.walk_held, Holding.held_walk, Holding.fronted}
 use Rattle.thread_blocks.proofs.queues.ThreadQueue.pop_in.Goals as goal
 
 pub unlink-requires : goal.unlink-requires

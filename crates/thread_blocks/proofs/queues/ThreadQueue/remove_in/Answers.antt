@@ -1,9 +1,7 @@
 use Rattle.std.proofs.Common.{◌≡◌, false, sym, ap, subst, ◌∙◌, List}
 use Rattle.event_log.specs.declared.ids.Tid.{Tid}
-use Rattle.thread_blocks.specs.Queues.{is_in, without}
-use Rattle.thread_blocks.specs.Links.{Hold}
-use Rattle.thread_blocks.proofs.Distinct.{split, without_none}
-use Rattle.thread_blocks.proofs.Holding.{walk_held, held_walk}
+use Rattle.thread_blocks.specs.{Queues.is_in, Queues.without, Links.Hold}
+use Rattle.thread_blocks.proofs.{Distinct.split, Distinct.without_none, Holding.walk_held, Holding.held_walk}
 use Rattle.thread_blocks.proofs.queues.ThreadQueue.remove_in.Goals as goal
 
 pub returns-then-not-is_member-clause-rest : goal.returns-then-not-is_member-clause-rest

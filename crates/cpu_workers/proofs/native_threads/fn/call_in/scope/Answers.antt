@@ -1,6 +1,5 @@
 use Rattle.std.proofs.Common.{◌≡◌, ◌≤◌, [], ◌∷◌, ◌++◌, All, MatchOption, length, refl, sym, ap, subst, ◌∙◌, vec_capacity, vec_len}
-use Rattle.cpu_workers.specs.Natives.{HasKept}
-use Rattle.cpu_workers.specs.Reports.{Both}
+use Rattle.cpu_workers.specs.{Natives.HasKept, Reports.Both}
 use Rattle.cpu_workers.proofs.Joining.{all_tail, both_length, both_more, both_then, no_more, room_for, yield_more}
 use Rattle.cpu_workers.proofs.native_threads.fn.call_in.scope.Goals as goal
 

@@ -1,8 +1,6 @@
 use Rattle.std.proofs.Common.{◌≡◌, ◌≤◌, ◌<◌, [], ◌∷◌, ◌++◌, length, sym, ap, subst, ◌∙◌, take, vec_capacity, vec_len, arith, length-append}
 use Rattle.table_machine.proofs.Returning.{yield_more, no_more}
-use Rattle.cpu_workers.specs.declared.counting.TheConstants.{NUMBER}
-use Rattle.cpu_workers.specs.Counts.{HasMade}
-use Rattle.cpu_workers.specs.Reports.{Both}
+use Rattle.cpu_workers.specs.{declared.counting.TheConstants.NUMBER, Counts.HasMade, Reports.Both}
 use Rattle.cpu_workers.proofs.Counts.{both_length, both_taken, both_then, kept_for, room_at, taken_all, taken_within, turn_below}
 use Rattle.cpu_workers.proofs.counting.threads.fn.work_in.scope.Goals as goal
 
