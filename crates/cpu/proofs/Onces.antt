@@ -3,10 +3,10 @@ use Rattle.std.proofs.Common.{◌≡◌, ℕ, ◌+◌, ◌<◌, ◌==◌, true, 
 use Rattle.std.specs.Prelude.{slice_get, slice_index_or}
 use Rattle.std.proofs.lemmas.Bool.{eq-eqb, ne_eqb}
 use Rattle.event_log.specs.declared.ids.{BufId.BufId, CpuId.CpuId, LockId.LockId, LockId.TheVariants.Buffer, Tid.Tid}
-use Rattle.layer_traits.specs.declared.moves.WaitList.{WaitList, TheVariants.Sleepers, TheVariants.Receivers, TheVariants.Senders}
-use Rattle.layer_traits.specs.{IpcLaw.WaitListsAgree, ListsAgree.is_at, ListsAgree.same_list, OnePlace.cpu_at, OnePlace.total, Places.AreMoves, Places.Asleep}
-use Rattle.layer_traits.specs.{Places.At, Places.Hand, Places.Home, Places.Pend, Places.WaitChannel, Places.Stands, Places.Step, Places.Where, Places.home_of}
-use Rattle.layer_traits.specs.{Places.is_asleep, Places.one_if, Places.wait_channel_of, Places.where_is}
+use Rattle.layer_traits.specs.{declared.moves.WaitList.WaitList, IpcLaw.WaitListsAgree, ListsAgree.is_at, ListsAgree.same_list, OnePlace.cpu_at, OnePlace.total}
+use Rattle.layer_traits.specs.{Places.AreMoves, Places.Asleep, Places.At, Places.Hand, Places.Home, Places.Pend, Places.WaitChannel, Places.Stands, Places.Step}
+use Rattle.layer_traits.specs.{Places.Where, Places.home_of, Places.is_asleep, Places.one_if, Places.wait_channel_of, Places.where_is}
+use Rattle.layer_traits.specs.declared.moves.WaitList.TheVariants.{Sleepers, Receivers, Senders}
 use Rattle.layer_traits.proofs.OnePlaceLemmas.{one_place, total_none, total_one, total_same}
 use Rattle.cpu.specs.Claims.{WaitersAgree, CpuShown, Shown, StandsOnce, waiters_at, waiters_by, buffer_at, in_waiters, listed, no_waiters, own_at, own_in}
 use Rattle.cpu.proofs.ListReads.{listed_length, listed_there, there_is}

@@ -2,8 +2,8 @@
 use Rattle.std.specs.Prelude.{◌≡◌, ℕ, ◌<◌, Bool, false, ◌||◌, List, Option, Some, None, option_map, option_and_then}
 use Rattle.std.specs.Option.{option_or}
 use Rattle.event_log.specs.declared.ids.{BufId.BufId, CpuId.CpuId, Tid.Tid}
-use Rattle.layer_traits.specs.{declared.calls.Place.Place, Owned.wait_list_among, Places.Threads, Places.is_thread}
-use Rattle.layer_traits.specs.declared.moves.WaitList.{WaitList, TheVariants.Sleepers, TheVariants.Receivers, TheVariants.Senders}
+use Rattle.layer_traits.specs.{declared.calls.Place.Place, declared.moves.WaitList.WaitList, Owned.wait_list_among, Places.Threads, Places.is_thread}
+use Rattle.layer_traits.specs.declared.moves.WaitList.TheVariants.{Sleepers, Receivers, Senders}
 use Rattle.thread_blocks.specs.Queues.{is_in}
 use Rattle.layer_traits.specs.declared.calls.Place.TheVariants as place
 
