@@ -133,9 +133,6 @@ pub record ReadsUpTo (most : ℕ) (text : List ℕ) (i n : ℕ) : Type 0 where
   pub value : digits_value 10 (take i text) ≡ n
   pub within : n ≤ most
 
-pub reads_none : (most : ℕ) (text : List ℕ) → ReadsUpTo most text 0 0
-reads_none most text = record { digits = tt; value = refl; within = omega arith }
-
 digit_range : (c : ℕ) → is_ascii_digit c ≡ true → IsInRange 48 57 c
 digit_range c is = grind (arith, nat_tests)
 

@@ -2,11 +2,11 @@
 use Rattle.std.proofs.Common.{◌≡◌, ◌<◌, Bool, true, false, List, [], ◌∷◌, ◌++◌, if◌then◌else◌, refl, ap, sym, subst, ◌∙◌}
 use Rattle.event_log.specs.{declared.ids.CpuId.CpuId, declared.ids.TheConstants.CPUS, declared.events.Event.Event, declared.events.Event.TheVariants.Draw}
 use Rattle.event_log.specs.{declared.events.Event.TheVariants.Look, declared.events.Event.TheVariants.Free, History.same_cpu, History.own_events}
-use Rattle.event_log.specs.{History.IsLawful, History.AreOthers, History.AreForeign, WordsLog.cpu_of_event, WordsLog.lock_phase, WordsLog.IsLegalWords}
-use Rattle.event_log.specs.{Actions.Action, Actions.Take, Actions.Try, Actions.Give, Actions.phase, Actions.cpu_of_action, Actions.spot_of, Actions.MayAct}
-use Rattle.event_log.specs.{Actions.AreLegal, Actions.act_of, Actions.acts_of, Sections.cpu_of_section, Sections.sections_of, Sections.sections_in}
-use Rattle.event_log.proofs.{Same.same_cpu_self, Same.same_lock_self, Exclusion.is_at, Exclusion.phase_other, Exclusion.spot_other, Exclusion.knows}
-use Rattle.event_log.proofs.{Tickets.lock_phase_other, Tickets.legal_acts, Tickets.cpu_of_action_is}
+use Rattle.event_log.specs.{History.IsLawful, History.AreOthers, WordsLog.cpu_of_event, WordsLog.lock_phase, WordsLog.IsLegalWords, Actions.Action}
+use Rattle.event_log.specs.{Actions.Take, Actions.Try, Actions.Give, Actions.phase, Actions.cpu_of_action, Actions.spot_of, Actions.MayAct, Actions.AreLegal}
+use Rattle.event_log.specs.{Actions.act_of, Actions.acts_of, Sections.cpu_of_section, Sections.sections_of, Sections.sections_in}
+use Rattle.event_log.proofs.{Same.same_lock_self, Exclusion.is_at, Exclusion.phase_other, Exclusion.spot_other, Exclusion.knows, Tickets.lock_phase_other}
+use Rattle.event_log.proofs.{Tickets.legal_acts, Tickets.cpu_of_action_is}
 
 -- Any relation and any event.
 
@@ -38,15 +38,6 @@ pub own_others : {E : Type 0} (by : E → CpuId) (c : CpuId) (others past : List
     → own_events by c (others ++ past) ≡ own_events by c past
 own_others by c others past foreign = own_append by c others past ∙ ap (λ xs. xs ++ own_events by c past) (own_none by c others foreign)
 
--- where the holder acts for each CPU that is known, and only such CPUs act, no event is foreign
-pub no_foreign : {E : Type 0} (ActsFor : CpuId → Type 0) (by : E → CpuId) (others past : List E)
-    → ((c : CpuId) → c.0 < CPUS → ActsFor c) → IsLawful (λ before e. (by e).0 < CPUS) (others ++ past) → AreForeign ActsFor by others → others ≡ []
-no_foreign ActsFor by [] past all known foreign = refl
-no_foreign ActsFor by (e ∷ others) past all known foreign =
-    let own_event = (foreign (by e) (all (by e) known.0)).0 in
-    let same : same_cpu (by e) (by e) ≡ true = same_cpu_self (by e) in
-    absurd (cc (own_event, same))
-
 -- A words log.
 
 pub lock_phase_others : {M : Type 0} (c : CpuId) (others past : List (Event M)) → AreOthers cpu_of_event c others
@@ -73,16 +64,6 @@ cpu_of_action_known (Give cpu lock name) past may legal = knows past legal cpu l
 pub cpus_of_actions_known : {N : Type 0} (actions : List (Action N)) → AreLegal actions → IsLawful (λ before a. (cpu_of_action a).0 < CPUS) actions
 cpus_of_actions_known [] legal = tt
 cpus_of_actions_known (a ∷ past) legal = (cpu_of_action_known a past legal.0 legal.1, cpus_of_actions_known past legal.1)
-
-pub cpus_of_events_known : {M : Type 0} (log : List (Event M)) → IsLegalWords log → IsLawful (λ before e. (cpu_of_event e).0 < CPUS) log
-cpus_of_events_known [] legal = tt
-cpus_of_events_known {M = M} (e ∷ past) legal =
-    let name : M → M = λ m. m in
-    let acts = legal_acts name (e ∷ past) legal in (
-      subst (λ c. c.0 < CPUS) (cpu_of_action_is name e) (cpu_of_action_known (act_of name e)
-          (acts_of name past) acts.0 acts.1),
-      cpus_of_events_known past legal.1,
-    )
 
 -- Sections of logs, of actions and of both.
 

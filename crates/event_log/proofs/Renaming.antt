@@ -1,10 +1,9 @@
 -- Actions under other names: nothing changes but the names of the sections.
 use Rattle.std.proofs.Common.{◌≡◌, ◌+◌, List, [], ◌∷◌, ◌==◌, if◌then◌else◌, map, refl, ap, sym, ◌∙◌}
-use Rattle.event_log.specs.{declared.ids.CpuId.CpuId, declared.ids.LockId.LockId, declared.events.Event.Event, declared.events.Event.TheVariants.Draw}
-use Rattle.event_log.specs.{declared.events.Event.TheVariants.Look, declared.events.Event.TheVariants.Free, History.same_cpu, History.AreOthers}
-use Rattle.event_log.specs.{Sections.renamed_section, Sections.sections_in}
-use Rattle.event_log.specs.Actions.{Action, Take, Try, Give, Phase, Rests, Waits, Holds, phase, left_in, cpu_of_action, spot_of, takes, gives, is_take, is_give}
-use Rattle.event_log.specs.Actions.{MayAct, AreLegal, action_in, next_action, renamed, act_of, acts_of}
+use Rattle.event_log.specs.{declared.ids.CpuId.CpuId, declared.ids.LockId.LockId, History.same_cpu, History.AreOthers, Actions.Action, Actions.Take}
+use Rattle.event_log.specs.{Actions.Try, Actions.Give, Actions.Phase, Actions.Rests, Actions.Waits, Actions.Holds, Actions.phase, Actions.left_in}
+use Rattle.event_log.specs.{Actions.cpu_of_action, Actions.spot_of, Actions.takes, Actions.gives, Actions.is_take, Actions.is_give, Actions.MayAct}
+use Rattle.event_log.specs.{Actions.AreLegal, Actions.action_in, Actions.next_action, Actions.renamed, Sections.renamed_section, Sections.sections_in}
 
 module _ {N L : Type 0} (f : N → L) where
   cpu_of_action_renamed : (a : Action N) → cpu_of_action (renamed f a) ≡ cpu_of_action a
@@ -77,13 +76,3 @@ module _ {N L : Type 0} (f : N → L) where
   sections_in_renamed (Take cpu lock ∷ past) = sections_in_renamed past
   sections_in_renamed (Try cpu lock hit ∷ past) = sections_in_renamed past
   sections_in_renamed (Give cpu lock name ∷ past) = ap (λ s. record { cpu = cpu; lock = lock; edit = f name } ∷ s) (sections_in_renamed past)
-
--- an event's action under another name is the action under that name
-pub act_of_renamed : {M N L : Type 0} (name : M → N) (f : N → L) (e : Event M) → renamed f (act_of name e) ≡ act_of (λ m. f (name m)) e
-act_of_renamed name f (Draw cpu lock ticket) = refl
-act_of_renamed name f (Look cpu lock ticket read) = refl
-act_of_renamed name f (Free cpu lock mark) = refl
-
-pub acts_of_renamed : {M N L : Type 0} (name : M → N) (f : N → L) (log : List (Event M)) → map (renamed f) (acts_of name log) ≡ acts_of (λ m. f (name m)) log
-acts_of_renamed name f [] = refl
-acts_of_renamed name f (e ∷ log) = λ i. act_of_renamed name f e i ∷ acts_of_renamed name f log i

@@ -1,6 +1,5 @@
 -- What was put into a buffer is what was taken from it, and then what is left: one entry after the other.
-use Rattle.std.proofs.Common.{◌≡◌, ℕ, zero, suc, ◌<◌, ◌==◌, Bool, true, false, if◌then◌else◌, List, [], ◌∷◌, ◌++◌, length, drop, refl, sym, ap, ◌∙◌}
-use Rattle.std.proofs.Common.{append_assoc}
+use Rattle.std.proofs.Common.{◌≡◌, ℕ, zero, suc, ◌<◌, ◌==◌, Bool, true, false, if◌then◌else◌, List, [], ◌∷◌, ◌++◌, length, refl, sym, ap, ◌∙◌, append_assoc}
 use Rattle.std.specs.Prelude.{slice_set}
 use Rattle.std.proofs.lemmas.{Bool.eqb-true, Bool.eqb-false, List.get_or-set_same, List.get_or-set_other}
 use Rattle.event_log.specs.{Messages.Message, declared.entries.Entry.Entry, declared.entries.Kind.Kind, Buffers.empty_buffers, Buffers.items_of}

@@ -3,11 +3,11 @@ use Rattle.std.proofs.Common.{◌≡◌, ◌==◌, ℕ, Bool, true, false, List,
 use Rattle.std.proofs.lemmas.Bool.{false≢true}
 use Rattle.event_log.specs.declared.{ids.BufId.BufId, entries.Entry.Entry}
 use Rattle.event_log.specs.declared.entries.Kind.TheVariants.{Send as SendKind, Recv as RecvKind, Close as CloseKind, SendClosed, RecvClosed}
-use Rattle.guest.specs.{declared.instructions.Register.Register, declared.instructions.Source.Source, declared.instructions.Into.Into}
-use Rattle.guest.specs.{declared.instructions.Instruction.Instruction, State.State, State.next_of, State.value_in, State.message_from, State.moved_on}
-use Rattle.guest.specs.{State.moved_to, State.after_local, State.after_send, State.after_recv, State.after_close, State.after_closed, State.after_yield}
+use Rattle.guest.specs.declared.instructions.{Register.Register, Source.Source, Into.Into, Instruction.Instruction}
 use Rattle.guest.specs.declared.instructions.Instruction.TheVariants.{Set, Add, Sub, Jnz, Send, Recv, Close, Yield, Exit}
-use Rattle.guest.specs.Calls.{IsProgramsCalls, sets, adds, subtracts, jumps, goes_on, yields, sends, receives, closes, offers, asks}
+use Rattle.guest.specs.{State.State, State.next_of, State.value_in, State.message_from, State.moved_on, State.moved_to, State.after_local, State.after_send}
+use Rattle.guest.specs.{State.after_recv, State.after_close, State.after_closed, State.after_yield, Calls.IsProgramsCalls, Calls.sets, Calls.adds}
+use Rattle.guest.specs.{Calls.subtracts, Calls.jumps, Calls.goes_on, Calls.yields, Calls.sends, Calls.receives, Calls.closes, Calls.offers, Calls.asks}
 
 after_jump : (program : List Instruction) (es : List Entry) (s : State) (r : Register) (k : ℕ) (b : Bool) → b ≡ (value_in s r == 0)
     → IsProgramsCalls program es s → next_of program s ≡ Jnz r k

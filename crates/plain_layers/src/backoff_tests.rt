@@ -39,7 +39,24 @@ left 0 7
 end
 --
 Some(AllEnded) Ended
-quiet true, closed false
+quiet true, closed false, busy None
+==
+# The same send after thirty polls: the thread owns the buffer, and has not sent.
+cpus = 1
+trace = 4
+buffers = [1]
+[[thread]]
+cpu = 0
+program = ["set r0 7", "send 0 r0", "exit"]
+-- 000000000000000000000000000000
+mctower-trace 1
+buffers 1
+cap 0 1
+left 0
+end
+--
+None Running(CpuId(0))
+quiet false, closed false, busy Some(Tid(0))
 ==
 # A receiver on CPU 0 waits. A thread on CPU 1 sends 7, wakes it and sends it home, and it receives.
 # The CPUs take steps in turn, since one that stops inside a lock keeps the other waiting.
@@ -63,7 +80,7 @@ end
 --
 Some(AllEnded) Ended
 Some(AllEnded) Ended
-quiet true, closed false
+quiet true, closed false, busy None
 "#;
 
 /// Runs the rows over message calls.

@@ -4,15 +4,15 @@ use Rattle.std.proofs.Math.Path.{transport}
 use Rattle.event_log.specs.{declared.ids.CpuId.CpuId, declared.ids.LockId.LockId, History.IsLawful, Actions.Action, Actions.phase, Actions.renamed}
 use Rattle.event_log.specs.{Sections.Section, Sections.block_after, Sections.renamed_section}
 use Rattle.event_log.proofs.Renaming.{phase_renamed}
-use Rattle.layer_traits.specs.{declared.locked.QEdit.QEdit, declared.locked.QOut.QOut, declared.queue_edits.QueueBlock.QueueBlock}
-use Rattle.layer_traits.specs.{declared.queue_edits.QueueEdit.QueueEdit, declared.queues.QueueEvent.QueueEvent, declared.scheds.SchedCall.SchedCall}
-use Rattle.layer_traits.specs.{declared.sleeps.Outcome.Outcome, ListsAgree.ListsAgree, ListsAgree.is_at, Locking.LockAllowed, Locking.LockRules}
-use Rattle.layer_traits.specs.{Locking.LockState, Locking.wait_list_in, Locking.lock_after, LockLaw.LocksAgree, LockLaw.lock_kernel, Places.AreMoves}
-use Rattle.layer_traits.specs.{Places.Stands, Places.Threads, Places.count_in, Places.one_if, Places.wait_channel_of, Places.where_is, Plans.is_in_section}
-use Rattle.layer_traits.specs.{QueueBlocks.homes_in, QueueBlocks.inner, Queues.Kernel, Queues.QueueAllowed, Queues.buffer_sections, Queues.moves_in}
-use Rattle.layer_traits.specs.{Renaming.renamed_edit, Renaming.renamed_events, Renaming.renamed_sched, Renaming.viewed, SleepLaw.sleep_kernel}
-use Rattle.layer_traits.specs.{Sleeping.SleepState, Sleeping.wait_list_at, Sleeping.sleep_edited}
-use Rattle.layer_traits.specs.declared.moves.WaitList.{WaitList, TheVariants.Sleepers, TheVariants.Receivers, TheVariants.Senders}
+use Rattle.layer_traits.specs.declared.{locked.QEdit.QEdit, locked.QOut.QOut, moves.WaitList.WaitList, moves.WaitList.TheVariants.Sleepers}
+use Rattle.layer_traits.specs.declared.{moves.WaitList.TheVariants.Receivers, moves.WaitList.TheVariants.Senders, queue_edits.QueueBlock.QueueBlock}
+use Rattle.layer_traits.specs.declared.{queue_edits.QueueEdit.QueueEdit, queues.QueueEvent.QueueEvent, scheds.SchedCall.SchedCall, sleeps.Outcome.Outcome}
+use Rattle.layer_traits.specs.{ListsAgree.ListsAgree, ListsAgree.is_at, Locking.LockAllowed, Locking.LockRules, Locking.LockState, Locking.wait_list_in}
+use Rattle.layer_traits.specs.{Locking.lock_after, LockLaw.LocksAgree, LockLaw.lock_kernel, Places.AreMoves, Places.Stands, Places.Threads, Places.count_in}
+use Rattle.layer_traits.specs.{Places.one_if, Places.wait_channel_of, Places.where_is, Plans.is_in_section, QueueBlocks.homes_in, QueueBlocks.inner}
+use Rattle.layer_traits.specs.{Queues.Kernel, Queues.QueueAllowed, Queues.buffer_sections, Queues.moves_in, Renaming.renamed_edit, Renaming.renamed_events}
+use Rattle.layer_traits.specs.{Renaming.renamed_sched, Renaming.viewed, SleepLaw.sleep_kernel, Sleeping.SleepState, Sleeping.wait_list_at}
+use Rattle.layer_traits.specs.{Sleeping.sleep_edited}
 use Rattle.layer_traits.proofs.KernelRenaming.{Wraps, block_renamed, homes_viewed, inner_viewed, lawful_renamed, moves_renamed, sections_renamed}
 use Rattle.queuing_lock.specs.{declared.edits.QBlock.QBlock, declared.edits.QLockEdit.QLockEdit, Laws.Edits.answers, Laws.Edits.edits, Nested.busy_rules}
 use Rattle.queuing_lock.specs.{Nested.edit_in, Nested.nested_lock_of, Nested.locks}
