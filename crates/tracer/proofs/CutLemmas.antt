@@ -1,7 +1,9 @@
 -- A text cut at the first place of a byte.
-use Rattle.std.proofs.Common.{◌≡◌, ℕ, ◌+◌, ◌<◌, ◌==◌, true, false, List, [], ◌∷◌, ◌++◌, length, get_or, take, drop, sym, ap, ◌∙◌, arith}
-use Rattle.std.specs.List.{slice_split}
-use Rattle.std.proofs.lemmas.List.{take-append-drop, drop_more, get_or-take, length-take, get_or_default, Splits.slice_split_at, Splits.slice_split_none}
+use Rattle.std.proofs.Common.{◌≡◌, ℕ, ◌+◌, ◌-◌, ◌<◌, ◌≤◌, ◌==◌, true, false, ⊎_elim, List, [], ◌∷◌, ◌++◌, length, get_or, take, drop, sym, ap, ◌∙◌, arith}
+use Rattle.std.specs.{Array.IsFirstChunk, List.list_any, List.slice_split}
+use Rattle.std.proofs.lemmas.Bool.{cases_lt, false_from_ne_true, true≢false}
+use Rattle.std.proofs.lemmas.List.{take-append-drop, take_rest, drop_more, get_or-take, get_or-drop, length-take, length-drop, get_or_default}
+use Rattle.std.proofs.lemmas.List.{Folds.list_any_at, Splits.slice_split_at, Splits.slice_split_none}
 
 pub cut_at : (at : ℕ) (text : List ℕ) (i : ℕ) → i < length text → ((k : ℕ) → k < i → (get_or text k 0 == at) ≡ false) → (get_or text i 0 == at) ≡ true
     → slice_split (λ b. b == at) text ≡ take i text ∷ slice_split (λ b. b == at) (drop (i + 1) text)
@@ -18,3 +20,24 @@ pub cut_none : (at : ℕ) (text : List ℕ) → ((k : ℕ) → k < length text �
 cut_none at text before =
     let none : (k : ℕ) (d : ℕ) → k < length text → (get_or text k d == at) ≡ false = λ k d inside. rw (get_or_default text k d 0 inside) (before k inside) in
     slice_split_none (λ b. b == at) text none
+
+-- the n bytes from start on are in the text
+pub chunk_inside : (text : List ℕ) (start n : ℕ) (chunk : List ℕ) → start ≤ length text → IsFirstChunk (take (length text - start) (drop start text)) chunk n
+    → start + n ≤ length text
+chunk_inside text start n chunk inside first = omega (arith, first.enough, ap length (take_rest text start), length-drop start text)
+
+-- where they lack a byte that nothing before start is, nothing before their end is that byte
+pub chunk_passed : (at : ℕ) (text : List ℕ) (start n : ℕ) (chunk : List ℕ) → start ≤ length text → IsFirstChunk (take (length text - start) (drop start text)) chunk n
+    → list_any (λ b. b == at) chunk ≡ false → ((k : ℕ) → k < start → (get_or text k 0 == at) ≡ false)
+    → (k : ℕ) → k < start + n → (get_or text k 0 == at) ≡ false
+chunk_passed at text start n chunk inside first lacks before k below =
+    let within : start + n ≤ length text = chunk_inside text start n chunk inside first in
+    let same : chunk ≡ take n (drop start text) = first.same ∙ ap (take n) (take_rest text start) in
+    let behind : start ≤ k → (get_or text k 0 == at) ≡ false = λ high.
+    let here : get_or chunk (k - start) 0 ≡ get_or text k 0 =
+    ap (λ bytes. get_or bytes (k - start) 0) same ∙ get_or-take n (drop start text) (k - start) 0 (omega arith) ∙ get_or-drop start text (k - start) 0
+    ∙ ap (λ i. get_or text i 0) (omega arith) in
+    let inner : k - start < length chunk = omega (arith, ap length same, length-take n (drop start text), length-drop start text) in
+    false_from_ne_true (get_or text k 0 == at)
+    (λ found. true≢false (sym (list_any_at (λ b. b == at) chunk (k - start) 0 inner (ap (λ b. b == at) here ∙ found)) ∙ lacks)) in
+    ⊎_elim (λ low. before k low) behind (cases_lt k start)

@@ -5,7 +5,7 @@ ghost use Rattle.tracer.specs.{declared.verdicts.Verdict.TheVariants.Yes as Says
 
 use crate::judge::Judge;
 use crate::laws::yes_is_right;
-use crate::pieces::cut;
+use crate::pieces::cut_line;
 use crate::verdicts::{Reason, Verdict};
 
 /// Judges a text: whether it is the trace text of a run of first-in first-out buffers that ends in
@@ -29,7 +29,7 @@ fn judged(text: &[u8]) -> Verdict
     let mut judge = Judge::new();
     let mut rest = text;
     let mut line: usize = 1;
-    while let Some((front, after)) = cut(rest, b'\n') {
+    while let Some((front, after)) = cut_line(rest) {
         if let Err(reason) = judge.step(front) {
             return Verdict::No(line, reason);
         }

@@ -1,7 +1,7 @@
 //! A text cut at a byte, and the pieces of a line. No call takes memory or waits.
 
-ghost use Rattle.std.specs.Prelude.{◌≡◌, ◌+◌, ◌≤◌, ◌==◌, ◌∷◌, [], ℕ, length, IfNone, IfSome, IfOk};
-ghost use Rattle.std.specs.List.{slice_split};
+ghost use Rattle.std.specs.Prelude.{◌≡◌, ◌+◌, ◌<◌, ◌≤◌, ◌==◌, ◌∷◌, [], ℕ, false, length, get_or, IfNone, IfSome, IfOk};
+ghost use Rattle.std.specs.List.{list_any, slice_split};
 ghost use Rattle.tracer.specs.{Judging.GivesOrReason, Judging.piece_at, Judging.word_at, Judging.digits_at, Judging.ended, Judging.in_range, Judging.is_value};
 ghost use Rattle.tracer.specs.{Lines.left_of};
 
@@ -19,6 +19,52 @@ pub fn cut(text: &[u8], at: u8) -> Option<(&[u8], &[u8])>
     for (i, byte) in text.iter().enumerate() {
         if *byte == at {
             return Some((&text[..i], &text[i + 1..]));
+        }
+    }
+    None
+}
+
+/// How many bytes are compared at a time where a line's end is looked for.
+const CHUNK: usize = 16;
+
+// Whether the chunk holds the byte. Nothing leaves the loop early, so all bytes are compared at once.
+#[inline(always)]
+fn holds(chunk: &[u8; CHUNK], at: u8) -> bool
+    ensures { result ≡ list_any (λ b. b == at) chunk.now }
+{
+    let mut found = false;
+    for byte in chunk {
+        found |= *byte == at;
+    }
+    found
+}
+
+// Where the first chunk starts that holds the byte, or else the end of the last chunk.
+#[inline(always)]
+fn chunk_with(text: &[u8], at: u8) -> usize
+    ensures inside { result ≤ length text.now }
+    ensures before { (k : ℕ) → k < result → (get_or text.now k 0 == at) ≡ false }
+{
+    let mut start = 0;
+    while let Some(chunk) = text[start..].first_chunk::<CHUNK>() {
+        if holds(chunk, at) {
+            return start;
+        }
+        start += CHUNK;
+    }
+    start
+}
+
+/// The first line of the text, without its line feed, and what stands behind that. A line is longer
+/// than a piece, so its end is looked for a chunk at a time.
+pub fn cut_line(text: &[u8]) -> Option<(&[u8], &[u8])>
+    ensures none { IfNone result (slice_split (λ b. b == 10) text.now ≡ text.now ∷ []) }
+    ensures some { IfSome result (λ p. slice_split (λ b. b == 10) text.now ≡ p.0.now ∷ slice_split (λ b. b == 10) p.1.now) }
+    ensures shorter { IfSome result (λ p. length p.0.now + 1 + length p.1.now ≡ length text.now) }
+{
+    for end in chunk_with(text, b'\n')..text.len() {
+        if text[end] == b'\n' {
+            return Some((&text[..end], &text[end + 1..]));
         }
     }
     None
