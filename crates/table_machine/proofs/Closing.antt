@@ -106,19 +106,17 @@ module _ {E B O : Type 0} (R : Rules E B O) where
       }
 
   -- a key is taken in
-  pub absorb_reads : (start : List (LockId × B)) (cpu : CpuId) (ticket : ℕ) (table : TableId) (v u w o : Me (Home E B) (View E B)) (slots found : ℕ)
-      (d : SeatView E B)
+  pub absorb_reads : (start : List (LockId × B)) (cpu : CpuId) (ticket : ℕ) (table : TableId) (v o : Me (Home E B) (View E B)) (d : SeatView E B)
       → seat_view_of cpu table o ≡ d → IsKey R cpu ticket o → lock_phase d.cpu d.seen ≡ Idle
-      → u ≡ (joined v.0 o.0, v.1) → Met R (step slots 0 0 0 none) u found w
-      → (seat_views : List (SeatView E B)) → Gathered start v.0 seat_views → Gathered start w.0 (seat_views ++ d ∷ [])
-  absorb_reads start cpu ticket table v u w o slots found d d_is key over u_is met =
+      → {u w : Me (Home E B) (View E B)} {slots found : ℕ} → u ≡ (joined v.0 o.0, v.1) → Met R (step slots 0 0 0 none) u found w
+      → {seat_views : List (SeatView E B)} → Gathered start v.0 seat_views → Gathered start w.0 (seat_views ++ d ∷ [])
+  absorb_reads start cpu ticket table v o d d_is key over {u} {w} {slots} {found} u_is met {seat_views} gathered =
       let cpus_are : o.0.cpus ≡ cpu ∷ [] = ap (λ (x : View E B). x.cpus) key.view in
       let u_at : u ≡ (record { start = v.0.start; cpus = v.0.cpus; seen = v.0.seen; told = o.0.seen; lent = cpu ∷ [] }, v.1) =
       u_is ∙ ap (λ (l : List CpuId). (record { start = v.0.start; cpus = v.0.cpus; seen = v.0.seen; told = o.0.seen; lent = l }, v.1)) cpus_are in
       let met' = subst (λ (m : Me (Home E B) (View E B)). Met R (step slots 0 0 0 none) m found w) u_at met in
-      subst (λ (d : SeatView E B). lock_phase d.cpu d.seen ≡ Idle → (seat_views : List (SeatView E B)) → Gathered start v.0 seat_views → Gathered start w.0 (seat_views ++ d ∷ []))
-      d_is
-      (λ over seat_views g. gathered_more start v.0 seat_views (seat_view_of cpu table o) (step slots 0 0 0 none) v.1 found w g over met') over
+      subst (λ (d : SeatView E B). lock_phase d.cpu d.seen ≡ Idle → Gathered start w.0 (seat_views ++ d ∷ [])) d_is
+      (λ over. gathered_more start v.0 seat_views (seat_view_of cpu table o) (step slots 0 0 0 none) v.1 found w gathered over met') over
 
   -- a key whose CPU is outside carries no slot
   pub absorb_carries : (cpu : CpuId) (ticket : ℕ) (table : TableId) (o : Me (Home E B) (View E B)) (d : SeatView E B) → seat_view_of cpu table o ≡ d

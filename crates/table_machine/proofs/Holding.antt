@@ -1,5 +1,5 @@
 -- What the looks and the frees of a key ask of the table, and what they tell.
-use Rattle.std.proofs.Common.{◌≡◌, ℕ, ◌<◌, inl, inr, true, false, List, [], ◌∷◌, Some, IsSome, option_map, refl, ap, sym, ◌∙◌, subst}
+use Rattle.std.proofs.Common.{◌≡◌, ℕ, ◌+◌, ◌<◌, ◌%◌, ◌^◌, inl, inr, true, false, List, [], ◌∷◌, None, Some, IsSome, option_map, refl, ap, sym, ◌∙◌, subst}
 use Rattle.atomic_table.specs.{Seated.TableId, Table.Me, Table.Allows, Table.rest}
 use Rattle.event_log.specs.{declared.ids.CpuId.CpuId, declared.ids.LockId.LockId, declared.events.Event.TheVariants.Look}
 use Rattle.event_log.specs.{declared.events.Event.TheVariants.Free, History.Adds, WordsLog.cpu_of_event, WordsLog.lock_phase, WordsLog.LockPhase, WordsLog.Idle}
@@ -107,7 +107,7 @@ module _ {E B O : Type 0} (R : Rules E B O) where
               (λ m. f_is m ∙ ap (λ (t : ℕ). given_on (K.stores t) m) ticket_is))),
         )
 
-    pub free_asks : (d : SeatView E B) (b : TableView B) (lock : LockId) (ticket : ℕ) (block : B) (edit : E) (now : TableId) (v : Me (Home E B) (View E B))
+    free_asks : (d : SeatView E B) (b : TableView B) (lock : LockId) (ticket : ℕ) (block : B) (edit : E) (now : TableId) (v : Me (Home E B) (View E B))
         (rank : ℕ) (f : ℕ → ℕ)
         → seat_view_of cpu table me ≡ d → table_view_of z start n ≡ b → IsOf b d → IsSome (opened d.start lock) → lock_phase d.cpu d.seen ≡ Holding lock ticket
         → option_map (R.edited edit) (block_after R.edited (opened d.start) lock (sections d.seen)) ≡ Some block
@@ -123,6 +123,25 @@ module _ {E B O : Type 0} (R : Rules E B O) where
         → ((m : ℕ) → f m ≡ given_on (K.stores kept) m) → now ≡ table → v ≡ (me.0, (rank, record { block = Some block; edit = Some edit }) ∷ rest me.1)
         → (now ≡ z) × (word < z.words) × Allows (TableInv K R n start) z.slots id v word f (λ _. Freed R v) in
         subst (λ d. P d b) d_is (subst (λ b. P (seat_view_of cpu table me) b) b_is (free_plain lock ticket block edit now v rank f))
+
+    -- what a write asks that gives the lock on: as a store of this number, or as an addition of 1
+    module _ (d : SeatView E B) (b : TableView B) (lock : LockId) (ticket : ℕ) (block : B) (edit : E) (d_is : seat_view_of cpu table me ≡ d)
+        (b_is : table_view_of z start n ≡ b) (of : IsOf b d) (exists : IsSome (opened d.start lock)) (inside : lock_phase d.cpu d.seen ≡ Holding lock ticket)
+        (edited : option_map (R.edited edit) (block_after R.edited (opened d.start) lock (sections d.seen)) ≡ Some block)
+        (stays : StaysAllowed (R.allowed (opened d.start)) (sections d.seen) (section d.cpu lock edit)) where
+      pub store_asks : (now : TableId) (v : Me (Home E B) (View E B)) (number : ℕ) → word ≡ word_at (rank_of b.start lock) (K.gives_at kept)
+          → K.stores kept ≡ Some number → now ≡ table
+          → v ≡ (me.0, (rank_of b.start lock, record { block = Some block; edit = Some edit }) ∷ rest me.1)
+          → (now ≡ z) × (word < z.words) × Allows (TableInv K R n start) z.slots id v word (λ _. number) (λ _. Freed R v)
+      store_asks now v number word_is stores now_is v_is = free_asks d b lock ticket block edit now v (rank_of b.start lock) (λ _. number) d_is b_is of
+          exists inside edited stays word_is refl (λ m. ap (λ o. given_on o m) (sym stores)) now_is v_is
+
+      pub add_asks : (now : TableId) (v : Me (Home E B) (View E B)) → word ≡ word_at (rank_of b.start lock) (K.gives_at kept)
+          → K.stores kept ≡ None → now ≡ table
+          → v ≡ (me.0, (rank_of b.start lock, record { block = Some block; edit = Some edit }) ∷ rest me.1)
+          → (now ≡ z) × (word < z.words) × Allows (TableInv K R n start) z.slots id v word (λ m. (m + 1) % 2 ^ 64) (λ _. Freed R v)
+      add_asks now v word_is stores now_is v_is = free_asks d b lock ticket block edit now v (rank_of b.start lock) (λ m. (m + 1) % 2 ^ 64) d_is b_is of
+          exists inside edited stays word_is refl (λ m. ap (λ o. given_on o m) (sym stores)) now_is v_is
 
   module _ (K : WordKind) (cpu : CpuId) (kept : ℕ) (table : TableId) (v w : Me (Home E B) (View E B)) (found : ℕ) (lock : LockId) (ticket : ℕ)
       (key : IsKey R cpu kept v) where
@@ -251,10 +270,20 @@ module _ {E B O : Type 0} (R : Rules E B O) where
       home_in : {a b : ℕ} {p q : Home E B} {ps qs : List (ℕ × Home E B)} → (a, p) ∷ ps ≡ (b, q) ∷ qs → p ≡ q
       home_in {p = p} e = ap (head_home p) e
 
-  pub free_reads : (cpu : CpuId) (kept : ℕ) (table : TableId) (me v w : Me (Home E B) (View E B)) (rank : ℕ) (lock : LockId) (ticket : ℕ) (block : B)
-      (edit : E) (d : SeatView E B) → seat_view_of cpu table me ≡ d → IsKey R cpu kept me
-      → lock_phase d.cpu d.seen ≡ Holding lock ticket → v ≡ (me.0, (rank, record { block = Some block; edit = Some edit }) ∷ rest me.1)
-      → Freed R v w → FreeDone d cpu kept lock edit w
-  free_reads cpu kept table me v w rank lock ticket block edit d d_is key inside v_is told =
-      subst (λ d. lock_phase d.cpu d.seen ≡ Holding lock ticket → FreeDone d cpu kept lock edit w) d_is
-      (λ inside. free_done cpu kept table me v w rank lock ticket block edit key inside v_is told) inside
+  -- the same, where the slot that the seat carries was exchanged for one with this block and this edit
+  module _ (cpu : CpuId) (kept : ℕ) (table : TableId) (me : Me (Home E B) (View E B)) (lock : LockId) (ticket : ℕ) (block : B) (edit : E) (d : SeatView E B)
+      (d_is : seat_view_of cpu table me ≡ d) (key : IsKey R cpu kept me) (inside : lock_phase d.cpu d.seen ≡ Holding lock ticket) where
+    free_reads : (w : Me (Home E B) (View E B)) (rank : ℕ) (x : Home E B) → x ≡ record { block = Some block; edit = Some edit }
+        → Freed R (me.0, (rank, x) ∷ rest me.1) w → FreeDone d cpu kept lock edit w
+    free_reads w rank x x_is told =
+        subst (λ d. lock_phase d.cpu d.seen ≡ Holding lock ticket → FreeDone d cpu kept lock edit w) d_is
+        (λ inside. free_done cpu kept table me (me.0, (rank, x) ∷ rest me.1) w rank lock ticket block edit key inside
+        (ap (λ (h : Home E B). (me.0, (rank, h) ∷ rest me.1)) x_is) told) inside
+
+    pub free_adds : {w : Me (Home E B) (View E B)} {rank : ℕ} {x : Home E B} → x ≡ record { block = Some block; edit = Some edit }
+        → Freed R (me.0, (rank, x) ∷ rest me.1) w → Adds (IsCpu d.cpu) cpu_of_event (Free d.cpu lock (mark_of edit)) d.seen w.0.seen
+    free_adds {w} {rank} {x} x_is told = (free_reads w rank x x_is told).adds
+
+    pub free_key : {w : Me (Home E B) (View E B)} {rank : ℕ} {x : Home E B} → x ≡ record { block = Some block; edit = Some edit }
+        → Freed R (me.0, (rank, x) ∷ rest me.1) w → IsKey R cpu kept w
+    free_key {w} {rank} {x} x_is told = (free_reads w rank x x_is told).key

@@ -75,3 +75,13 @@ module _ {E B O : Type 0} (R : Rules E B O) where
     subst (λ (m : Me (Home E B) (View E B)). Allows (TableInv K R n start) z.slots id m 0 (λ m. m) (Met R (step z.slots 0 0 0 none) m)) (sym u_is)
         (meets_allowed K R n start z.slots id (joined v.0 o) v.1 of.1),
   )
+
+  -- a load of it by a seat of this table, whatever that seat was told
+  pub meets_here : (K : WordKind) (start : List (LockId × B)) (n slots id : ℕ) (u : Me (Home E B) (View E B)) → u.0.start ≡ start
+      → Allows (TableInv K R n start) slots id u 0 (λ m. m) (Met R (step slots 0 0 0 none) u)
+  meets_here K start n slots id u started = meets_allowed K R n start slots id u.0 u.1 started
+
+-- a seat whose view is this one is of the table of which the view is
+pub start_joined : {E B : Type 0} (start : List (LockId × B)) (u : Me (Home E B) (View E B)) (v : View E B) (held : List (ℕ × Home E B)) → u ≡ (v, held)
+    → v.start ≡ start → u.0.start ≡ start
+start_joined start u v held u_is started = ap (λ (m : Me (Home _ _) (View _ _)). m.0.start) u_is ∙ started
