@@ -359,7 +359,7 @@ def main():
         for it in known:
             it.verdict = "refused before"
         if known:
-            say(f"wrong-bodies {crate.name}: {len(known)} of {len(of[crate])} were refused before, over this very text")
+            say(f"wrong-bodies {crate.name}: {len(known)} of {len(of[crate])} were refused before, by their sums")
     due = [it for it in crates if any(not body.verdict for body in of[it])]
     build_beneath(lib, due, given.after_ci)
 
