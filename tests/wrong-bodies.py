@@ -14,9 +14,9 @@ Bodies of different functions are tried in ONE check of a copy of the crate. A b
 `no proof: ..`. A failed callee does not count: such a body, and one that got no verdict, is tried again in a later round, at last alone. What is still proved
 then fails by name. So does an edit that cannot be applied, names no function, or ends in no verdict, as for want of memory.
 
-tests/wrong-bodies.sums tells what was refused: for each body a sum of the kit's logic, of the crate's text, of the sources and definitions of all beneath it, and
-of the body itself. Comments do not count, nor how imports are laid out. A body whose sum stands there is not tried again; --all tries it all the same. This
-script alone writes the sums. --after-ci takes the libraries as `rt ci` left them, and takes the crates as proved; without it
+tests/wrong-bodies.sums tells what was refused: for each body a sum of the kit's logic, of the crate's text, of the contracts and definitions of all beneath it,
+and of the body itself. Comments do not count, nor how imports are laid out, nor the bodies of other files' functions: a proof reads the contract of what it
+calls. A body whose sum stands there is not tried again; --all tries it all the same. This script alone writes the sums. --after-ci takes the libraries as `rt ci` left them, and takes the crates as proved; without it
 the libraries are built first, and each function has to be proved as it stands. The last line is 'N passed, M failed'.
 """
 import argparse
@@ -45,6 +45,9 @@ UNREAD = re.compile(r"(?:\./)?(?:src|specs)/\S+?:\d+:\d+: error: (.*)")
 # An import of definitions, and one that names them in braces.
 IMPORT = re.compile(r"\s*((unfoldable )?(pub )?use [^{}:]+(\{[^{}]+\})?|(pub )?ghost use [^{}]+(\{[^{}]+\})?;)$")
 NAMES = re.compile(r"(.* )([^{} ]+)\.\{([^{}]+)\};?$")
+# The head of a function, and a line that tells the compiler or the prover something that no caller reads.
+FUNCTION = re.compile(r"( *)(?:pub(?:\([a-z]+\))? )?(?:unsafe )?fn ")
+HINT = re.compile(r"\s*#\[(inline|cold|tactic)\b.*\]$")
 UNREAD_WORDS = re.compile(r"is not in scope|has no field|is no name|operand is missing|expected the end|cannot continue")
 printing = threading.Lock()
 
@@ -240,26 +243,57 @@ def read_as_proved(path):
     return "\n".join(kept)
 
 
+def without_bodies(text):
+    """Returns the text of a source file without the bodies of its functions and without hints to the compiler: what a caller's proof reads of it.
+    `rt fmt` lays a body out from a line that ends in its brace to a line that is the closing brace, both as deep as the function. A `const fn` keeps its own,
+    since a constant's value may come from it."""
+    kept, opens, ends = [], None, None
+    for line in text.split("\n"):
+        found = FUNCTION.match(line)
+        if ends is not None:
+            ends = None if line == ends else ends
+            continue
+        if found:
+            opens = found[1]
+        head = line[len(opens) :] if opens is not None and line.startswith(opens) else "end"
+        if line.endswith("{") and (found or head[0] in "{)>"):
+            opens, ends = None, f"{opens}}}"
+        elif not found and head[0] not in " )>" and head != "where":
+            opens = None
+        if not HINT.match(line):
+            kept.append(line)
+    return "\n".join(kept)
+
+
 def sum_of(lib, crate):
-    """Returns the sum of all but the body that a verdict on a wrong body of the crate rests on. Of the crates beneath, no proof: a contract that
-    a body breaks stays broken, however those crates were proved to keep theirs."""
+    """Returns what gives the sum of all but the body that a verdict on a wrong body rests on, for the files that the body changes. Of the crates beneath, the
+    contracts and definitions: a contract that a body breaks stays broken, however those crates keep theirs. Of the crate, all but the bodies of other files."""
     told = subprocess.run(["rt", "version"], stdout=subprocess.PIPE, text=True, check=True).stdout
     logic = re.search(r"logic \w+", told)
     if not logic:
         sys.exit(f"wrong-bodies: `rt version` names no logic: {told.strip()}")
-    total = hashlib.sha256(logic[0].encode())  # kits of one logic give one verdict
+    below = hashlib.sha256(logic[0].encode())  # kits of one logic give one verdict
+    own = []
     for it in sorted([crate, *crate.below()], key=lambda it: it.name):
         for file in sorted(lib.files_of(it.folder)):
-            if it is crate or not file.startswith(f"{it.folder}/proofs/"):
-                total.update(f"{os.path.relpath(file, ROOT)}\0{read_as_proved(file)}".encode())
-        total.update(" ".join([it.name, *(dep.name for dep in it.deps), *it.of_kit]).encode())
-    return total
+            name, text = os.path.relpath(file, it.folder), read_as_proved(file)
+            told = without_bodies(text) if file.endswith(".rt") else text
+            if it is crate:
+                own.append((name, text, told))
+            elif not name.startswith("proofs/"):
+                below.update(f"{it.name}/{name}\0{told}".encode())
+        below.update(" ".join([it.name, *(dep.name for dep in it.deps), *it.of_kit]).encode())
+    return below, own
 
 
 def sum_with(total, body):
-    total = total.copy()
-    total.update(open(body.file, "rb").read())
-    return total.hexdigest()[:32]
+    below, own = total
+    whole = below.copy()
+    changed = {at for at, _, _ in body.pairs}
+    for name, text, told in own:
+        whole.update(f"{name}\0{text if name in changed else told}".encode())
+    whole.update(open(body.file, "rb").read())
+    return whole.hexdigest()[:32]
 
 
 def bodies_of(crate, folder):
