@@ -1,4 +1,4 @@
-//! Who waits at which buffer.
+//! Who waits at which buffer. No call takes memory or waits.
 
 ghost use Rattle.std.specs.Prelude.{◌≡◌, ◌<◌, ◌&&◌, Some, None, is_some, replicate, slice_set, if◌then◌else◌};
 ghost use Rattle.event_log.specs.declared.ids.TheConstants.{THREADS};

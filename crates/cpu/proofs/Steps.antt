@@ -139,19 +139,6 @@ module _ (cpu : ValidCpu) (t : Tid) (c : Call) (chose : chosen cpu.own cpu.guest
   poll_call_states = may_poll_call (call_state_of call_states t) c follows_at.0
       (begun_for polls_at.guest (of_thread t.0 (of_cpu number seen)) (call_state_of call_states t) c follows_at polls_at.asks)
 
-  pub poll_goes_on : MayGoOn under_way (Calling t)
-  poll_goes_on = go under_way refl
-    where
-      go : (d : Option UnderWay) → under_way ≡ d → MayGoOn d (Calling t)
-      go None at = tt
-      go (Some d) at =
-          let agreed : under_way_of (chosen own guests) ≡ Some d = is.agrees d at in
-          let calling : Some (Calling t) ≡ Some d = sym (ap under_way_of chose) ∙ agreed in
-          cc calling
-
-  pub poll_hand : under_way ≡ None → own.hand ≡ None
-  poll_hand none = is.handed t polls_at.runs none
-
   pub poll_buffer : (buffer_of c).0 < buffers
   poll_buffer = ltb-true (buffer_of c).0 buffers
       (named_buffer (next_of polls_at.guest.program polls_at.guest.thread) polls_at.guest.thread c buffers polls_at.asks

@@ -162,10 +162,6 @@ module _ (cpu : TabledCpu) where
     quick2 : (q : Pass) → under_way2 ≡ Some (Passing q) → IsLocalPass q → ⊥
     quick2 q does local = passing_none pass q result at_once (sym under_way_is ∙ does) local
 
-    over_so : (u : Tid) → is_in u (threads_in own).ended ≡ true → is_in u (threads_if (threads_in own) pass queue result).ended ≡ true
-        → is_in u (threads_in own2).ended ≡ true
-    over_so u before now = subst (λ (x : Threads). is_in u x.ended ≡ true) (sym threads_are) now
-
     ended_more : (u t : Tid) → is_in u (threads_in own).ended ≡ true → is_in u ((threads_in own).ended ++ t ∷ []) ≡ true
     ended_more u t before = pushed_in u t (threads_in own).ended ∙ ap (λ b. b || (same_tid u t || false)) before
 

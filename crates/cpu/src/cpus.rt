@@ -183,6 +183,11 @@ impl<I: CallLayer<IpcLaw>> Cpu<I> {
 
     /// The step of a CPU that is not halted and asks for no further look at a lock: one local action
     /// or one atomic action.
+    ///
+    /// Requires: the part and the machine agree. The machine has room for one more event. The part
+    /// is the one of the CPU's number. The CPU's threads, guests and trace agree with what was done
+    /// in the machine. If each poll is one action, the CPU also stands as the step table says. The
+    /// CPU is not halted.
     #[inline(always)]
     pub(crate) fn go(&mut self, m: &mut I::Machine)
         requires fits { I.Fits self.old.part m.old }
@@ -236,6 +241,10 @@ impl<I: CallLayer<IpcLaw>> Cpu<I> {
 
     /// Looks again for a section that waits at its lock, and tells whether it did. Where it tells
     /// `true` this was the CPU's step; where it tells `false` nothing has changed.
+    ///
+    /// Requires: the part and the machine agree. The machine has room for one more event. The part
+    /// is the one of the CPU's number. The CPU's threads, guests and trace agree with what was done
+    /// in the machine. If each poll is one action, the CPU also stands as the step table says.
     #[inline(always)]
     pub(crate) fn look(&mut self, m: &mut I::Machine) -> bool
         requires fits { I.Fits self.old.part m.old }

@@ -60,6 +60,8 @@ impl Guests {
     }
 
     /// What stands at this thread's number.
+    ///
+    /// Requires: the thread's number is one of the table.
     #[inline(always)]
     pub(crate) fn at(&self, thread: Tid) -> &Option<Guest>
         requires { thread.0 < length self.now.items }
@@ -87,6 +89,9 @@ impl Guests {
     /// The message call at which this thread's guest stands, which is the one asked for, where it
     /// lies: nothing is copied. It is made at the first poll, and kept until the guest moves on or
     /// another thread calls.
+    ///
+    /// Requires: the thread's number is one of the table, and the call asked for is the one at
+    /// which its guest stands.
     #[inline(always)]
     pub(crate) fn call_of(&mut self, thread: Tid, asked: Ghost<Call>) -> &Call
         requires within { thread.0 < length self.old.items }
@@ -117,6 +122,8 @@ impl Guests {
 
     /// Notes what a poll of a thread's call answered, and tells whether an effect that the call has
     /// after it came in it.
+    ///
+    /// Requires: the thread's number is one of the table.
     #[inline(always)]
     pub(crate) fn note_poll(
         &mut self,
@@ -144,6 +151,8 @@ impl Guests {
     }
 
     /// Notes that a pass is done which began while this thread ran.
+    ///
+    /// Requires: the thread that runs, if there is one, has a number of the table.
     #[inline(always)]
     pub(crate) fn note_pass(&mut self, runs: Option<Tid>, pass: Pass)
         requires { (t : _) → runs ≡ Some t → t.0 < length self.old.items }
@@ -171,6 +180,8 @@ impl Guests {
     }
 
     /// Notes that a thread did an instruction of its own.
+    ///
+    /// Requires: the thread's number is one of the table.
     #[inline(always)]
     pub(crate) fn note_compute(&mut self, thread: Tid)
         requires { thread.0 < length self.old.items }

@@ -31,10 +31,6 @@ use Rattle.event_log.specs.declared.entries.Kind.TheVariants as kind
 use Rattle.layer_traits.specs.declared.buffer_edits.BufferOut.TheVariants as told
 use Rattle.layer_traits.specs.declared.conditions.CvOut.TheVariants as answer
 
-and_second : (x y : Bool) → (x && y) ≡ true → y ≡ true
-and_second true y e = e
-and_second false y e = absurd cc
-
 -- what a section did, where it was told this: the stance and the call state after it, and its effect
 pub record Stepped (opening : LockId → Option BufferLock) (past : List BufferSection) (c : CpuId) (t : Tid) (call : Call) (stage : Stage)
     (position : ℕ) (effect : Option Effect) (out : QOut (CvOut BufferOut)) : Type 0 where

@@ -47,11 +47,6 @@ recorded_if call_state stage (Some outcome) = recorded call_state stage outcome.
 abbrev pub reply_at : Call → Stage → Option Effect → Option Reply
 reply_at call stage effect = replied call (record { stage = stage; call = Some call; position = 0; effect = effect }) stage
 
--- the call states after it
-abbrev pub recorded_call_states : List CallState → Tid → Stage → Option BufferOutcome → List CallState
-recorded_call_states call_states t stage None = call_states
-recorded_call_states call_states t stage (Some outcome) = slice_set call_states t.0 (recorded (call_state_of call_states t) stage outcome.out)
-
 -- no section of a buffer is under way
 abbrev pub NoSection : Option (SchedCall (CvCall BufferEdit)) → Type 0
 NoSection None = Unit {0}

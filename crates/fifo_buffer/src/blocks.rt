@@ -1,4 +1,4 @@
-//! The blocks of buffers at boot.
+//! The blocks of buffers at boot. `empty_blocks` takes memory. It does not wait.
 
 ghost use Rattle.std.specs.Prelude.{◌≡◌, All, IfOk, map};
 ghost use Rattle.event_log.specs.Buffers.{IsCapacity};

@@ -1,4 +1,4 @@
-//! The call states of all threads.
+//! The call states of all threads. No call takes memory or waits.
 
 ghost use Rattle.std.specs.Prelude.{◌≡◌, ◌<◌, is_some, replicate, slice_set};
 ghost use Rattle.event_log.specs.declared.ids.TheConstants.{THREADS};

@@ -1,4 +1,4 @@
-//! The sections of a message call, stage by stage.
+//! The sections of a message call, stage by stage. No call takes memory or waits.
 
 ghost use Rattle.std.specs.Prelude.{◌≡◌, Option, option_map};
 ghost use Rattle.layer_traits.specs.{declared.calls.Effect.Effect, declared.payloads.Parcel.Parcel, BufferLaw.first_of, BufferLaw.going, BufferLaw.message_of};

@@ -1,4 +1,4 @@
-//! A layer of buffers that opens a machine.
+//! A layer of buffers that opens a machine. Only `open` takes memory. No call waits.
 
 ghost use Rattle.std.specs.Prelude.{◌≡◌, ◌<◌, ◌≤◌, [], IsSome, IfOk};
 
@@ -47,6 +47,9 @@ pub trait OpensQueues: OwnedLayer<QueueLaw<SleepEdit<LockEdit>>> {
 
     /// As `open` of [`OpensLocks`].
     ///
+    /// Requires: there are one to `CPUS` CPUs, at most `BUFFERS` capacities, each from 1 to
+    /// `CAPACITY`, and at most `THREADS` homes, each one of the CPUs.
+    ///
     /// Errors: `NoMemory` where an allocation was refused.
     fn open(
         alloc: Global,
@@ -75,6 +78,9 @@ pub trait OpensScheds: OwnedLayer<SchedLaw<SleepEdit<LockEdit>>> {
     ghost use Rattle.sleep_wakeup.specs.Nested.{state_of};
 
     /// As `open` of [`OpensLocks`].
+    ///
+    /// Requires: there are one to `CPUS` CPUs, at most `BUFFERS` capacities, each from 1 to
+    /// `CAPACITY`, and at most `THREADS` homes, each one of the CPUs.
     ///
     /// Errors: `NoMemory` where an allocation was refused.
     fn open(

@@ -1,4 +1,5 @@
-//! The tower is stepwise: each layer's polls are single actions where those beneath it are.
+//! The tower is stepwise: each layer's polls are single actions where those beneath it are. All
+//! here are laws, with nothing to run.
 
 use crate::ipc::Ipc;
 use crate::opening::{OpensBuffers, OpensLocks, OpensQueues, OpensScheds};

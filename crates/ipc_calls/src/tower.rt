@@ -1,4 +1,5 @@
-//! The tower of layers, from buffers down to critical sections, over one machine.
+//! The tower of layers, from buffers down to critical sections, over one machine. `tower_blocks`
+//! and `open` take memory. No call waits.
 
 ghost use Rattle.std.specs.Prelude.{◌≡◌, ◌<◌, ◌≤◌, [], None, IsSome, IfOk, length, replicate};
 ghost use Rattle.event_log.specs.declared.ids.{CpuId.CpuId, LockId.TheVariants.Pending, TheConstants.BUFFERS, TheConstants.THREADS};

@@ -1,4 +1,5 @@
-//! Message calls over buffers of which each poll is a whole call are whole too.
+//! Message calls over buffers of which each poll is a whole call are whole too. This is a law,
+//! with nothing to run.
 
 use crate::ipc::Ipc;
 use crate::opening::OpensBuffers;

@@ -142,6 +142,11 @@ pub fn number_in<L: OwnedLocks<AddOne>>(machine: &L::Machine) -> u64
 }
 
 /// Counts over the owned machine behind this lock: as [`count_plain`].
+///
+/// Requires: there are at most `CPUS` CPUs, and each adds at most `MOST_TIMES` times. Each poll of
+/// the lock is one action.
+///
+/// Errors: `NoMemory` if an allocation was refused.
 pub(crate) fn count_behind<L: OwnedLocks<AddOne> + Drop>(
     alloc: Global,
     cpus: u8,

@@ -13,6 +13,10 @@ use std::io::Write;
 use tracer::{Sink, WriteFault};
 
 /// Writes all pieces, or where a write failed a beginning of them.
+///
+/// Requires: the sink has not failed.
+///
+/// Errors: `WriteFault` if a write failed. Then a beginning of the pieces was written.
 pub(crate) fn put_all<W: Write>(sink: &mut Sink<W>, pieces: &[&[u8]]) -> Result<(), WriteFault>
     requires { has_failed sink.old ≡ false }
     ensures failed { is_err result ≡ has_failed sink.new }
@@ -62,6 +66,8 @@ fn line_in(text: &str) -> &str
 
 /// Prints the line `error: ..` for a refusal, if it can: what it says, cut to one line. Takes no
 /// memory.
+///
+/// Requires: the sink has not failed.
 pub(crate) fn refuse<W: Write, F: fmt::Display>(sink: &mut Sink<W>, fault: &F)
     requires { has_failed sink.old ≡ false }
     ensures { PrintsRefusal (between W.contents sink.old sink.new) }

@@ -121,6 +121,8 @@ fn text_of(words: &[&str], refusal: Refusal) -> Result<&'static str, BootError>
 }
 
 /// Tells a refusal of these words, if the sink takes it. Takes no memory.
+///
+/// Requires: the sink has not failed.
 pub(crate) fn write_report<W: Write>(sink: &mut Sink<W>, words: &[&str], refusal: Refusal)
     requires { has_failed sink.old ≡ false }
     ensures { PutsText (text_of (map (λ w. w.now) words.now) refusal) (between W.contents sink.old sink.new) }

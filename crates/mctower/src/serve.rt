@@ -43,6 +43,10 @@ pub enum Done {
 }
 
 /// Puts the pieces out and flushes; then this is done.
+///
+/// Requires: the sink has not failed.
+///
+/// Errors: `WriteFault` if a write or the flush failed.
 pub(crate) fn put_out<O: Write>(
     out: &mut Sink<O>,
     pieces: &[&[u8]],
@@ -105,6 +109,8 @@ fn read_refused(kind: io::ErrorKind) -> Refusal
 }
 
 /// All of the input.
+///
+/// Errors: `NoMemory` if an allocation was refused. `ReadFault` if a read failed.
 pub(crate) fn read_all<R: Read>(alloc: Global, input: &mut R) -> Result<Vec<u8>, Refusal>
     ensures { ReadsAll (R.remaining input.old) result }
 {

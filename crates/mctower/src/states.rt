@@ -73,6 +73,10 @@ fn place_number(place: Place) -> Option<u8>
 }
 
 /// The line of a CPU, with this word.
+///
+/// Requires: the sink has not failed.
+///
+/// Errors: `WriteFault` if a write failed.
 pub(crate) fn put_cpu<W: Write>(sink: &mut Sink<W>, cpu: u64, word: &str) -> Result<(), WriteFault>
     requires { has_failed sink.old ≡ false }
     ensures failed { is_err result ≡ has_failed sink.new }

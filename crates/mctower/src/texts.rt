@@ -1,4 +1,5 @@
-//! The trace text of the traces of a plan's CPUs, which both a run of steps and a run in threads write.
+//! The trace text of the traces of a plan's CPUs, which both a run of steps and a run in threads
+//! write. `write_text` takes memory. No call waits, unless the sink's writer does.
 
 ghost use Rattle.std.specs.Prelude.{◌≡◌, ◌<◌, ℕ, List, false, length, map, slice_index_or};
 ghost use Rattle.event_log.specs.{declared.entries.Entry.Entry as AnEntry, Messages.IsMessage, Messages.Message};
@@ -26,6 +27,8 @@ pub fn nothing_is_printed()
 
 /// Writes the trace text of these traces, one of each CPU of a plan with these capacities, and of
 /// what is left in its buffers.
+///
+/// Requires: the sink has not failed, and the traces have a text with what is left.
 ///
 /// Errors: `NoMemory` where an allocation was refused, and then nothing was written; `WriteFault`
 /// exactly where the sink failed.

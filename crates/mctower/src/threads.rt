@@ -52,6 +52,8 @@ fn put_stops<W: Write>(sink: &mut Sink<W>, stops: &[Stop]) -> Result<(), WriteFa
 }
 
 /// Tells why each worker stopped, by the number of its CPU, if the sink takes it. Takes no memory.
+///
+/// Requires: the sink has not failed.
 pub(crate) fn write_stops<W: Write>(sink: &mut Sink<W>, stops: &[Stop])
     requires { has_failed sink.old ≡ false }
     ensures { WentOut W.contents sink.old sink.new (stop_text stops.now) }

@@ -1,4 +1,5 @@
-//! Layers of attempts whose machine is opened with empty buffers.
+//! Layers of attempts whose machine is opened with empty buffers. The calls here take memory. None
+//! waits.
 
 ghost use Rattle.std.specs.Prelude.{◌≡◌, ◌<◌, ◌≤◌, [], All, IfOk, IsSome, map};
 ghost use Rattle.event_log.specs.Buffers.{IsCapacity};
@@ -21,6 +22,9 @@ pub trait OpensAttempts: OwnedThreadLayer<SleepLaw<Attempt>> {
 
     /// A machine of so many CPUs, with an empty buffer of each of these capacities and a thread of
     /// each of these homes, and with room for `room` events. All memory is taken here.
+    ///
+    /// Requires: there are one to `CPUS` CPUs, at most `BUFFERS` capacities, each from 1 to
+    /// `CAPACITY`, and at most `THREADS` homes, each one of the CPUs.
     ///
     /// Errors: `NoMemory` where an allocation was refused.
     fn open(
@@ -46,6 +50,8 @@ pub trait OpensAttempts: OwnedThreadLayer<SleepLaw<Attempt>> {
 }
 
 /// Empty buffers of these capacities, in their order. All memory that they need is taken here.
+///
+/// Requires: each capacity is from 1 to `CAPACITY`.
 ///
 /// Errors: `NoMemory` where there is none for them.
 pub fn plain_buffers(alloc: Global, caps: &[u8]) -> Result<Vec<PlainBuffer>, NoMemory>

@@ -1,4 +1,4 @@
-//! A message call as one section: the attempts on one buffer.
+//! A message call as one section: the attempts on one buffer. No call takes memory or waits.
 
 ghost use Rattle.std.specs.Prelude.{◌≡◌, ◌≤◌, true, [], is_some};
 ghost use Rattle.event_log.specs.declared.ids.TheConstants.{CAPACITY};
@@ -94,6 +94,8 @@ impl Model for PlainBuffer {
 
 impl PlainBuffer {
     /// An empty buffer with room for `capacity` items.
+    ///
+    /// Requires: `capacity` is at most `CAPACITY`.
     pub fn new(capacity: usize) -> PlainBuffer
         requires { capacity ≤ CAPACITY }
         ensures { result ≡ empty_buffer capacity }

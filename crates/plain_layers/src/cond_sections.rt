@@ -1,4 +1,5 @@
-//! Calls on a lock with conditions, poll after poll, over any layer of conditions.
+//! Calls on a lock with conditions, poll after poll, over any layer of conditions. No call takes
+//! memory or waits.
 
 ghost use Rattle.std.specs.Prelude.{◌≡◌, ◌≢◌, ◌+◌, ◌<◌, ◌≤◌, true, Some, None, IsSome, OnSome};
 ghost use Rattle.event_log.specs.declared.ids.LockId.TheVariants.{Buffer};
@@ -38,6 +39,10 @@ fn caller_of<G: Guarded>(call: &QEdit<CvEdit<G::Handed>, CvLeave>) -> Tid
 }
 
 /// One poll of a call of the thread that runs, with no parcel beside it.
+///
+/// Requires: the part and the machine agree. There is a lock at `buffer`. The machine has room for
+/// one more event. The caller runs here and may poll this call. If it waits, it sleeps for no lock
+/// besides.
 pub fn one_section_poll<G: Guarded, C: ThreadLayer<CvLaw<G>>>(
     part: &mut C,
     m: &mut C::Machine,
@@ -76,6 +81,10 @@ pub fn one_section_poll<G: Guarded, C: ThreadLayer<CvLaw<G>>>(
 }
 
 /// So many polls of a call of the thread that runs; `None` if it ends or sleeps sooner.
+///
+/// Requires: the part and the machine agree. There is a lock at `buffer`. The machine has room for
+/// `polls` more events. The caller runs here and may poll this call. If it waits, it sleeps for no
+/// lock besides.
 pub fn section_polls<G: Guarded, C: ThreadLayer<CvLaw<G>>>(
     part: &mut C,
     m: &mut C::Machine,
@@ -129,6 +138,10 @@ fn is_callers<G: Guarded>(
 }
 
 /// So many polls of a call; `None` if its caller may not make it, or if it ends or sleeps sooner.
+///
+/// Requires: the monitor's rules allow each section. The part and the machine agree. There is a
+/// lock at `buffer`. The machine has room for `polls` more events. No call is under way, and the
+/// caller neither sleeps for a lock nor waits.
 pub fn calls<G: Guarded, C: OwnedThreadLayer<CvLaw<G>>>(
     part: &mut C,
     m: &mut C::Machine,
@@ -169,6 +182,9 @@ where
 }
 
 /// The poll of the Wait of a thread that waits, once it runs again.
+///
+/// Requires: the part and the machine agree. There is a lock at `buffer`. The machine has room for
+/// one more event. No call is under way, and `t` waits at `buffer` or was woken out of its wait.
 pub fn is_woken<G: Guarded, C: ThreadLayer<CvLaw<G>>>(
     part: &mut C,
     m: &mut C::Machine,
@@ -188,6 +204,9 @@ pub fn is_woken<G: Guarded, C: ThreadLayer<CvLaw<G>>>(
 }
 
 /// The next ready thread runs, if nobody does and nobody stands in the hand.
+///
+/// Requires: the part and the machine agree. The machine has room for one more event. No call is
+/// under way.
 pub fn switches<G: Guarded, C: ThreadLayer<CvLaw<G>>>(part: &mut C, m: &mut C::Machine) -> bool
     requires fits { C.Fits part.old m.old }
     requires room { 0 < C.room m.old }
@@ -207,6 +226,9 @@ pub fn switches<G: Guarded, C: ThreadLayer<CvLaw<G>>>(part: &mut C, m: &mut C::M
 }
 
 /// Takes in so many polls who is pending, if nobody runs, stands in the hand or is ready.
+///
+/// Requires: the part and the machine agree. The machine has room for `polls` more events. No call
+/// is under way.
 pub fn drains<G: Guarded, C: ThreadLayer<CvLaw<G>>>(
     part: &mut C,
     m: &mut C::Machine,

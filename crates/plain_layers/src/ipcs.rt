@@ -1,4 +1,5 @@
-//! Message calls in one step: the top of the layers, over one-step buffers.
+//! Message calls in one step: the top of the layers, over one-step buffers. Only `open` takes
+//! memory. No call waits.
 
 ghost use Rattle.plain_layers.specs.Wholes.{IsCoarse};
 

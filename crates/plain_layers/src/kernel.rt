@@ -1,4 +1,5 @@
-//! The machine beneath one-step queues and schedulers: lists of threads and of blocks.
+//! The machine beneath one-step queues and schedulers: lists of threads and of blocks. Only
+//! `PlainKernel::open` takes memory. No call waits.
 
 ghost use Rattle.std.specs.Prelude.{◌≡◌, ◌+◌, ◌<◌, ◌∷◌, [], Some, IsSome, IfOk, length, option_map, replicate, slice_get};
 ghost use Rattle.event_log.specs.declared.ids.{LockId.TheVariants.Buffer, LockId.TheVariants.Pending, TheConstants.CPUS};
@@ -42,6 +43,9 @@ impl<E: Moves> PlainKernel<E> {
     /// A machine of so many CPUs, on which nobody is pending, with the block of each buffer in its
     /// place. `homes` holds the home of each thread; there is room for `room` calls.
     ///
+    /// Requires: there are at least one CPU and at most `CPUS`, at most `BUFFERS` blocks and at
+    /// most `THREADS` homes. Each home is one of the CPUs.
+    ///
     /// Errors: `NoMemory` where an allocation was refused; then the blocks are gone.
     pub fn open(
         alloc: Global,
@@ -75,6 +79,9 @@ impl<E: Moves> PlainKernel<E> {
     }
 
     /// Does a whole call: notes what is meant, does it on the lists, and gives what brings its answer.
+    ///
+    /// Requires: the machine's lists are what its calls make of them. It has room for one more
+    /// call. The CPU's number is below `CPUS`. The call's lock is there, and the call is allowed.
     pub fn done(
         &mut self,
         cpu: CpuId,

@@ -1,4 +1,5 @@
-//! Calls on a queuing lock, poll after poll, over any layer of queuing locks.
+//! Calls on a queuing lock, poll after poll, over any layer of queuing locks. No call takes memory
+//! or waits.
 
 ghost use Rattle.std.specs.Prelude.{◌≡◌, ◌≢◌, ◌+◌, ◌<◌, ◌≤◌, true, Some, None, IsSome, OnSome};
 ghost use Rattle.event_log.specs.declared.ids.LockId.TheVariants.{Buffer};
@@ -25,6 +26,9 @@ pub enum PollSection<O> {
 }
 
 /// One poll of a call of the thread that runs, with no parcel beside it.
+///
+/// Requires: the part and the machine agree. There is a lock at `buffer`. The machine has room for
+/// one more event. The caller runs here and may poll this call.
 pub fn one_section_poll<F: Locked, Q: ThreadLayer<QLockLaw<F>>>(
     part: &mut Q,
     m: &mut Q::Machine,
@@ -60,6 +64,9 @@ pub fn one_section_poll<F: Locked, Q: ThreadLayer<QLockLaw<F>>>(
 }
 
 /// So many polls of a call of the thread that runs; `None` if it ends or sleeps sooner.
+///
+/// Requires: the part and the machine agree. There is a lock at `buffer`. The machine has room for
+/// `polls` more events. The caller runs here and may poll this call.
 pub fn section_polls<F: Locked, Q: ThreadLayer<QLockLaw<F>>>(
     part: &mut Q,
     m: &mut Q::Machine,
@@ -96,6 +103,10 @@ where
 }
 
 /// So many polls of a thread's Acquire; `None` if it may not call, or if it ends or sleeps sooner.
+///
+/// Requires: the edits' rules allow each section. The part and the machine agree. There is a lock
+/// at `buffer`. The machine has room for `polls` more events. No call is under way, and `t` sleeps
+/// for no lock.
 pub fn acquires<F: Locked, Q: OwnedThreadLayer<QLockLaw<F>>>(
     part: &mut Q,
     m: &mut Q::Machine,
@@ -131,6 +142,10 @@ where
 }
 
 /// So many polls of an owner's Release; `None` if it may not call, or if it ends sooner.
+///
+/// Requires: the edits' rules allow each section. The part and the machine agree. There is a lock
+/// at `buffer`. The machine has room for `polls` more events. No call is under way, and the caller
+/// sleeps for no lock.
 pub fn releases<F: Locked, Q: OwnedThreadLayer<QLockLaw<F>>>(
     part: &mut Q,
     m: &mut Q::Machine,
@@ -168,6 +183,9 @@ where
 }
 
 /// The poll of the Acquire of a thread that slept for the lock, once it runs again.
+///
+/// Requires: the part and the machine agree. There is a lock at `buffer`. The machine has room for
+/// one more event. No call is under way, and `t` sleeps for the lock of `buffer` or was handed it.
 pub fn is_handed<F: Locked, Q: ThreadLayer<QLockLaw<F>>>(
     part: &mut Q,
     m: &mut Q::Machine,
@@ -188,6 +206,9 @@ pub fn is_handed<F: Locked, Q: ThreadLayer<QLockLaw<F>>>(
 }
 
 /// The next ready thread runs, if nobody does and nobody stands in the hand.
+///
+/// Requires: the part and the machine agree. The machine has room for one more event. No call is
+/// under way.
 pub fn switches<F: Locked, Q: ThreadLayer<QLockLaw<F>>>(part: &mut Q, m: &mut Q::Machine) -> bool
     requires fits { Q.Fits part.old m.old }
     requires room { 0 < Q.room m.old }
@@ -206,6 +227,9 @@ pub fn switches<F: Locked, Q: ThreadLayer<QLockLaw<F>>>(part: &mut Q, m: &mut Q:
 }
 
 /// Takes in so many polls who is pending, if nobody runs, stands in the hand or is ready.
+///
+/// Requires: the part and the machine agree. The machine has room for `polls` more events. No call
+/// is under way.
 pub fn drains<F: Locked, Q: ThreadLayer<QLockLaw<F>>>(
     part: &mut Q,
     m: &mut Q::Machine,

@@ -1,4 +1,5 @@
-//! The machine beneath one-step critical sections: a list of blocks.
+//! The machine beneath one-step critical sections: a list of blocks. Only `LockTable::open` takes
+//! memory. No call waits.
 
 ghost use Rattle.std.specs.Prelude.{◌≡◌, ◌+◌, ◌<◌, ◌∷◌, [], IsSome, IfOk, option_map, if◌then◌else◌};
 ghost use Rattle.event_log.specs.{declared.ids.TheConstants.CPUS, declared.ids.LockId.LockId, History.same_lock};
@@ -56,6 +57,9 @@ impl<E: SplitEdit> LockTable<E> {
 
     /// Does a whole section: edits the block of `lock` as is meant, notes it and gives what brings the
     /// edit's answer.
+    ///
+    /// Requires: the blocks are what the sections make of them. There is room for one more section.
+    /// The CPU's number is below `CPUS`. The lock is there, and the section is allowed.
     pub fn done(
         &mut self,
         cpu: CpuId,
@@ -83,6 +87,8 @@ impl<E: SplitEdit> LockTable<E> {
     }
 
     /// The block of `lock`, which there is.
+    ///
+    /// Requires: the blocks are what the sections make of them, and the lock is there.
     pub fn block(&self, lock: LockId) -> Option<&E::Block>
         requires sound { IsTable E.rules (opening_in self.now) (sections_noted self.now) self.now.blocks.items }
         requires lock { IsSome (opening_in self.now lock) }

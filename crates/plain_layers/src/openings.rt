@@ -1,5 +1,5 @@
-//! Machines on which the tests run schedulers: critical sections beneath shared queues, lists beneath
-//! queues alone, and lists beneath a scheduler.
+//! Machines on which the tests run schedulers: critical sections beneath shared queues, lists
+//! beneath queues alone, and lists beneath a scheduler. Only `open` takes memory. No call waits.
 
 ghost use Rattle.std.specs.Prelude.{◌≡◌, ◌<◌, [], IsSome, IfOk, length, slice_get};
 ghost use Rattle.event_log.specs.declared.ids.{BufId.BufId, CpuId.CpuId, LockId.TheVariants.Buffer, LockId.TheVariants.Pending, TheConstants.CPUS};
@@ -37,6 +37,9 @@ pub type SchedLaws<E> = PhantomData<
 pub trait Opens<E: Moves>: OwnedLayer<SchedLaw<E>> {
     /// A machine of so many CPUs, on which nobody is pending, with the block of each buffer in its
     /// place. `homes` holds the home of each thread; there is room for `room` events.
+    ///
+    /// Requires: there are at least one CPU and at most `CPUS`, at most `BUFFERS` blocks and at
+    /// most `THREADS` homes. Each home is one of the CPUs.
     ///
     /// Errors: `NoMemory` where an allocation was refused.
     fn open(

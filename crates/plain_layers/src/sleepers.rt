@@ -3,6 +3,8 @@
 //! From the shared queues up all laws speak of one list of events, and a layer adds an edit round
 //! the edit beneath and one field of its own. So over lists each of these layers is its own one-step
 //! machine: a body of its own would be the layer's again.
+//!
+//! No call takes memory or waits.
 
 ghost use Rattle.std.specs.Prelude.{◌≡◌};
 ghost use Rattle.plain_layers.specs.Wholes.{IsCoarse};

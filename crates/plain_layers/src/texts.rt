@@ -149,6 +149,10 @@ where
 
 /// The trace text of a system of so many CPUs, at most 256 bytes: the capacity of its buffer, the
 /// entries of all CPUs in one order, and what the buffer holds.
+///
+/// Requires: the system has `count` CPUs and one buffer.
+///
+/// Errors: `NoMemory` if an allocation was refused.
 pub(crate) fn text_of<I: Owned + Drop>(
     rt: &impl Abort,
     alloc: Global,

@@ -1,4 +1,5 @@
-//! A whole section of sleep and wakeup at once, over a machine that does whole calls.
+//! A whole section of sleep and wakeup at once, over a machine that does whole calls. It takes no
+//! memory and does not wait.
 
 ghost use Rattle.std.specs.Prelude.{◌≡◌, ◌≢◌, ◌+◌, ◌<◌, ◌≤◌, None, IsSome};
 ghost use Rattle.event_log.specs.declared.ids.{CpuId.CpuId, LockId.TheVariants.Buffer, TheConstants.CPUS};
@@ -11,6 +12,11 @@ use layer_traits::{BufferCall, Outcome, Payload, SleepLaw, Sleeps, ThreadLayer};
 /// Does the whole section of the edit that is meant at the lock of `buffer`, where the holder of the
 /// machine acts for every CPU: one poll, or two where the section wakes a thread of another CPU and
 /// its caller goes on.
+///
+/// Requires: each poll is a whole section. The holder of the machine acts for every CPU. The part
+/// and the machine agree, nothing is under way and nothing is deferred. There is a lock at
+/// `buffer`. The machine has room for two more events. The edit's caller runs here, and the edit is
+/// allowed.
 pub fn whole<E: Sleeps, S: ThreadLayer<SleepLaw<E>>>(
     part: &mut S,
     m: &mut S::Machine,

@@ -1,4 +1,5 @@
-//! The words and the block of each lock, in a table that is indexed by the lock.
+//! The words and the block of each lock, in a table that is indexed by the lock. Only `empty_table`
+//! takes memory. No call waits.
 
 ghost use Rattle.std.specs.Prelude.{◌≡◌, ℕ, Bool, ◌+◌, ◌%◌, ◌^◌, ◌<◌, ◌≤◌, ◌==◌, IsSome, IfSome, IfOk, All, Some, None, option_map, if◌then◌else◌, length};
 ghost use Rattle.event_log.specs.{Locks.lock_number, declared.ids.TheConstants.CPUS};

@@ -1,4 +1,4 @@
-//! The words of one lock, by which CPUs stand in line.
+//! The words of one lock, by which CPUs stand in line. No call takes memory or waits.
 
 ghost use Rattle.std.specs.Prelude.{◌≡◌, ℕ, ◌+◌, ◌%◌, ◌^◌, ◌<◌, ◌≤◌, ◌==◌};
 ghost use Rattle.event_log.specs.declared.ids.TheConstants.{CPUS};

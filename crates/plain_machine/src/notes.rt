@@ -1,4 +1,5 @@
-//! The stored log: which CPU did what at which lock.
+//! The stored log: which CPU did what at which lock. Only `Notes::with_room` takes memory. No call
+//! waits.
 
 ghost use Rattle.std.specs.Prelude.{◌≡◌, ◌+◌, ◌%◌, ◌^◌, ◌≤◌, ◌<◌, ◌++◌, ◌∷◌, [], length, IfOk};
 ghost use Rattle.event_log.specs.Log.{events_in, room_of};

@@ -1,4 +1,4 @@
-//! The owned machine.
+//! The owned machine. Only `open` takes memory. No call waits.
 
 ghost use Rattle.std.specs.Prelude.{◌≡◌, ℕ, ◌%◌, ◌^◌, ◌<◌, [], IsSome, IsNone, IfSome, IfOk, option_map, ◌↔◌};
 

@@ -44,14 +44,6 @@ asleep_away (Asleep p) asleep = refl
 -- Which call it is.
 
 module _ {E : Type 0} (homes : List CpuId) (c : CpuId) where
-  -- a call that is one at the shared queues touches something shared
-  pub not_local : (s : SchedCall E) (q : QueueCall E) → queue_call homes c s ≡ Some q → IsLocal s → ⊥
-  not_local (call.Pass Switch) q is local = cc
-  not_local (call.Pass YieldNow) q is local = local
-  not_local (call.Pass Drain) q is local = local
-  not_local (call.Pass (MakeReady t)) q is local = local
-  not_local (call.Pass End) q is local = cc
-  not_local (call.OnBuffer b e) q is local = local
 
   -- and one that is none touches nothing shared
   pub is_local : (s : SchedCall E) → queue_call homes c s ≡ None → IsLocal s
@@ -244,27 +236,9 @@ module _ {E B O : Type 0} (rules : Rules E B O) (mv : MoveRules E O) (opening : 
           answers (call.Pass End) none = refl
           answers (call.OnBuffer b e) none = absurd cc
 
-      pub local_follows : {X : Type 0} (table : Table (QueueEdit E) X (QueueAnswer O)) (opens : LockId → Option X) (ActsFor : CpuId → Type 0) (cpu : CpuId)
-          (acts : List (Action (QueueEdit E)))
-          → Follows ActsFor table opens cpu (sched_plan mv H c s own) acts acts (left (local_after s own) (Some Done))
-      local_follows table opens ActsFor cpu acts =
-          subst (λ o. Follows ActsFor table opens cpu (plan_by mv H c s own o) acts acts (left (local_after s own) (Some Done))) (sym none)
-          (refl, leaves s none)
-        where
-          leaves : (s : SchedCall E) → queue_call H c s ≡ None → left {A = SchedAnswer O} (local_after s own) (Some Done) ≡ left_local s own
-          leaves (call.Pass Switch) none = refl
-          leaves (call.Pass YieldNow) none = absurd cc
-          leaves (call.Pass Drain) none = absurd cc
-          leaves (call.Pass (MakeReady t)) none = absurd cc
-          leaves (call.Pass End) none = refl
-          leaves (call.OnBuffer b e) none = absurd cc
-
     -- A call that is one at the shared queues.
 
     module _ (q : QueueCall E) (is : queue_call H c s ≡ Some q) where
-      -- a poll without an answer: the call is under way
-      pub waiting_call : sched_under (Some (event below q)) own.current ≡ Some s
-      waiting_call = ap Some (same_call H c mv s q own state is)
 
       pub waiting_fits : (ActsFor : CpuId → Type 0) → ActsFor c → (new : List (QueueEvent E)) → QueuePolled K ActsFor (event below q) None past new → Lawful new
           → (below' : CpuId) (under' : Option (QueueEvent E)) → below' ≡ below → under' ≡ Some (event below q)
@@ -283,25 +257,6 @@ module _ {E B O : Type 0} (rules : Rules E B O) (mv : MoveRules E O) (opening : 
 
           calling : IsCalling mv H c (event below q) own
           calling = record { cpu = fits.cpu; step = ap (queue_call H c) one ∙ is; state = subst (λ x. StateFor mv x own) (sym one) state }
-
-      pub waiting_polled : (ActsFor : CpuId → Type 0) (new : List (QueueEvent E)) → QueuePolled K ActsFor (event below q) None past new
-          → SchedPolled K ActsFor c s None past new own own
-      waiting_polled ActsFor new polled = record {
-        others = polled.others;
-        foreign = polled.foreign;
-        is = polled.is;
-        after = refl;
-        answers = tt;
-        at_once = λ local. absurd (not_local H c s q is local);
-      }
-
-      pub shared_follows : {X : Type 0} (table : Table (QueueEdit E) X (QueueAnswer O)) (opens : LockId → Option X) (ActsFor : CpuId → Type 0) (cpu : CpuId)
-          (old new : List (Action (QueueEdit E)))
-          (result : Option (QueueAnswer O)) → Follows ActsFor table opens cpu (queue_plan q) old new (answered result)
-          → Follows ActsFor table opens cpu (sched_plan mv H c s own) old new (left_by mv H c own result)
-      shared_follows table opens ActsFor cpu old new result follows =
-          subst (λ o. Follows ActsFor table opens cpu (plan_by mv H c s own o) old new (left_by mv H c own result)) (sym is)
-          (follows_raised ActsFor table opens cpu (λ l. left_by mv H c own l.answer) (queue_plan q) old new (answered result) follows)
 
       -- A poll that answers, after these calls of others.
       module _ (answer : QueueAnswer O) (before : List (QueueEvent E)) (legal : Lawful (event c q ∷ before)) (stands_so : Stands H c (moves_in K before) own)

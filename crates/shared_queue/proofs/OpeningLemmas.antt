@@ -157,9 +157,3 @@ module _ {B : Type 0} (homes : List CpuId) where
 
     pub blocks_there : (b : BufId) → inner (opened (locks ++ buffers_from 0 blocks)) (Buffer b) ≡ slice_get blocks b.0
     blocks_there b = ap above_of (past_queues 0 locks (buffers_from 0 blocks) are b) ∙ buffer_opens 0 blocks b b.0 (omega arith)
-
--- what holds of the locks holds of the machine that opens with them
-pub opens_so : {W F B : Type 0} (r : Result W F) (opening : W → LockId → Option B) (locks : LockId → Option B) (P : (LockId → Option B) → Type 0)
-    → P locks → IfOk r (λ w. opening w ≡ locks) → IfOk r (λ w. P (opening w))
-opens_so (Ok w) opening locks P holds opens = subst P (sym opens) holds
-opens_so (Err e) opening locks P holds opens = tt

@@ -1,4 +1,4 @@
-//! The blocks at boot.
+//! The blocks at boot. `sleep_blocks` takes memory. It does not wait.
 
 ghost use Rattle.std.specs.Prelude.{◌≡◌, IfOk, map};
 ghost use Rattle.sleep_wakeup.specs.Nested.{resting};

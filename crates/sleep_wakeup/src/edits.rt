@@ -1,4 +1,4 @@
-//! A section's edit with the waiting lists of its lock.
+//! A section's edit with the waiting lists of its lock. No call takes memory or waits.
 
 ghost use Rattle.std.specs.Prelude.{◌≡◌};
 ghost use Rattle.layer_traits.specs.declared.moves.WaitList.TheVariants.{Sleepers, Receivers, Senders};

@@ -1,4 +1,4 @@
-//! A whole section at once, where no CPU has a ticket.
+//! A whole section at once, where no CPU has a ticket. It takes no memory and does not wait.
 
 ghost use Rattle.std.specs.Prelude.{◌≡◌, ◌≢◌, ◌+◌, ◌<◌, ◌≤◌, ◌∷◌, true, IsSome, OnSome, is_some, if◌then◌else◌};
 ghost use Rattle.event_log.specs.{declared.ids.CpuId.CpuId, Actions.Take, Actions.Try, Actions.Give, Actions.Rests, Actions.phase, Actions.next_action};

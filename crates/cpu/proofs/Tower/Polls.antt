@@ -80,9 +80,6 @@ module _ {A : Type 0} (polled : Polled) (way : Way A polled) (got : Left Bufferi
   past_phase : phase c past ≡ phase c old
   past_phase = ap (phase c) planned.acted.joined ∙ phase_others c planned.acted.others old (planned.acted.foreign c acts)
 
-  abbrev asks_so : Ask
-  asks_so = record { lock = line.lock; name = name_of line.name }
-
   step_is : cpu_step setup c p (named past) ≡ acting_on setup c q line.lock (name_of line.name) (named past)
   step_is = goes past past_phase ∙ ap (λ (x : Ask). acting_on setup c q x.lock x.name (named past)) line.asks
 

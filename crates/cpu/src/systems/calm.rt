@@ -25,6 +25,8 @@ where
     /// Whether `cpu`, which must exist, is calm: a halted CPU where each of its threads has ended,
     /// any other where it has no section under way, nobody runs or is ready on it, and its hand is
     /// empty. A system is quiet where each CPU is calm and no thread pends.
+    ///
+    /// Requires: the system has a CPU of this number.
     pub(super) fn is_calm(&self, cpu: CpuId) -> bool
         requires { cpu.0 < length self.now.cpus }
         ensures { result ≡ calm_in cpu self.now }
