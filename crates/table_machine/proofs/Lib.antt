@@ -12,3 +12,4 @@ pub mod Closing
 pub mod Returning
 pub mod Elements
 pub mod Fresh
+pub mod Crossing

@@ -3,16 +3,17 @@
 ghost use Rattle.std.specs.Prelude.{◌≡◌, None, Some};
 
 use event_log::{CpuId, Event, LockId};
-use layer_traits::Mark;
+use layer_traits::{Ghost, Mark};
 use std::collections::LinkedList;
 use std::marker::Model;
 use std::mem;
 
-/// What lies in the slot of a lock: its block, and the edit of the section that left it there.
+/// What lies in the slot of a lock: its block and, for clauses alone, the edit of the section that
+/// left it there.
 #[derive(Drop)]
 pub(crate) struct Home<E, B> {
     pub(crate) block: Option<B>,
-    pub(crate) edit: Option<E>,
+    pub(crate) edit: Ghost<Option<E>>,
 }
 
 /// The slot of a lock, seen as what lies in it. Slots lie side by side, and CPUs that are inside
@@ -42,7 +43,7 @@ impl<E: Drop, B: Drop> Slot<E, B> {
         Slot {
             home: Home {
                 block: Some(block),
-                edit: None,
+                edit: Ghost::of(&None),
             },
             unused: [0; 16],
         }
@@ -71,7 +72,7 @@ impl<E: Drop, B: Drop> Slot<E, B> {
         ensures { self.new ≡ record { block = Some block; edit = Some edit } }
     {
         self.home.block = Some(block);
-        self.home.edit = Some(edit);
+        self.home.edit = Ghost::of(&Some(edit));
     }
 }
 
