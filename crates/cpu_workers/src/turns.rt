@@ -148,7 +148,10 @@ where
         }
         let _ = worker.step();
         taken = one_more(taken);
-        spins = pause(worker.is_busy(), worker.is_idle(), spins);
+        // Only a CPU with no section under way is asked whether it is idle.
+        let busy = worker.is_busy();
+        let idle = !busy && worker.is_idle();
+        spins = pause(busy, idle, spins);
     }
     unreachable!()
 }
