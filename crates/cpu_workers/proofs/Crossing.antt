@@ -3,35 +3,8 @@ use denote.RattleType.{RattleType}
 use denote.Enum.Declared.{shape}
 use denote.Ref.{NamedLft}
 use denote.Hole.{as_row}
-use denote.Struct.Field.{row_field}
-use denote.Struct.Tuple.{TupleAt, type_at, parts}
-use denote.Param.SendFields.{FieldsHave, as_row_send, declared_send}
-use denote.Param.Send.{IsSend, IsSync, AllSend, sendable, enum_send, enum_sync, recorded_send, recorded_sync, view_send}
-use denote.Param.{param, arg}
-use denote.Exit.{no}
-use denote.Struct.Field.{u64-field}
-use denote.Ref.{ShrRef}
-use denote.Param.Send.{arg_send, param_send, shr_send}
-use base.Fml.{Lft}
-use mathlib.Core.List.{List, [], ◌∷◌}
-use Prim.Native.Nat.{ℕ}
-use mir.Syntax.{Lifetime, Sym, Ty}
-use Rattle.std.proofs.Crossing as heap
-use Rattle.std.specs.contracts.alloc.Global as heap_row
-use Rattle.std.specs.contracts.impls.GlobalAllocator.TheImpl as heap_ghosts
-use Rattle.std.specs.contracts.option.Option as option
-use Rattle.std.proofs.option.Option.TheSendSync as option_crosses
-use Rattle.std.specs.contracts.sync.Mutex as mutex
-use Rattle.std.proofs.sync.Mutex.TheSendSync as mutex_crosses
-use Rattle.crossbeam_utils.specs.contracts.sync.wait_group.WaitGroup as wait_group
-use Rattle.crossbeam_utils.proofs.sync.wait_group.WaitGroup.TheSendSync as wait_crosses
-use Rattle.event_log.specs.contracts.ids.CpuId as cpu
-use Rattle.table_machine.specs.declared.table_words.TableWords as TableWords
-use Rattle.table_machine.specs.contracts.shared.Shared as table
-use Rattle.table_machine.specs.contracts.keys.Key as key
-use Rattle.cpu_workers.specs.declared.counting.keys.CountTable as CountTable
-use Rattle.cpu_workers.specs.contracts.counting.AddOne as add_one
-use Rattle.cpu_workers.specs.contracts.counting.AddOneSplitEdit.TheImpl.{ghosts as adds}
+use denote.Param.SendFields.{declared_send}
+use denote.Param.Send.{IsSend, IsSync, sendable, enum_send, enum_sync, recorded_send, recorded_sync, view_send}
 use Rattle.std.proofs.Crossing.{crosses}
 use Rattle.layer_traits.specs.Payloads.{buffer_meant, buffer_told, cv_meant, cv_told, lock_told, queue_meant, queue_told}
 use Rattle.queuing_lock.specs.Nested.{section_meant}
@@ -40,12 +13,6 @@ use Rattle.thread_blocks.specs.contracts.queues.ThreadQueue as queue
 use Rattle.thread_blocks.proofs.queues.ThreadQueue.TheSendSync as queue_crosses
 use Rattle.layer_traits.proofs.block_box.BlockBox.TheSendSync as box_crosses
 use Rattle.layer_traits.specs.contracts.queue_edits.QueueBlock as block
-use Rattle.layer_traits.proofs.queue_edits.QueueEdit.TheSendSync as queue_edit
-use Rattle.sleep_wakeup.proofs.edits.SleepEdit.TheSendSync as sleep_edit
-use Rattle.queuing_lock.proofs.edits.QLockEdit.TheSendSync as lock_edit
-use Rattle.layer_traits.proofs.conditions.CvEdit.TheSendSync as cv_edit
-use Rattle.layer_traits.proofs.conditions.CvLeave.TheSendSync as cv_leave
-use Rattle.layer_traits.proofs.buffer_edits.BufferEdit.TheSendSync as buffer_edit
 use Rattle.layer_traits.proofs.buffer_edits.BareBufferOut.TheSendSync as bare_out_crosses
 use Rattle.layer_traits.proofs.conditions.CvOut.TheSendSync as cv_out_crosses
 use Rattle.layer_traits.proofs.locked.QOut.TheSendSync as lock_out_crosses
@@ -60,9 +27,7 @@ use Rattle.layer_traits.proofs.buffer_blocks.BufferBlock.TheSendSync as buffer_b
 use Rattle.spinlock.specs.contracts.spin_lock.SpinLock as spin_lock
 use Rattle.spinlock.proofs.stages.TicketPhase.TheSendSync as ticket_phase
 use Rattle.table_machine.specs.contracts.seats.Seat as table_seat
-use Rattle.table_machine.proofs.Crossing.{ghost_send, key_send, seat_send, shared_sync}
-use Rattle.cpu_workers.specs.contracts.counting.keys.Fresh as fresh
-use Rattle.cpu_workers.specs.contracts.counting.keys.Fresh.TheInside as fresh_inside
+use Rattle.table_machine.proofs.Crossing.{ghost_send, seat_send}
 use Rattle.layer_traits.specs.contracts.queue_edits.QueueEdit as edit_row
 use Rattle.sleep_wakeup.specs.contracts.edits.SleepEdit as sleep_edit_row
 use Rattle.queuing_lock.specs.contracts.edits.QLockEdit as lock_edit_row
@@ -174,60 +139,3 @@ turn_send a K k LockProtocol = declared_send (spin_lock.the_type (seat.the_row a
     (search (sendable, crosses, tower_seat_send) depth 9, (search (sendable, crosses), tt)),
   ),
 )
-
--- a key that has seen nothing goes from thread to thread
-pub fresh_send : (T : RattleType) (t : _) → IsSend (fresh.the_row T t)
-fresh_send T t = view_send _ _ _ _ _ (declared_send (fresh_inside.the_type T t) (search (sendable, key_send), (search (sendable, crosses), tt)))
-
--- and so does what a closure captured, where each part of it does
-captured_send : (name : Sym) (Ts : List RattleType) → AllSend Ts → IsSend (TupleAt name Ts)
-captured_send name Ts s = declared_send (type_at name Ts) (each Ts s)
-  where
-    each : (Ts : List RattleType) → AllSend Ts → FieldsHave IsSend (parts Ts)
-    each [] s = tt
-    each (T ∷ Ts) s = (as_row_send (row_field T) s.0, each Ts s.1)
-
-abbrev number : RattleType
-number = u64-field.row
-
-abbrev counting_table : (K : RattleType) → TableWords.Ghosts K.Denot → RattleType
-counting_table K k = table.the_row add_one.the_row K number number add_one.the_row number adds k
-
-abbrev counting_key : RattleType
-counting_key = key.the_row add_one.the_row number number add_one.the_row number adds
-
-abbrev start : RattleType
-start = wait_group.the_row heap_row.the_row heap_ghosts.ghosts
-
-abbrev hand : (T : RattleType) → CountTable.Ghosts T.Denot → RattleType
-hand T t = mutex.the_row (option.the_row (fresh.the_row T t))
-
--- what the thread of a worker that counts is given: the handle, the table, the CPU and how often, the start and the hand
-abbrev counts_by : (ℓ₀ ℓ₁ ℓ₂ : Lifetime) (κ₀ κ₁ κ₂ : Lft) (R K T : RattleType) → TableWords.Ghosts K.Denot → CountTable.Ghosts T.Denot → List RattleType
-counts_by ℓ₀ ℓ₁ ℓ₂ κ₀ κ₁ κ₂ R K T k t =
-    ShrRef ℓ₀ κ₀ R ∷ ShrRef ℓ₁ κ₁ (counting_table K k) ∷ cpu.the_row ∷ number ∷ start ∷ ShrRef ℓ₂ κ₂ (hand T t) ∷ []
-
--- it goes there
-pub counter_send : (i : ℕ) (τ : Ty) (name : Sym) (ℓ₀ ℓ₁ ℓ₂ : Lifetime) (κ₀ κ₁ κ₂ : Lft) (R K T : RattleType) (k : _) (t : _) → IsSync R
-    → IsSend (param i (arg τ no (TupleAt name (counts_by ℓ₀ ℓ₁ ℓ₂ κ₀ κ₁ κ₂ R K T k t))))
-counter_send i τ name ℓ₀ ℓ₁ ℓ₂ κ₀ κ₁ κ₂ R K T k t s = param_send i _ (arg_send τ no (TupleAt name (counts_by ℓ₀ ℓ₁ ℓ₂ κ₀ κ₁ κ₂ R K T k t)) (captured_send name (counts_by ℓ₀ ℓ₁ ℓ₂ κ₀ κ₁ κ₂ R K T k t) (
-  shr_send ℓ₀ κ₀ R s,
-  (
-    search (sendable, shared_sync),
-    (
-      search sendable,
-      (
-        search sendable,
-        (
-          search (wait_crosses.the_send, heap.send, heap.sync, heap.frees),
-          (shr_send ℓ₂ κ₂ (hand T t) (mutex_crosses.the_sync _ (option_crosses.the_send _ (fresh_send T t))), tt),
-        ),
-      ),
-    ),
-  ),
-)))
-
--- and the key that may come back from there does too
-pub counted_send : (i : ℕ) (τ : Ty) → IsSend (param i (arg τ no (option.the_row counting_key)))
-counted_send i τ = param_send i _ (arg_send τ no (option.the_row counting_key) (option_crosses.the_send counting_key
-    (key_send add_one.the_row number number add_one.the_row number adds (search sendable))))

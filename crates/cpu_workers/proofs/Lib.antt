@@ -9,6 +9,7 @@ pub mod Seated
 pub mod SeatViews
 pub mod Observed
 pub mod Crossing
+pub mod CountCrossing
 pub mod Acting
 pub mod Counts
 pub mod Going

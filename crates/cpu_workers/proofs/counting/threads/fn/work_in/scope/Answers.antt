@@ -1,22 +1,21 @@
-use Rattle.std.proofs.Common.{◌≡◌, ◌≤◌, ◌<◌, [], ◌∷◌, ◌++◌, length, sym, ap, subst, ◌∙◌, take, vec_capacity, vec_len, arith, length-append}
+use denote.Param.{param}
+use denote.Param.Send.{IsSync, param_sync}
+use Rattle.std.proofs.Common.{rules, ◌≡◌, ◌≤◌, ◌<◌, [], ◌∷◌, ◌++◌, length, sym, ap, subst, ◌∙◌, take, vec_capacity, vec_len, arith, length-append}
 use Rattle.table_machine.proofs.Returning.{yield_more, no_more}
 use Rattle.cpu_workers.specs.{declared.counting.TheConstants.NUMBER, Counts.HasMade, Reports.Both}
 use Rattle.cpu_workers.proofs.Counts.{both_length, both_taken, both_then, kept_for, room_at, taken_all, taken_within, turn_below}
+use Rattle.cpu_workers.proofs.CountCrossing.{came_send, worker_send}
 use Rattle.cpu_workers.proofs.counting.threads.fn.work_in.scope.Goals as goal
-use denote.Param.{param}
-use denote.Param.Send.{IsSync, param_sync}
-use Rattle.std.proofs.Common.{rules}
-use Rattle.cpu_workers.proofs.Crossing.{counted_send, counter_send}
 
 -- what a worker's thread is given goes there
 pub spawn_with-started-requires-send-F : goal.spawn_with-started-requires-send-F
 spawn_with-started-requires-send-F g c κs within =
     let handle : IsSync g.row.R = search (rules, c.requires) parts 8 in
-    counter_send 2 _ _ _ _ _ _ _ _ (param 2 g.row.R) (param 1 g.row.K) (param 0 g.row.T) g.K.TableWords g.T.CountTable (param_sync 2 g.row.R handle)
+    worker_send 2 _ _ _ _ _ _ _ _ (param 2 g.row.R) (param 1 g.row.K) (param 0 g.row.T) g.K.TableWords g.T.CountTable (param_sync 2 g.row.R handle)
 
 -- and the key that it gives back comes from there
 pub spawn_with-started-requires-send-T : goal.spawn_with-started-requires-send-T
-spawn_with-started-requires-send-T g c κs within = counted_send 3 _
+spawn_with-started-requires-send-T g c κs within = came_send 3 _
 
 pub push_reserved-requires : goal.push_reserved-requires
 push_reserved-requires g c =
