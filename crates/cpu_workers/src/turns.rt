@@ -148,10 +148,7 @@ where
         }
         let _ = worker.step();
         taken = one_more(taken);
-        // Only a CPU with no section under way is asked whether it is idle.
-        let busy = worker.is_busy();
-        let idle = !busy && worker.is_idle();
-        spins = pause(busy, idle, spins);
+        spins = pause(worker.is_busy(), worker.is_idle(), spins);
     }
     unreachable!()
 }
