@@ -87,8 +87,11 @@ where
     };
     for number in 0..count {
         let machine = machines.remove(0);
-        let worker = worker_over::<I>(alloc, boot, CpuId(number as u8), machine)?;
-        workers.push_reserved(worker);
+        // A match and no `?`, which would move the worker's many bytes three times more.
+        match worker_over::<I>(alloc, boot, CpuId(number as u8), machine) {
+            Ok(worker) => workers.push_reserved(worker),
+            Err(error) => return Err(error),
+        }
     }
     Ok(workers)
 }

@@ -113,8 +113,11 @@ where
         ensures acts { IfOk result (λ w. w.acts ≡ I.acts machine) }
         ensures site { IfOk result (λ w. w.site ≡ I.site machine) }
     {
-        let cpu = Cpu::at_boot(alloc, number, homes, buffers, guests, limit)?;
-        Ok(Worker::new(cpu, machine))
+        // A match and no `?`, which would move the CPU's many bytes three times more.
+        match Cpu::at_boot(alloc, number, homes, buffers, guests, limit) {
+            Ok(cpu) => Ok(Worker::new(cpu, machine)),
+            Err(error) => Err(error),
+        }
     }
 
     /// The trace of the worker's CPU and its machine.
