@@ -87,11 +87,11 @@ where
     };
     for number in 0..count {
         let machine = machines.remove(0);
-        // A match and no `?`, which would move the worker's many bytes three times more.
-        match worker_over::<I>(alloc, boot, CpuId(number as u8), machine) {
-            Ok(worker) => workers.push_reserved(worker),
-            Err(error) => return Err(error),
-        }
+        // No `?`, which would move the worker's many bytes three times more.
+        let Ok(worker) = worker_over::<I>(alloc, boot, CpuId(number as u8), machine) else {
+            return Err(NoMemory);
+        };
+        workers.push_reserved(worker);
     }
     Ok(workers)
 }
