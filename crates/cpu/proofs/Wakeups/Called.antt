@@ -259,15 +259,11 @@ module _ (setup : Setup) (past : List (Section Name)) (good : Good setup past) (
 
 pub drained_lists : (b : BufId) (list : WaitList) (x : Where) → sleeps_in b list (post_drained x) ≡ sleeps_in b list x
 drained_lists b list Home = refl
-drained_lists b list (Hand c) = refl
-drained_lists b list (IsPending q) = refl
-drained_lists b list (Asleep p) = refl
+drained_lists b list other = refl
 
 pub drained_pending : (x : Where) → is_pending (post_drained x) ≡ false
 drained_pending Home = refl
-drained_pending (Hand c) = refl
-drained_pending (IsPending q) = refl
-drained_pending (Asleep p) = refl
+drained_pending other = refl
 
 pub drained_moved : (x : Where) → is_moved (post_drained x) ≡ true → is_moved x ≡ true
 drained_moved (Hand c) on = refl

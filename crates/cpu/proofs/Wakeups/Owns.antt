@@ -1,5 +1,5 @@
 -- One thread and one buffer: what its own sections leave, and what its sections at another buffer do.
-use Rattle.std.proofs.Common.{◌≡◌, ◌≢◌, ℕ, ◌+◌, ◌≤◌, Bool, true, false, not, ◌&&◌, List, [], ◌∷◌, ◌++◌, Option, Some, None, nat_lt, if◌then◌else◌, refl, sym}
+use Rattle.std.proofs.Common.{◌≡◌, ◌≢◌, ◌+◌, ◌≤◌, Bool, true, false, not, ◌&&◌, List, [], ◌∷◌, ◌++◌, Option, Some, None, nat_lt, if◌then◌else◌, refl, sym}
 use Rattle.std.proofs.Common.{ap, ◌∙◌, subst, arith}
 use Rattle.std.proofs.{lemmas.Bool.and_parts, lemmas.Bool.and_from, lemmas.Bool.and_right, lemmas.Bool.false_from_ne_true, lemmas.Option.same_Some}
 use Rattle.std.proofs.{Math.Bool.and-true}
@@ -144,19 +144,6 @@ module _ (b : BufId) (u : Tid) where
     receive_line = in_receives;
   }
 
-  own_items : (k : Buffer) (g : Progress) (visit : Visit) (x : Where) (items : List Message) (e s r : ℕ) → Pair b u k g visit x
-      → Pair b u (record k { items = items; effects = e; send_positions = s; receive_positions = r }) g visit x
-  own_items k g visit x items e s r pair = record {
-    owner = pair.owner;
-    inside = pair.inside;
-    starts = pair.starts;
-    sleepers = pair.sleepers;
-    senders = pair.senders;
-    receivers = pair.receivers;
-    send_line = pair.send_line;
-    receive_line = pair.receive_line;
-  }
-
   unlined : (progress : Progress) (side : Side) → stands side (In b progress) ≡ false → marked u (is_lined b side (In b progress)) ≡ 0
   unlined progress side off = marked_none u (is_buffer b b && stands side (In b progress)) (and_right (is_buffer b b) (stands side (In b progress)) off)
 
@@ -184,8 +171,7 @@ module _ (b : BufId) (u : Tid) where
   own_enter k g Senders true is owner pair =
       let sends = entered_list k.send_line true is (pair.send_line ∙ unlined Begins Senders refl) ∙ sym (lined (HasEntered Senders) Senders refl) in
       let receives = pair.receive_line ∙ unlined Begins Receivers refl ∙ sym (unlined (HasEntered Senders) Receivers refl) in
-      own_items _ (HasEntered Senders) (In b (HasEntered Senders)) Home k.items k.effects (entered u Senders k).send_positions k.receive_positions
-      (at_work k g (HasEntered Senders) Begins (HasEntered Senders) (k.send_line ++ u ∷ []) k.receive_line owner refl pair sends receives)
+      at_work k g (HasEntered Senders) Begins (HasEntered Senders) (k.send_line ++ u ∷ []) k.receive_line owner refl pair sends receives
   own_enter k g Senders false is owner pair =
       let sends = entered_list k.send_line false is (pair.send_line ∙ unlined Begins Senders refl) ∙ sym (lined (HasEntered Senders) Senders refl) in
       let receives = pair.receive_line ∙ unlined Begins Receivers refl ∙ sym (unlined (HasEntered Senders) Receivers refl) in
@@ -193,8 +179,7 @@ module _ (b : BufId) (u : Tid) where
   own_enter k g Receivers true is owner pair =
       let receives = entered_list k.receive_line true is (pair.receive_line ∙ unlined Begins Receivers refl) ∙ sym (lined (HasEntered Receivers) Receivers refl) in
       let sends = pair.send_line ∙ unlined Begins Senders refl ∙ sym (unlined (HasEntered Receivers) Senders refl) in
-      own_items _ (HasEntered Receivers) (In b (HasEntered Receivers)) Home k.items k.effects k.send_positions (entered u Receivers k).receive_positions
-      (at_work k g (HasEntered Receivers) Begins (HasEntered Receivers) k.send_line (k.receive_line ++ u ∷ []) owner refl pair sends receives)
+      at_work k g (HasEntered Receivers) Begins (HasEntered Receivers) k.send_line (k.receive_line ++ u ∷ []) owner refl pair sends receives
   own_enter k g Receivers false is owner pair =
       let receives = entered_list k.receive_line false is (pair.receive_line ∙ unlined Begins Receivers refl) ∙ sym (lined (HasEntered Receivers) Receivers refl) in
       let sends = pair.send_line ∙ unlined Begins Senders refl ∙ sym (unlined (HasEntered Receivers) Senders refl) in
@@ -213,8 +198,7 @@ module _ (b : BufId) (u : Tid) where
       let front = (and_parts (is_first u k.send_line) (can_put k) is).0 in
       let sends = left_line k.send_line _ pair.send_line front ∙ sym (unlined (Owes true true) Senders refl) in
       let receives = pair.receive_line ∙ unlined (HasEntered Senders) Receivers refl ∙ sym (unlined (Owes true true) Receivers refl) in
-      own_items _ (Owes true true) (In b (Owes true true)) Home (put m k).items (put m k).effects k.send_positions k.receive_positions
-      (at_work k g (Owes true true) (HasEntered Senders) (Owes true true) (rest k.send_line) k.receive_line owner refl pair sends receives)
+      at_work k g (Owes true true) (HasEntered Senders) (Owes true true) (rest k.send_line) k.receive_line owner refl pair sends receives
   own_put k g m false is owner pair =
       at_work k g (WasRefused Senders) (HasEntered Senders) (WasRefused Senders) k.send_line k.receive_line owner refl pair pair.send_line pair.receive_line
 
@@ -225,27 +209,16 @@ module _ (b : BufId) (u : Tid) where
       let front = (and_parts (is_first u k.receive_line) (can_take k) is).0 in
       let receives = left_line k.receive_line _ pair.receive_line front ∙ sym (unlined (Owes true true) Receivers refl) in
       let sends = pair.send_line ∙ unlined (HasEntered Receivers) Senders refl ∙ sym (unlined (Owes true true) Senders refl) in
-      own_items _ (Owes true true) (In b (Owes true true)) Home (taken k).items (taken k).effects k.send_positions k.receive_positions
-      (at_work k g (Owes true true) (HasEntered Receivers) (Owes true true) k.send_line (rest k.receive_line) owner refl pair sends receives)
+      at_work k g (Owes true true) (HasEntered Receivers) (Owes true true) k.send_line (rest k.receive_line) owner refl pair sends receives
   own_take k g false is owner pair =
       at_work k g (WasRefused Receivers) (HasEntered Receivers) (WasRefused Receivers) k.send_line k.receive_line owner refl pair pair.send_line pair.receive_line
 
   own_shut : (k : Buffer) (g : Progress) → k.busy ≡ Some u → Pair b u k g (In b Begins) Home
       → Pair b u (shut k) (Owes true true) (In b (Owes true true)) Home
   own_shut k g owner pair =
-      let now = at_work k g (Owes true true) Begins (Owes true true) k.send_line k.receive_line owner refl pair
+      at_work k g (Owes true true) Begins (Owes true true) k.send_line k.receive_line owner refl pair
       (pair.send_line ∙ unlined Begins Senders refl ∙ sym (unlined (Owes true true) Senders refl))
-      (pair.receive_line ∙ unlined Begins Receivers refl ∙ sym (unlined (Owes true true) Receivers refl)) in
-      record {
-        owner = now.owner;
-        inside = now.inside;
-        starts = now.starts;
-        sleepers = now.sleepers;
-        senders = now.senders;
-        receivers = now.receivers;
-        send_line = now.send_line;
-        receive_line = now.receive_line;
-      }
+      (pair.receive_line ∙ unlined Begins Receivers refl ∙ sym (unlined (Owes true true) Receivers refl))
 
   -- the thread gives the lock back, and is inside no longer
   own_release : (k : Buffer) (g : Progress) (visit next : Visit) (x : Where) → Pair b u k g visit Home → is_inside b next ≡ false → sleeps_in b wait_list.Sleepers x ≡ false

@@ -1,6 +1,6 @@
 -- One thread and one buffer: that its places at the buffer are those that its post and its visit say, by count, and that it owns the
 -- lock exactly where its visit says. Everything here speaks of plain values; the log comes later.
-use Rattle.std.proofs.Common.{◌≡◌, ℕ, ◌+◌, ◌<◌, ◌≤◌, Bool, true, false, not, ◌&&◌, List, [], ◌∷◌, ◌++◌, Option, Some, None, nat_lt, if◌then◌else◌, refl, sym}
+use Rattle.std.proofs.Common.{◌≡◌, ◌+◌, ◌<◌, ◌≤◌, Bool, true, false, not, ◌&&◌, List, [], ◌∷◌, ◌++◌, Option, Some, None, nat_lt, if◌then◌else◌, refl, sym}
 use Rattle.std.proofs.Common.{ap, ◌∙◌, subst, arith}
 use Rattle.std.proofs.lemmas.{Bool.eq-eqb, Bool.eqb-true, Bool.and_parts, Bool.and_right, Option.same_Some}
 use Rattle.event_log.specs.{declared.ids.CpuId.CpuId, declared.ids.Tid.Tid, declared.ids.BufId.BufId, declared.ids.LockId.TheVariants.Buffer as AtBuffer}
@@ -23,18 +23,24 @@ use Rattle.cpu.proofs.Wakeups.Posts.{Waiting, Visit, Outside, In, is_buffer, sle
 use Rattle.cpu.proofs.Wakeups.Posts.{waiters_of, post_by, post_woken, post_moved, next_visit, visit_moved, marked}
 use Rattle.layer_traits.specs.declared.moves.WaitList.TheVariants as wait_list
 
-pub record Pair (b : BufId) (u : Tid) (k : Buffer) (g : Progress) (visit : Visit) (post : Where) : Type 0 where
+-- a thread and a buffer's lock: by who owns it, the lists of its sleepers and of those who wait to send and to receive, and the two lines
+pub record PairOf (b : BufId) (u : Tid) (busy : Option Tid) (asleep senders_in receivers_in sends receives : List Tid) (g : Progress) (visit : Visit)
+    (post : Where) : Type 0 where
   -- who owns the lock is inside and awake, and the owner's progress is what its visit says
-  pub owner : k.busy ≡ Some u → (is_inside b visit ≡ true) × InStep visit g × (sleeps_in b wait_list.Sleepers post ≡ false)
+  pub owner : busy ≡ Some u → (is_inside b visit ≡ true) × InStep visit g × (sleeps_in b wait_list.Sleepers post ≡ false)
   -- who is inside, and does not sleep at the lock, owns it
-  pub inside : is_inside b visit ≡ true → sleeps_in b wait_list.Sleepers post ≡ false → k.busy ≡ Some u
+  pub inside : is_inside b visit ≡ true → sleeps_in b wait_list.Sleepers post ≡ false → busy ≡ Some u
   -- who sleeps at the lock has just asked for it
   pub starts : sleeps_in b wait_list.Sleepers post ≡ true → is_starting b visit ≡ true
-  pub sleepers : count_in u k.sleepers ≡ marked u (sleeps_in b wait_list.Sleepers post)
-  pub senders : count_in u k.waiting_senders ≡ marked u (sleeps_in b wait_list.Senders post)
-  pub receivers : count_in u k.waiting_receivers ≡ marked u (sleeps_in b wait_list.Receivers post)
-  pub send_line : count_in u k.send_line ≡ marked u (is_lined b Senders visit)
-  pub receive_line : count_in u k.receive_line ≡ marked u (is_lined b Receivers visit)
+  pub sleepers : count_in u asleep ≡ marked u (sleeps_in b wait_list.Sleepers post)
+  pub senders : count_in u senders_in ≡ marked u (sleeps_in b wait_list.Senders post)
+  pub receivers : count_in u receivers_in ≡ marked u (sleeps_in b wait_list.Receivers post)
+  pub send_line : count_in u sends ≡ marked u (is_lined b Senders visit)
+  pub receive_line : count_in u receives ≡ marked u (is_lined b Receivers visit)
+
+-- nothing else of the buffer matters
+abbrev pub Pair : BufId → Tid → Buffer → Progress → Visit → Where → Type 0
+Pair b u k g visit post = PairOf b u k.busy k.sleepers k.waiting_senders k.waiting_receivers k.send_line k.receive_line g visit post
 
 -- Marks and counts.
 
@@ -226,57 +232,30 @@ module _ (setup : Setup) (c : CpuId) (b : BufId) (u t : Tid) (other : same_tid t
     receive_line = same_receives ∙ pair.receive_line;
   }
 
-  -- nor do the items and the counters matter
-  with_items : (k : Buffer) (g : Progress) (items : List Message) (e s r : ℕ) → Pair b u k g visit post
-      → Pair b u (record k { items = items; effects = e; send_positions = s; receive_positions = r }) g visit post
-  with_items k g items e s r pair = record {
-    owner = pair.owner;
-    inside = pair.inside;
-    starts = pair.starts;
-    sleepers = pair.sleepers;
-    senders = pair.senders;
-    receivers = pair.receivers;
-    send_line = pair.send_line;
-    receive_line = pair.receive_line;
-  }
-
   other_enter : (k : Buffer) (g : Progress) (side : Side) (joins : Bool) → k.busy ≡ Some t → Pair b u k g visit post
       → Pair b u (if joins then entered t side k else k) (HasEntered side) visit post
   other_enter k g Senders true owner pair =
-      let grown = with_lines k g (HasEntered Senders) owner pair (k.send_line ++ t ∷ []) k.receive_line (count_behind u t k.send_line other) refl in
-      with_items _ (HasEntered Senders) k.items k.effects (entered t Senders k).send_positions k.receive_positions grown
+      with_lines k g (HasEntered Senders) owner pair (k.send_line ++ t ∷ []) k.receive_line (count_behind u t k.send_line other) refl
   other_enter k g Receivers true owner pair =
-      let grown = with_lines k g (HasEntered Receivers) owner pair k.send_line (k.receive_line ++ t ∷ []) refl (count_behind u t k.receive_line other) in
-      with_items _ (HasEntered Receivers) k.items k.effects k.send_positions (entered t Receivers k).receive_positions grown
+      with_lines k g (HasEntered Receivers) owner pair k.send_line (k.receive_line ++ t ∷ []) refl (count_behind u t k.receive_line other)
   other_enter k g side false owner pair = with_lines k g (HasEntered side) owner pair k.send_line k.receive_line refl refl
 
   other_put : (k : Buffer) (g : Progress) (m : Message) (may : Bool) → may_put t k ≡ may → k.busy ≡ Some t → Pair b u k g visit post
       → Pair b u (if may then put m k else k) (if may then Owes true true else WasRefused Senders) visit post
   other_put k g m true is owner pair =
       let front = (and_parts (is_first t k.send_line) (can_put k) is).0 in
-      let left = with_lines k g (Owes true true) owner pair (rest k.send_line) k.receive_line (other_left u t k.send_line front other) refl in
-      with_items _ (Owes true true) (put m k).items (put m k).effects k.send_positions k.receive_positions left
+      with_lines k g (Owes true true) owner pair (rest k.send_line) k.receive_line (other_left u t k.send_line front other) refl
   other_put k g m false is owner pair = with_lines k g (WasRefused Senders) owner pair k.send_line k.receive_line refl refl
 
   other_take : (k : Buffer) (g : Progress) (may : Bool) → may_take t k ≡ may → k.busy ≡ Some t → Pair b u k g visit post
       → Pair b u (if may then taken k else k) (if may then Owes true true else WasRefused Receivers) visit post
   other_take k g true is owner pair =
       let front = (and_parts (is_first t k.receive_line) (can_take k) is).0 in
-      let left = with_lines k g (Owes true true) owner pair k.send_line (rest k.receive_line) refl (other_left u t k.receive_line front other) in
-      with_items _ (Owes true true) (taken k).items (taken k).effects k.send_positions k.receive_positions left
+      with_lines k g (Owes true true) owner pair k.send_line (rest k.receive_line) refl (other_left u t k.receive_line front other)
   other_take k g false is owner pair = with_lines k g (WasRefused Receivers) owner pair k.send_line k.receive_line refl refl
 
   other_shut : (k : Buffer) (g : Progress) → k.busy ≡ Some t → Pair b u k g visit post → Pair b u (shut k) (Owes true true) visit post
-  other_shut k g owner pair = record {
-    owner = λ e. not_mine u t k.busy owner other e;
-    inside = pair.inside;
-    starts = pair.starts;
-    sleepers = pair.sleepers;
-    senders = pair.senders;
-    receivers = pair.receivers;
-    send_line = pair.send_line;
-    receive_line = pair.receive_line;
-  }
+  other_shut k g owner pair = with_lines k g (Owes true true) owner pair k.send_line k.receive_line refl refl
 
   other_release : (k : Buffer) (g : Progress) → k.busy ≡ Some t → Pair b u k g visit post
       → Pair b u (released k) Begins visit (if is_thread u (first k.sleepers) then post_woken setup c u else post)
