@@ -72,11 +72,7 @@ caller_is t (Close b) Enters = refl
 caller_is t (Send b m) Tries = refl
 caller_is t (Recv b) Tries = refl
 caller_is t (Close b) Tries = refl
-caller_is t call Waits = refl
-caller_is t call AcquiresAgain = refl
-caller_is t call Signals = refl
-caller_is t call SignalsOwn = refl
-caller_is t call Releases = refl
+caller_is t call other = refl
 
 -- what a stance lets its thread do
 module _ (O : LockId → Option BufferLock) (past : List BufferSection) (t : Tid) where
@@ -111,9 +107,7 @@ module _ (O : LockId → Option BufferLock) (past : List BufferSection) (t : Tid
   owner_due (Close b) Tries position effect now = absurd (now.joins refl)
   owner_due call Waits position effect now = owned _ (grip_here (buffer_of call) (side_of call) true false true position now.stance)
   owner_due call AcquiresAgain position effect now = not_owned _ (grip_here (buffer_of call) (side_of call) false false true position now.stance)
-  owner_due call Signals position effect now = owned _ (grip_here (buffer_of call) (side_of call) true false false position now.stance)
-  owner_due call SignalsOwn position effect now = owned _ (grip_here (buffer_of call) (side_of call) true false false position now.stance)
-  owner_due call Releases position effect now = owned _ (grip_here (buffer_of call) (side_of call) true false false position now.stance)
+  owner_due call other position effect now = owned _ (grip_here (buffer_of call) (side_of call) true false false position now.stance)
 
   out_of_line : (side : Side) (x : Option BufferLock) → count_in t (line_at side x) ≡ 0 → is_in_line side t x ≡ false
   out_of_line side None none = refl
@@ -142,7 +136,4 @@ module _ (O : LockId → Option BufferLock) (past : List BufferSection) (t : Tid
   due_now (Recv b) Tries position effect now = in_line Receivers _ (once_there b Receivers position now.stance)
   due_now (Close b) Tries position effect now = absurd (now.joins refl)
   due_now call Waits position effect now = now.vain refl
-  due_now call AcquiresAgain position effect now = tt
-  due_now call Signals position effect now = tt
-  due_now call SignalsOwn position effect now = tt
-  due_now call Releases position effect now = tt
+  due_now call other position effect now = tt

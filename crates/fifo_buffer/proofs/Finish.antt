@@ -18,15 +18,11 @@ use Rattle.fifo_buffer.proofs.{SectionPollTaken.SectionPollTaken, Parts.effects_
 
 enlisted_call : (call_state : CallState) (out : BufferOut) → (enlisted call_state out).call ≡ call_state.call
 enlisted_call call_state (Entered p) = refl
-enlisted_call call_state NotYet = refl
-enlisted_call call_state (Done kind op value) = refl
-enlisted_call call_state (WasShut op pos) = refl
+enlisted_call call_state other = refl
 
 tried_call : (call_state : CallState) (out : BufferOut) → (tried call_state out).call ≡ call_state.call
 tried_call call_state (Entered p) = refl
-tried_call call_state NotYet = refl
-tried_call call_state (Done kind op value) = refl
-tried_call call_state (WasShut op pos) = refl
+tried_call call_state other = refl
 
 -- the call goes on after a section, but for the last one, after which it answers
 pub goes_or_ends : (call_state : CallState) (call : Call) (stage : Stage) (out : QOut (CvOut BufferOut)) → call_state.call ≡ Some call

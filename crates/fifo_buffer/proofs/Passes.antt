@@ -23,10 +23,7 @@ no_sections : (homes : List CpuId) (c : CpuId) (p : Pass) (done : Bool) (past : 
     → buffer_sections (pass_events homes c p done ++ past) ≡ buffer_sections past
 no_sections homes c p false past = refl
 no_sections homes c Switch true past = refl
-no_sections homes c YieldNow true past = refl
-no_sections homes c Drain true past = refl
-no_sections homes c (MakeReady t) true past = refl
-no_sections homes c End true past = refl
+no_sections homes c other true past = refl
 
 pub own_pass : (homes : List CpuId) (c : CpuId) (p : Pass) (done : Bool) → AllByRecursion (λ (e : BufferEvent). e.cpu ≡ c) (pass_events homes c p done)
 own_pass homes c p false = tt

@@ -185,11 +185,7 @@ same_effect_or_none t (Close b) Enters call_state lock = inr refl
 same_effect_or_none t (Send b m) Tries call_state lock = inr refl
 same_effect_or_none t (Recv b) Tries call_state lock = inr refl
 same_effect_or_none t (Close b) Tries call_state lock = inr refl
-same_effect_or_none t call Waits call_state lock = inl refl
-same_effect_or_none t call AcquiresAgain call_state lock = inl refl
-same_effect_or_none t call Signals call_state lock = inl refl
-same_effect_or_none t call SignalsOwn call_state lock = inl refl
-same_effect_or_none t call Releases call_state lock = inl refl
+same_effect_or_none t call other call_state lock = inl refl
 
 woken_ended : (homes : List CpuId) (c : CpuId) (woke : Option Tid) (own : Threads) → (own_woken homes c woke own).ended ≡ own.ended
 woken_ended homes c None own = refl
