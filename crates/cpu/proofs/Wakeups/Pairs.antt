@@ -42,6 +42,25 @@ pub record PairOf (b : BufId) (u : Tid) (busy : Option Tid) (asleep senders_in r
 abbrev pub Pair : BufId → Tid → Buffer → Progress → Visit → Where → Type 0
 Pair b u k g visit post = PairOf b u k.busy k.sleepers k.waiting_senders k.waiting_receivers k.send_line k.receive_line g visit post
 
+-- a pair from its parts, in their order
+pub paired : {b : BufId} {u : Tid} {busy : Option Tid} {asleep senders_in receivers_in sends receives : List Tid} {g : Progress} {visit : Visit} {post : Where}
+    → (busy ≡ Some u → (is_inside b visit ≡ true) × InStep visit g × (sleeps_in b wait_list.Sleepers post ≡ false))
+    → (is_inside b visit ≡ true → sleeps_in b wait_list.Sleepers post ≡ false → busy ≡ Some u)
+    → (sleeps_in b wait_list.Sleepers post ≡ true → is_starting b visit ≡ true) → count_in u asleep ≡ marked u (sleeps_in b wait_list.Sleepers post)
+    → count_in u senders_in ≡ marked u (sleeps_in b wait_list.Senders post) → count_in u receivers_in ≡ marked u (sleeps_in b wait_list.Receivers post)
+    → count_in u sends ≡ marked u (is_lined b Senders visit) → count_in u receives ≡ marked u (is_lined b Receivers visit)
+    → PairOf b u busy asleep senders_in receivers_in sends receives g visit post
+paired owner inside starts sleepers senders receivers send_line receive_line = record {
+  owner = owner;
+  inside = inside;
+  starts = starts;
+  sleepers = sleepers;
+  senders = senders;
+  receivers = receivers;
+  send_line = send_line;
+  receive_line = receive_line;
+}
+
 -- Marks and counts.
 
 pub marked_none : (u : Tid) (m : Bool) → m ≡ false → marked u m ≡ 0
@@ -196,41 +215,17 @@ not_mine u t o owner other mine = refuted other (subst (λ x. same_tid t x ≡ t
 
 module _ (setup : Setup) (c : CpuId) (b : BufId) (u t : Tid) (other : same_tid t u ≡ false) (visit : Visit) (post : Where) where
   other_acquire : (k : Buffer) (g : Progress) (o : Option Tid) → k.busy ≡ o → Pair b u k g visit post → Pair b u (acquired t o k) g visit post
-  other_acquire k g None is pair = record {
-    owner = λ e. not_mine u t (Some t) refl other e;
-    inside = λ ins awake. none_is_not (sym is ∙ pair.inside ins awake);
-    starts = pair.starts;
-    sleepers = pair.sleepers;
-    senders = pair.senders;
-    receivers = pair.receivers;
-    send_line = pair.send_line;
-    receive_line = pair.receive_line;
-  }
-  other_acquire k g (Some owner) is pair = record {
-    owner = pair.owner;
-    inside = pair.inside;
-    starts = pair.starts;
-    sleepers = other_joined u t k.sleepers other ∙ pair.sleepers;
-    senders = pair.senders;
-    receivers = pair.receivers;
-    send_line = pair.send_line;
-    receive_line = pair.receive_line;
-  }
+  other_acquire k g None is pair = paired (λ e. not_mine u t (Some t) refl other e) (λ ins awake. none_is_not (sym is ∙ pair.inside ins awake)) pair.starts
+      pair.sleepers pair.senders pair.receivers pair.send_line pair.receive_line
+  other_acquire k g (Some owner) is pair = paired pair.owner pair.inside pair.starts (other_joined u t k.sleepers other ∙ pair.sleepers) pair.senders
+      pair.receivers pair.send_line pair.receive_line
 
   -- the lines and the owner's progress alone are changed
   with_lines : (k : Buffer) (g h : Progress) → k.busy ≡ Some t → Pair b u k g visit post
       → (sends receives : List Tid) → count_in u sends ≡ count_in u k.send_line → count_in u receives ≡ count_in u k.receive_line
       → Pair b u (record k { send_line = sends; receive_line = receives }) h visit post
-  with_lines k g h owner pair sends receives same_sends same_receives = record {
-    owner = λ e. not_mine u t k.busy owner other e;
-    inside = pair.inside;
-    starts = pair.starts;
-    sleepers = pair.sleepers;
-    senders = pair.senders;
-    receivers = pair.receivers;
-    send_line = same_sends ∙ pair.send_line;
-    receive_line = same_receives ∙ pair.receive_line;
-  }
+  with_lines k g h owner pair sends receives same_sends same_receives = paired (λ e. not_mine u t k.busy owner other e) pair.inside pair.starts pair.sleepers
+      pair.senders pair.receivers (same_sends ∙ pair.send_line) (same_receives ∙ pair.receive_line)
 
   other_enter : (k : Buffer) (g : Progress) (side : Side) (joins : Bool) → k.busy ≡ Some t → Pair b u k g visit post
       → Pair b u (if joins then entered t side k else k) (HasEntered side) visit post
@@ -269,48 +264,20 @@ module _ (setup : Setup) (c : CpuId) (b : BufId) (u t : Tid) (other : same_tid t
           let on = (first_sleeps b u k g visit post pair is).1 in
           let no_lock = woken_awake b wait_list.Sleepers (same_cpu (home_of setup u) c) c in
           let start = start_inside b visit (pair.starts on) in
-          record {
-            owner = λ e. (start.0, start.1, no_lock);
-            inside = λ ins awake. thread_some u (first k.sleepers) is;
-            starts = λ now. refuted no_lock now;
-            sleepers = first_left u k.sleepers most ∙ ap (λ x. if x then 0 else count_in u k.sleepers) is ∙ sym (marked_none u _ no_lock);
-            senders = pair.senders ∙ ap (marked u) (one_list b wait_list.Sleepers wait_list.Senders post refl on ∙ sym (woken_awake b wait_list.Senders (same_cpu (home_of setup u) c) c));
-            receivers = pair.receivers ∙ ap (marked u) (one_list b wait_list.Sleepers wait_list.Receivers post refl on ∙ sym (woken_awake b wait_list.Receivers (same_cpu (home_of setup u) c) c));
-            send_line = pair.send_line;
-            receive_line = pair.receive_line;
-          }
-      by_test false is = record {
-        owner = λ e. refuted is (ap (is_thread u) e ∙ same_tid_self u);
-        inside = λ ins awake. not_mine u t k.busy owner other (pair.inside ins awake);
-        starts = pair.starts;
-        sleepers = first_left u k.sleepers most ∙ ap (λ x. if x then 0 else count_in u k.sleepers) is ∙ pair.sleepers;
-        senders = pair.senders;
-        receivers = pair.receivers;
-        send_line = pair.send_line;
-        receive_line = pair.receive_line;
-      }
+          paired (λ e. (start.0, start.1, no_lock)) (λ ins awake. thread_some u (first k.sleepers) is) (λ now. refuted no_lock now)
+          (first_left u k.sleepers most ∙ ap (λ x. if x then 0 else count_in u k.sleepers) is ∙ sym (marked_none u _ no_lock))
+          (pair.senders ∙ ap (marked u) (one_list b wait_list.Sleepers wait_list.Senders post refl on ∙ sym (woken_awake b wait_list.Senders (same_cpu (home_of setup u) c) c)))
+          (pair.receivers ∙ ap (marked u) (one_list b wait_list.Sleepers wait_list.Receivers post refl on ∙ sym (woken_awake b wait_list.Receivers (same_cpu (home_of setup u) c) c)))
+          pair.send_line pair.receive_line
+      by_test false is = paired (λ e. refuted is (ap (is_thread u) e ∙ same_tid_self u)) (λ ins awake. not_mine u t k.busy owner other (pair.inside ins awake))
+          pair.starts (first_left u k.sleepers most ∙ ap (λ x. if x then 0 else count_in u k.sleepers) is ∙ pair.sleepers) pair.senders pair.receivers
+          pair.send_line pair.receive_line
 
   with_waiting : (k : Buffer) (g : Progress) (side : Side) → Pair b u k g visit post → Pair b u (waiting t side k) g visit post
-  with_waiting k g Senders pair = record {
-    owner = pair.owner;
-    inside = pair.inside;
-    starts = pair.starts;
-    sleepers = pair.sleepers;
-    senders = other_joined u t k.waiting_senders other ∙ pair.senders;
-    receivers = pair.receivers;
-    send_line = pair.send_line;
-    receive_line = pair.receive_line;
-  }
-  with_waiting k g Receivers pair = record {
-    owner = pair.owner;
-    inside = pair.inside;
-    starts = pair.starts;
-    sleepers = pair.sleepers;
-    senders = pair.senders;
-    receivers = other_joined u t k.waiting_receivers other ∙ pair.receivers;
-    send_line = pair.send_line;
-    receive_line = pair.receive_line;
-  }
+  with_waiting k g Senders pair = paired pair.owner pair.inside pair.starts pair.sleepers (other_joined u t k.waiting_senders other ∙ pair.senders)
+      pair.receivers pair.send_line pair.receive_line
+  with_waiting k g Receivers pair = paired pair.owner pair.inside pair.starts pair.sleepers pair.senders
+      (other_joined u t k.waiting_receivers other ∙ pair.receivers) pair.send_line pair.receive_line
 
   other_wait : (k : Buffer) (g : Progress) (side : Side) → k.busy ≡ Some t → Pair b u k g visit post
       → Pair b u (released (waiting t side k)) Begins visit (if is_thread u (first k.sleepers) then post_woken setup c u else post)
@@ -326,28 +293,14 @@ module _ (setup : Setup) (c : CpuId) (b : BufId) (u t : Tid) (other : same_tid t
           let on = (due_receives b u k g visit post pair is).1 in
           let off = one_list b wait_list.Receivers wait_list.Sleepers post refl on in
           let no_lock = woken_awake b wait_list.Sleepers (same_cpu (home_of setup u) c) c in
-          record {
-            owner = λ e. not_mine u t k.busy owner other e;
-            inside = λ ins awake. pair.inside ins off;
-            starts = λ now. refuted no_lock now;
-            sleepers = pair.sleepers ∙ ap (marked u) (off ∙ sym no_lock);
-            senders =
-                pair.senders ∙ ap (marked u) (one_list b wait_list.Receivers wait_list.Senders post refl on ∙ sym (woken_awake b wait_list.Senders (same_cpu (home_of setup u) c) c));
-            receivers = signal_left u (due_receiver k) k.waiting_receivers ∙ ap (λ x. if x then 0 else count_in u k.waiting_receivers) is
-                ∙ sym (marked_none u _ (woken_awake b wait_list.Receivers (same_cpu (home_of setup u) c) c));
-            send_line = pair.send_line;
-            receive_line = pair.receive_line;
-          }
-      by_test false is = record {
-        owner = λ e. not_mine u t k.busy owner other e;
-        inside = pair.inside;
-        starts = pair.starts;
-        sleepers = pair.sleepers;
-        senders = pair.senders;
-        receivers = signal_left u (due_receiver k) k.waiting_receivers ∙ ap (λ x. if x then 0 else count_in u k.waiting_receivers) is ∙ pair.receivers;
-        send_line = pair.send_line;
-        receive_line = pair.receive_line;
-      }
+          paired (λ e. not_mine u t k.busy owner other e) (λ ins awake. pair.inside ins off) (λ now. refuted no_lock now)
+          (pair.sleepers ∙ ap (marked u) (off ∙ sym no_lock))
+          (pair.senders ∙ ap (marked u) (one_list b wait_list.Receivers wait_list.Senders post refl on ∙ sym (woken_awake b wait_list.Senders (same_cpu (home_of setup u) c) c)))
+          (signal_left u (due_receiver k) k.waiting_receivers ∙ ap (λ x. if x then 0 else count_in u k.waiting_receivers) is ∙ sym (marked_none u _ (woken_awake b wait_list.Receivers (same_cpu (home_of setup u) c) c)))
+          pair.send_line pair.receive_line
+      by_test false is = paired (λ e. not_mine u t k.busy owner other e) pair.inside pair.starts pair.sleepers pair.senders
+          (signal_left u (due_receiver k) k.waiting_receivers ∙ ap (λ x. if x then 0 else count_in u k.waiting_receivers) is ∙ pair.receivers) pair.send_line
+          pair.receive_line
 
   other_sig_send : (k : Buffer) (g h : Progress) → k.busy ≡ Some t → Pair b u k g visit post
       → Pair b u (edited_buffer (SigSend t) k) h visit (if is_thread u (due_sender k) then post_woken setup c u else post)
@@ -358,28 +311,14 @@ module _ (setup : Setup) (c : CpuId) (b : BufId) (u t : Tid) (other : same_tid t
           let on = (due_sends b u k g visit post pair is).1 in
           let off = one_list b wait_list.Senders wait_list.Sleepers post refl on in
           let no_lock = woken_awake b wait_list.Sleepers (same_cpu (home_of setup u) c) c in
-          record {
-            owner = λ e. not_mine u t k.busy owner other e;
-            inside = λ ins awake. pair.inside ins off;
-            starts = λ now. refuted no_lock now;
-            sleepers = pair.sleepers ∙ ap (marked u) (off ∙ sym no_lock);
-            senders = signal_left u (due_sender k) k.waiting_senders ∙ ap (λ x. if x then 0 else count_in u k.waiting_senders) is
-                ∙ sym (marked_none u _ (woken_awake b wait_list.Senders (same_cpu (home_of setup u) c) c));
-            receivers = pair.receivers ∙ ap (marked u) (one_list b wait_list.Senders wait_list.Receivers post refl on
-                ∙ sym (woken_awake b wait_list.Receivers (same_cpu (home_of setup u) c) c));
-            send_line = pair.send_line;
-            receive_line = pair.receive_line;
-          }
-      by_test false is = record {
-        owner = λ e. not_mine u t k.busy owner other e;
-        inside = pair.inside;
-        starts = pair.starts;
-        sleepers = pair.sleepers;
-        senders = signal_left u (due_sender k) k.waiting_senders ∙ ap (λ x. if x then 0 else count_in u k.waiting_senders) is ∙ pair.senders;
-        receivers = pair.receivers;
-        send_line = pair.send_line;
-        receive_line = pair.receive_line;
-      }
+          paired (λ e. not_mine u t k.busy owner other e) (λ ins awake. pair.inside ins off) (λ now. refuted no_lock now)
+          (pair.sleepers ∙ ap (marked u) (off ∙ sym no_lock))
+          (signal_left u (due_sender k) k.waiting_senders ∙ ap (λ x. if x then 0 else count_in u k.waiting_senders) is ∙ sym (marked_none u _ (woken_awake b wait_list.Senders (same_cpu (home_of setup u) c) c)))
+          (pair.receivers ∙ ap (marked u) (one_list b wait_list.Senders wait_list.Receivers post refl on ∙ sym (woken_awake b wait_list.Receivers (same_cpu (home_of setup u) c) c)))
+          pair.send_line pair.receive_line
+      by_test false is = paired (λ e. not_mine u t k.busy owner other e) pair.inside pair.starts pair.sleepers
+          (signal_left u (due_sender k) k.waiting_senders ∙ ap (λ x. if x then 0 else count_in u k.waiting_senders) is ∙ pair.senders) pair.receivers
+          pair.send_line pair.receive_line
 
 by_acquire : (setup : Setup) (c : CpuId) (u : Tid) (o : Option Tid) (x : Where)
     → (if is_thread u (answer_of_acquire o).woke then post_woken setup c u else x) ≡ x
