@@ -7,10 +7,7 @@ use Rattle.tracer.proofs.writing.add_entry.Goals as goal
 
 kind_word_short : (k : Kind) → length (kind_word k) ≤ 5
 kind_word_short Send = omega arith
-kind_word_short Recv = omega arith
-kind_word_short Close = omega arith
-kind_word_short SendClosed = omega arith
-kind_word_short RecvClosed = omega arith
+kind_word_short other = omega arith
 
 pub returns-clause-line : goal.returns-clause-line
 returns-clause-line c =
