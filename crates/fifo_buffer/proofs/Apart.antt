@@ -6,7 +6,7 @@ use Rattle.event_log.specs.{declared.ids.BufId.BufId, declared.ids.LockId.LockId
 use Rattle.event_log.specs.{declared.ids.TheConstants.THREADS, History.same_lock}
 use Rattle.event_log.proofs.Same.{same_lock_true}
 use Rattle.layer_traits.specs.declared.{buffer_edits.BufferEdit.BufferEdit, calls.Call.Call, conditions.CvEdit.TheVariants.Edit}
-use Rattle.layer_traits.specs.declared.{conditions.CvEdit.TheVariants.SignalFront, conditions.CvLeave.TheVariants.Leave, conditions.CvLeave.TheVariants.Wait}
+use Rattle.layer_traits.specs.declared.{conditions.CvLeave.TheVariants.Leave, conditions.CvLeave.TheVariants.Wait}
 use Rattle.layer_traits.specs.declared.{locked.QEdit.TheVariants.Acquire, locked.QEdit.TheVariants.Inside, locked.QEdit.TheVariants.Release, locked.Side.Side}
 use Rattle.layer_traits.specs.declared.{locked.Side.TheVariants.Receivers, locked.Side.TheVariants.Senders, call_states.CallState.CallState}
 use Rattle.layer_traits.specs.declared.buffer_edits.BufferEdit.TheVariants.{Enter, TryPut, TryTake, Shut}

@@ -13,7 +13,7 @@ use Rattle.layer_traits.specs.{declared.call_states.CallState.CallState, BufferB
 use Rattle.layer_traits.specs.{Conditions.CvCall, Conditions.cv_rules, LockLaw.lock_kernel, Locking.IsOwners, Locking.lock_caller, Locking.owner_in}
 use Rattle.layer_traits.specs.{Places.count_in, Places.home_of, Places.one_if, Protocol.section, QueueBlocks.homes_in, QueueBlocks.inner, Queues.QueueAllowed}
 use Rattle.layer_traits.specs.{Queues.buffer_sections, Queues.cpu_of_queue_event, Queues.with_section}
-use Rattle.layer_traits.specs.declared.call_states.Stage.TheVariants.{Idle, Acquires, Enters, Tries, Waits, AcquiresAgain, Signals, SignalsOwn, Releases}
+use Rattle.layer_traits.specs.declared.call_states.Stage.TheVariants.{Idle, Acquires, Enters, Tries, Waits, AcquiresAgain}
 use Rattle.layer_traits.specs.BufferProtocol.{BufferLock, BufferSection, IsDue, buffer_at, buffer_monitor_rules, buffer_rules, is_in_line}
 use Rattle.layer_traits.proofs.{CountLemmas.not_counted, ListsLemmas.counted_in}
 use Rattle.thread_blocks.specs.Queues.{same_tid}

@@ -1,5 +1,5 @@
 -- A thread's own sections: what each leaves of its stance, and its effect.
-use Rattle.std.proofs.Common.{◌≡◌, is_some, not,  ◌<◌, ℕ, Bool, true, false, ◌&&◌, List, [], ◌∷◌, ◌++◌, Option, Some, None, option_map, nat_lt, if◌then◌else◌, refl, ap, sym}
+use Rattle.std.proofs.Common.{◌≡◌, ◌<◌, ℕ, Bool, true, false, ◌&&◌, List, [], ◌∷◌, ◌++◌, Option, Some, None, option_map, nat_lt, if◌then◌else◌, refl, ap, sym}
 use Rattle.std.proofs.Common.{◌∙◌, subst, arith, lt-ltb}
 use Rattle.std.proofs.{lemmas.Bool.and_parts, lemmas.Bool.and_right, Math.Bool.and-true}
 use Rattle.event_log.specs.{declared.ids.BufId.BufId, declared.ids.CpuId.CpuId, declared.ids.LockId.LockId, declared.ids.LockId.TheVariants.Buffer}
@@ -25,8 +25,8 @@ use Rattle.thread_blocks.specs.Queues.{same_tid, is_in, rest}
 use Rattle.thread_blocks.proofs.{Members.same_tid_self, Distinct.out_of_rest}
 use Rattle.fifo_buffer.specs.{Laws.BlockSteps.kind_counts, Stances.Grip, Stances.Holds, Stances.InCall, Stances.IsFreeOf, Stances.Stance, Stances.CallStateFits}
 use Rattle.fifo_buffer.specs.{Stances.done_at, Stances.recorded_by, Stances.line_at, Stances.same_side, Stances.slept_by, Stances.call_state_in}
-use Rattle.fifo_buffer.specs.Stances.{IsLined, IsMark, asks_at, called_at, holds_at, lined_at, waits_at, waits_by}
-use Rattle.fifo_buffer.proofs.Apart.{above_asked, line_shut, side_self}
+use Rattle.fifo_buffer.specs.{Stances.waits_by}
+use Rattle.fifo_buffer.proofs.{Within.within, Apart.above_asked, Apart.line_shut, Apart.side_self}
 use Rattle.event_log.specs.declared.entries.Kind.TheVariants as kind
 use Rattle.layer_traits.specs.declared.buffer_edits.BufferOut.TheVariants as told
 use Rattle.layer_traits.specs.declared.conditions.CvOut.TheVariants as answer
@@ -257,23 +257,6 @@ module _ (opening : LockId → Option BufferLock) (past : List BufferSection) (c
       let at : is_next_at Receivers t (buffer_at opening past (Buffer b)) ≡ false = ap (is_next_at Receivers t) is ∙ next in
       rw (same_tid_self t, same_lock_self (Buffer b), at) refl
 
--- a thread is within its call
-within : {opening : LockId → Option BufferLock} {past : List BufferSection} {t : Tid} (call : Call) (slept waits : Option BufId) (stage : Stage)
-    {position : ℕ} {effect : Option Effect} → called_at stage ≡ true
-    → Stance opening past t (buffer_of call) (side_of call) (holds_at stage (is_some waits)) (is_some slept) (lined_at stage) position
-    → ((waits_at stage && not (is_some waits)) ≡ true → has_tried_in_vain opening (Buffer (buffer_of call)) (side_of call) t past ≡ true)
-    → (lined_at stage ≡ true → IsLined call) → is_some effect ≡ done_at stage → IsMark (buffer_of call) (asks_at stage) slept
-    → IsMark (buffer_of call) (waits_at stage) waits → InCall opening past t call slept waits stage position effect
-within call slept waits stage called stance vain joins effect_is slept_here waits_here = record {
-  called = called;
-  stance = stance;
-  vain = vain;
-  joins = joins;
-  effect_is = effect_is;
-  slept_here = slept_here;
-  waits_here = waits_here;
-}
-
 -- each section of a call, by its stage
 module _ (opening : LockId → Option BufferLock) (past : List BufferSection) (c : CpuId) (t : Tid) (lock : BufferLock) (position : ℕ)
     (effect : Option Effect) where
@@ -299,13 +282,13 @@ module _ (opening : LockId → Option BufferLock) (past : List BufferSection) (c
 
       go : (owner : Option Tid) → lock.owner ≡ owner → Stepped opening past c t call Acquires position effect (asker_report owner)
       go None free = silent call Acquires _
-        (within _ _ _ _ refl (took_lock opening past c t (buffer_of call) (side_of call) lock is false position free now.stance)
-        (λ w. absurd cc) (λ w. absurd cc) now.effect_is tt tt)
-        none refl
+          (within _ _ _ _ refl (took_lock opening past c t (buffer_of call) (side_of call) lock is false position free now.stance)
+          (λ w. absurd cc) (λ w. absurd cc) now.effect_is tt tt)
+          none refl
       go (Some o) owned = silent call Acquires _
-        (within _ _ _ _ refl (asked_lock opening past c t (buffer_of call) (side_of call) lock is false position now.stance)
-        (λ w. absurd cc) (λ w. absurd cc) now.effect_is (refl, refl) tt)
-        none refl
+          (within _ _ _ _ refl (asked_lock opening past c t (buffer_of call) (side_of call) lock is false position now.stance)
+          (λ w. absurd cc) (λ w. absurd cc) now.effect_is (refl, refl) tt)
+          none refl
 
   asks_again_step : (call : Call) → buffer_at opening past (Buffer (buffer_of call)) ≡ Some lock
       → InCall opening past t call None None AcquiresAgain position effect
@@ -317,13 +300,13 @@ module _ (opening : LockId → Option BufferLock) (past : List BufferSection) (c
 
       go : (owner : Option Tid) → lock.owner ≡ owner → Stepped opening past c t call AcquiresAgain position effect (asker_report owner)
       go None free = silent call AcquiresAgain _
-        (within _ _ _ _ refl (took_lock opening past c t (buffer_of call) (side_of call) lock is true position free now.stance)
-        (λ w. absurd cc) (λ w. now.joins refl) now.effect_is tt tt)
-        none refl
+          (within _ _ _ _ refl (took_lock opening past c t (buffer_of call) (side_of call) lock is true position free now.stance)
+          (λ w. absurd cc) (λ w. now.joins refl) now.effect_is tt tt)
+          none refl
       go (Some o) owned = silent call AcquiresAgain _
-        (within _ _ _ _ refl (asked_lock opening past c t (buffer_of call) (side_of call) lock is true position now.stance)
-        (λ w. absurd cc) (λ w. now.joins refl) now.effect_is (refl, refl) tt)
-        none refl
+          (within _ _ _ _ refl (asked_lock opening past c t (buffer_of call) (side_of call) lock is true position now.stance)
+          (λ w. absurd cc) (λ w. now.joins refl) now.effect_is (refl, refl) tt)
+          none refl
 
   none_before : (call : Call) (stage : Stage) → done_at stage ≡ false → InCall opening past t call None None stage position effect → effect ≡ None
   none_before call stage begins now = none_of effect (now.effect_is ∙ begins)
@@ -332,23 +315,15 @@ module _ (opening : LockId → Option BufferLock) (past : List BufferSection) (c
       → InCall opening past t call None None Enters position effect
       → Stepped opening past c t call Enters position effect (lock_out buffer_rules (section_at t call Enters) lock)
   enters_step (Send b m) small is now = silent (Send b m) Enters _
-    (within _ _ _ _ refl (entered_line opening past c t b Senders lock is position small now.stance)
-    (λ w. absurd cc) (λ w. tt) now.effect_is tt tt)
-    (no_effect_here b (Inside (Edit (Enter t Senders))) is refl) refl
+      (within _ _ _ _ refl (entered_line opening past c t b Senders lock is position small now.stance)
+      (λ w. absurd cc) (λ w. tt) now.effect_is tt tt)
+      (no_effect_here b (Inside (Edit (Enter t Senders))) is refl) refl
   enters_step (Recv b) small is now = silent (Recv b) Enters _
-    (within _ _ _ _ refl (entered_line opening past c t b Receivers lock is position small now.stance)
-    (λ w. absurd cc) (λ w. tt) now.effect_is tt tt)
-    (no_effect_here b (Inside (Edit (Enter t Receivers))) is refl) refl
+      (within _ _ _ _ refl (entered_line opening past c t b Receivers lock is position small now.stance)
+      (λ w. absurd cc) (λ w. tt) now.effect_is tt tt)
+      (no_effect_here b (Inside (Edit (Enter t Receivers))) is refl) refl
   enters_step (Close b) small is now = record {
-    fits = record {
-      called = refl;
-      stance = has_shut opening past c t b Senders lock is position now.stance;
-      vain = λ w. absurd cc;
-      joins = λ w. absurd cc;
-      effect_is = refl;
-      slept_here = tt;
-      waits_here = tt;
-    };
+    fits = within _ _ _ _ refl (has_shut opening past c t b Senders lock is position now.stance) (λ w. absurd cc) (λ w. absurd cc) refl tt tt;
     mine = Some closed;
     is = ap (λ x. effect_on c b (Inside (Edit (Shut t))) (λ side u. drawn opening (Buffer b) side u past) x) is;
     fresh = λ f same. (none_before (Close b) Enters refl now, same, ap (λ (g : Effect). group_of g.kind) (sym (done f same)));
@@ -366,15 +341,7 @@ module _ (opening : LockId → Option BufferLock) (past : List BufferSection) (c
       → Stepped opening past c t (Send b m) Tries position effect
       (Did (answer.Did (if v then told.Done (effect_kind Senders lock.above) lock.above.effects m else told.NotYet)))
   put_step b m true next is now = record {
-    fits = record {
-      called = refl;
-      stance = has_put opening past c t b lock is position m next now.stance;
-      vain = λ w. absurd cc;
-      joins = λ w. absurd cc;
-      effect_is = refl;
-      slept_here = tt;
-      waits_here = tt;
-    };
+    fits = within _ _ _ _ refl (has_put opening past c t b lock is position m next now.stance) (λ w. absurd cc) (λ w. absurd cc) refl tt tt;
     mine = Some (record { kind = effect_kind Senders lock.above; value = m; op = lock.above.effects; pos = position });
     is = ap (λ x. effect_on c b (Inside (Edit (TryPut t m))) (λ side u. drawn opening (Buffer b) side u past) x) is
         ∙ ap (λ (v : Bool). if v then Some (entry_of c t b
@@ -393,26 +360,18 @@ module _ (opening : LockId → Option BufferLock) (past : List BufferSection) (c
           → record { kind = effect_kind Senders lock.above; value = m; op = lock.above.effects; pos = position } ≡ f
       done f same = cc
   put_step b m false next is now = silent (Send b m) Tries _
-    (within _ _ _ _ refl (put_in_vain opening past c t b lock is position m next now.stance)
-    (λ w. vain_put opening past c t b lock is position m next) (λ w. tt) now.effect_is tt tt)
-    (ap (λ x. effect_on c b (Inside (Edit (TryPut t m))) (λ side u. drawn opening (Buffer b) side u past) x) is
-        ∙ ap (λ (v : Bool). if v then Some (entry_of c t b
-        (record { kind = effect_kind Senders lock.above; value = m; op = lock.above.effects; pos = drawn opening (Buffer b) Senders t past })) else None) next) refl
+      (within _ _ _ _ refl (put_in_vain opening past c t b lock is position m next now.stance)
+      (λ w. vain_put opening past c t b lock is position m next) (λ w. tt) now.effect_is tt tt)
+      (ap (λ x. effect_on c b (Inside (Edit (TryPut t m))) (λ side u. drawn opening (Buffer b) side u past) x) is
+      ∙ ap (λ (v : Bool). if v then Some (entry_of c t b
+      (record { kind = effect_kind Senders lock.above; value = m; op = lock.above.effects; pos = drawn opening (Buffer b) Senders t past })) else None) next) refl
 
   take_step : (b : BufId) (v : Bool) → is_next Receivers t lock.above ≡ v → buffer_at opening past (Buffer b) ≡ Some lock
       → InCall opening past t (Recv b) None None Tries position effect
       → Stepped opening past c t (Recv b) Tries position effect
       (Did (answer.Did (if v then told.Done (effect_kind Receivers lock.above) lock.above.effects (first_item lock.above.items) else told.NotYet)))
   take_step b true next is now = record {
-    fits = record {
-      called = refl;
-      stance = has_taken opening past c t b lock is position next now.stance;
-      vain = λ w. absurd cc;
-      joins = λ w. absurd cc;
-      effect_is = refl;
-      slept_here = tt;
-      waits_here = tt;
-    };
+    fits = within _ _ _ _ refl (has_taken opening past c t b lock is position next now.stance) (λ w. absurd cc) (λ w. absurd cc) refl tt tt;
     mine = Some (record { kind = effect_kind Receivers lock.above; value = first_item lock.above.items; op = lock.above.effects; pos = position });
     is = ap (λ x. effect_on c b (Inside (Edit (TryTake t))) (λ side u. drawn opening (Buffer b) side u past) x) is
         ∙ ap (λ (v : Bool). if v then Some (entry_of c t b
@@ -444,17 +403,17 @@ module _ (opening : LockId → Option BufferLock) (past : List BufferSection) (c
       done : (f : Effect) → Some taken ≡ Some f → taken ≡ f
       done f same = cc
   take_step b false next is now = silent (Recv b) Tries _
-    (within _ _ _ _ refl (took_in_vain opening past c t b lock is position next now.stance)
-    (λ w. vain_take opening past c t b lock is position next) (λ w. tt) now.effect_is tt tt)
-    (ap (λ x. effect_on c b (Inside (Edit (TryTake t))) (λ side u. drawn opening (Buffer b) side u past) x) is
-        ∙ ap (λ (v : Bool). if v then Some (entry_of c t b
-        (record {
-          kind = effect_kind Receivers lock.above;
-          value = first_item lock.above.items;
-          op = lock.above.effects;
-          pos = drawn opening
-              (Buffer b) Receivers t past;
-        })) else None) next) refl
+      (within _ _ _ _ refl (took_in_vain opening past c t b lock is position next now.stance)
+      (λ w. vain_take opening past c t b lock is position next) (λ w. tt) now.effect_is tt tt)
+      (ap (λ x. effect_on c b (Inside (Edit (TryTake t))) (λ side u. drawn opening (Buffer b) side u past) x) is
+      ∙ ap (λ (v : Bool). if v then Some (entry_of c t b
+      (record {
+        kind = effect_kind Receivers lock.above;
+        value = first_item lock.above.items;
+        op = lock.above.effects;
+        pos = drawn opening
+            (Buffer b) Receivers t past;
+      })) else None) next) refl
 
   tries_step : (call : Call) → buffer_at opening past (Buffer (buffer_of call)) ≡ Some lock → InCall opening past t call None None Tries position effect
       → Stepped opening past c t call Tries position effect (lock_out buffer_rules (section_at t call Tries) lock)
@@ -465,25 +424,25 @@ module _ (opening : LockId → Option BufferLock) (past : List BufferSection) (c
   waits_step : (call : Call) → buffer_at opening past (Buffer (buffer_of call)) ≡ Some lock → InCall opening past t call None None Waits position effect
       → Stepped opening past c t call Waits position effect (Released (answer.Waited (side_of call)))
   waits_step call is now = silent call Waits _
-    (within _ _ _ _ refl (waited_there opening past c t (buffer_of call) (side_of call) lock is true position (side_of call) now.stance)
-    (λ w. absurd cc) (λ w. now.joins refl) now.effect_is tt (refl, refl))
-    (no_effect_here (buffer_of call) (Release (Wait t (side_of call))) is refl) refl
+      (within _ _ _ _ refl (waited_there opening past c t (buffer_of call) (side_of call) lock is true position (side_of call) now.stance)
+      (λ w. absurd cc) (λ w. now.joins refl) now.effect_is tt (refl, refl))
+      (no_effect_here (buffer_of call) (Release (Wait t (side_of call))) is refl) refl
 
   signals_step : (call : Call) (far : Side) (front : Option Tid) → buffer_at opening past (Buffer (buffer_of call)) ≡ Some lock
       → section_at t call Signals ≡ Inside (SignalFront t far) → InCall opening past t call None None Signals position effect
       → Stepped opening past c t call Signals position effect (Did (answer.Signalled far front))
   signals_step call far front is same now = silent call Signals _
-    (within _ _ _ _ refl (subst (λ e. Stance opening (section c (Buffer (buffer_of call)) e ∷ past) t (buffer_of call) (side_of call) true false false position) (sym same) (same_there opening past c t (buffer_of call) (side_of call) lock is true false position far now.stance))
-    (λ w. absurd cc) (λ w. absurd cc) now.effect_is tt tt)
-    (ap (λ e. effect_of opening past (section c (Buffer (buffer_of call)) e)) same ∙ no_effect_here (buffer_of call) (Inside (SignalFront t far)) is refl) refl
+      (within _ _ _ _ refl (subst (λ e. Stance opening (section c (Buffer (buffer_of call)) e ∷ past) t (buffer_of call) (side_of call) true false false position) (sym same) (same_there opening past c t (buffer_of call) (side_of call) lock is true false position far now.stance))
+      (λ w. absurd cc) (λ w. absurd cc) now.effect_is tt tt)
+      (ap (λ e. effect_of opening past (section c (Buffer (buffer_of call)) e)) same ∙ no_effect_here (buffer_of call) (Inside (SignalFront t far)) is refl) refl
 
   signals_own_step : (call : Call) (front : Option Tid) → buffer_at opening past (Buffer (buffer_of call)) ≡ Some lock
       → InCall opening past t call None None SignalsOwn position effect
       → Stepped opening past c t call SignalsOwn position effect (Did (answer.Signalled (side_of call) front))
   signals_own_step call front is now = silent call SignalsOwn _
-    (within _ _ _ _ refl (same_there opening past c t (buffer_of call) (side_of call) lock is true false position (side_of call) now.stance)
-    (λ w. absurd cc) (λ w. absurd cc) now.effect_is tt tt)
-    (no_effect_here (buffer_of call) (Inside (SignalFront t (side_of call))) is refl) refl
+      (within _ _ _ _ refl (same_there opening past c t (buffer_of call) (side_of call) lock is true false position (side_of call) now.stance)
+      (λ w. absurd cc) (λ w. absurd cc) now.effect_is tt tt)
+      (no_effect_here (buffer_of call) (Inside (SignalFront t (side_of call))) is refl) refl
 
   releases_step : (call : Call) → buffer_at opening past (Buffer (buffer_of call)) ≡ Some lock → InCall opening past t call None None Releases position effect
       → Stepped opening past c t call Releases position effect (Released answer.Left)
@@ -494,8 +453,8 @@ module _ (opening : LockId → Option BufferLock) (past : List BufferSection) (c
         stance = record { grip = left.grip; line = left.line; drawn_is = λ w. absurd cc };
         slept_none = refl;
         waits_none = refl;
-        })
-        (no_effect_here (buffer_of call) (Release (Leave t)) is refl) refl
+      })
+      (no_effect_here (buffer_of call) (Release (Leave t)) is refl) refl
 
   -- the section of any stage of a call
   pub own_step : (call : Call) (stage : Stage) → t.0 < THREADS → buffer_at opening past (Buffer (buffer_of call)) ≡ Some lock

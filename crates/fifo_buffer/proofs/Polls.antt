@@ -11,7 +11,7 @@ use Rattle.layer_traits.specs.declared.{conditions.CvOut.CvOut, locked.QEdit.The
 use Rattle.layer_traits.specs.declared.{locked.Side.TheVariants.Receivers, locked.Side.TheVariants.Senders, moves.WaitList.WaitList}
 use Rattle.layer_traits.specs.declared.{queue_edits.QueueBlock.QueueBlock, scheds.SchedCall.SchedCall, call_states.Stage.Stage, call_states.CallState.CallState}
 use Rattle.layer_traits.specs.declared.locked.QOut.TheVariants.{Acquired, Queued, Did, Released}
-use Rattle.layer_traits.specs.declared.call_states.Stage.TheVariants.{Idle, Acquires, Enters, Tries, Waits, AcquiresAgain, Signals, SignalsOwn, Releases}
+use Rattle.layer_traits.specs.declared.call_states.Stage.TheVariants.{Idle, Acquires, Enters, Tries, Waits, AcquiresAgain}
 use Rattle.layer_traits.specs.{BufferEffects.effects_in, BufferLaw.IsEffectOf, BufferLaw.buffer_of, BufferLaw.recorded, BufferLaw.section_at, BufferLaw.side_of}
 use Rattle.layer_traits.specs.{BufferProtocol.BufferLock, BufferProtocol.BufferSection, BufferProtocol.buffer_at, BufferProtocol.buffer_monitor_rules}
 use Rattle.layer_traits.specs.{BufferProtocol.buffer_rules, Conditions.CvCall, Conditions.cv_rules, CvLaw.MayCallCond, CvLaw.MayWait, CvLaw.Waiting}

@@ -259,7 +259,7 @@ returns-then-at_once-clause-moves g c =
     let two = c.poll_next in
     let paced2 = polled2 g c in
     let is : C.seen two.new.m ≡ paced2.mine ++ (paced2.others ++ C.seen m) =
-        paced2.is ∙ ap (λ l. paced2.mine ++ (paced2.others ++ l)) (ap C.seen (still g c.before)) in
+    paced2.is ∙ ap (λ l. paced2.mine ++ (paced2.others ++ l)) (ap C.seen (still g c.before)) in
     rw (two.ensures.framed.stays.opening, one.ensures.framed.stays.opening)
     (moves_grown (C.opening m) (λ d. C.ActsFor one.new.m d) _ (C.cpu_of c.args.self.now.lower) paced2.mine paced2.others (C.seen m) (C.seen two.new.m)
     (λ d both. one.ensures.framed.stays.acts d both.0) paced2.foreign paced2.own_events is)
