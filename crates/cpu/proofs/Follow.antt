@@ -65,16 +65,9 @@ received_state other k value d b into s = refl
 same_state : (i : Instruction) (s : State) (c : Call) (f : Effect) → todo_at s i ≡ Calls c
     → after_effect i f s ≡ after_answer (Some (reply_of c f)) i s
 same_state (ins.Send b from k) s (Send q m) f at = sent_state f.kind k f.value q b m from s
-same_state (ins.Send b from k) s (Recv q) f at = absurd cc
-same_state (ins.Send b from k) s (Close q) f at = absurd cc
-same_state (ins.Recv b into k) s (Send q m) f at = absurd cc
 same_state (ins.Recv b into k) s (Recv q) f at = received_state f.kind k f.value q b into s
-same_state (ins.Recv b into k) s (Close q) f at = absurd cc
-same_state (ins.Close b) s (Send q m) f at = absurd cc
-same_state (ins.Close b) s (Recv q) f at = absurd cc
 same_state (ins.Close b) s (Close q) f at = refl
-same_state ins.Exit s c f at = absurd cc
-same_state other s c f at = absurd cc
+same_state other s rest f at = absurd cc
 
 -- an entry whose kind is counted with sends is one more call of a program that stands at a send of its buffer and its message
 module _ (program : List Instruction) (es : List Entry) (s : State) (b : BufId) (e : Entry) (buffer : e.buffer ≡ b) (calls : IsProgramsCalls program es s) where
@@ -101,18 +94,11 @@ calls_more : (program : List Instruction) (es : List Entry) (s : State) (i : Ins
     → IsProgramsCalls program (entry_of cpu t (buffer_of c) f ∷ es) (after_effect i f s)
 calls_more program es s (ins.Send b from k) (Send q m) f cpu t at todo is calls =
     sent_more program es s b (entry_of cpu t q f) (cc todo) calls from k at (is.1 ∙ cc todo) f.kind refl is.0
-calls_more program es s (ins.Send b from k) (Recv q) f cpu t at todo is calls = absurd cc
-calls_more program es s (ins.Send b from k) (Close q) f cpu t at todo is calls = absurd cc
-calls_more program es s (ins.Recv b into k) (Send q m) f cpu t at todo is calls = absurd cc
 calls_more program es s (ins.Recv b into k) (Recv q) f cpu t at todo is calls =
     received_more program es s b (entry_of cpu t q f) (cc todo) calls into k at f.kind refl is
-calls_more program es s (ins.Recv b into k) (Close q) f cpu t at todo is calls = absurd cc
-calls_more program es s (ins.Close b) (Send q m) f cpu t at todo is calls = absurd cc
-calls_more program es s (ins.Close b) (Recv q) f cpu t at todo is calls = absurd cc
 calls_more program es s (ins.Close b) (Close q) f cpu t at todo is calls =
     closed_more program es s b (entry_of cpu t q f) (cc todo) calls at f.kind refl is
-calls_more program es s ins.Exit c f cpu t at todo is calls = absurd cc
-calls_more program es s other c f cpu t at todo is calls = absurd cc
+calls_more program es s other rest f cpu t at todo is calls = absurd cc
 
 module _ (program : List Instruction) (s : State) (i : Instruction) (c : Call) (cpu : CpuId) (t : Tid) (at : next_of program s ≡ i)
     (todo : todo_at s i ≡ Calls c) where

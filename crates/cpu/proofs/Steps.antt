@@ -89,16 +89,9 @@ begun_for g es call_state c follows asks = go g.stage follows.1
 named_buffer : (i : Instruction) (s : State) (c : Call) (buffers : ℕ) → todo_at s i ≡ Calls c → names_below buffers i ≡ true
     → nat_lt (buffer_of c).0 buffers ≡ true
 named_buffer (ins.Send b r k) s (Send q m) buffers asks named = let same : b ≡ q = cc asks in subst (λ (x : BufId). nat_lt x.0 buffers ≡ true) same named
-named_buffer (ins.Send b r k) s (Recv q) buffers asks named = absurd cc
-named_buffer (ins.Send b r k) s (Close q) buffers asks named = absurd cc
-named_buffer (ins.Recv b r k) s (Send q m) buffers asks named = absurd cc
 named_buffer (ins.Recv b r k) s (Recv q) buffers asks named = let same : b ≡ q = cc asks in subst (λ (x : BufId). nat_lt x.0 buffers ≡ true) same named
-named_buffer (ins.Recv b r k) s (Close q) buffers asks named = absurd cc
-named_buffer (ins.Close b) s (Send q m) buffers asks named = absurd cc
-named_buffer (ins.Close b) s (Recv q) buffers asks named = absurd cc
 named_buffer (ins.Close b) s (Close q) buffers asks named = let same : b ≡ q = cc asks in subst (λ (x : BufId). nat_lt x.0 buffers ≡ true) same named
-named_buffer ins.Exit s c buffers asks named = absurd cc
-named_buffer other s c buffers asks named = absurd cc
+named_buffer other s rest buffers asks named = absurd cc
 
 -- what one poll of a call leaves of a CPU, for whom the machine's holder acts
 pub record PolledCpu (ActsFor : CpuId → Type 0) (cpu : ValidCpu) (t : Tid) (c : Call) : Type 0 where
