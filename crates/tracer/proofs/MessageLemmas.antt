@@ -6,13 +6,13 @@ use Rattle.std.specs.{Str.bytes_eq, List.AllByRecursion, List.list_all, List.joi
 use Rattle.std.proofs.lemmas.{Bool.and_parts, List.length-map, List.Splits.length-slice_split, List.Splits.join_with_byte-slice_split}
 use Rattle.std.proofs.lemmas.{Slice.Eq.bytes_eq-Decides}
 use Rattle.event_log.specs.{declared.messages.TheConstants.WORDS, Messages.Message, Messages.IsMessage, Messages.padded, Digits.is_number, Digits.number_to}
-use Rattle.event_log.specs.{Reading.◌>>=◌, Rings.first, Rings.rest}
+use Rattle.event_log.specs.{Rings.first, Rings.rest}
 use Rattle.event_log.proofs.{DigitsLemmas.IsSpelled, DigitsLemmas.number_to-Some, DigitsLemmas.number_to-decimal, DigitsLemmas.spelled_number}
 use Rattle.event_log.proofs.{MessageLemmas.padded_eq}
 use Rattle.tracer.specs.{declared.verdicts.Reason.Reason, declared.verdicts.Reason.TheVariants.Range, Versions.covers, Versions.version_of_count}
 use Rattle.tracer.specs.{TraceText.message_text, TraceText.IsItemOf, Judging.take_first, Judging.in_range, Judging.words_of, Judging.spells_message}
 use Rattle.tracer.specs.{Judging.numbers_in, Judging.message_in, Judging.is_same, Judging.is_message, Judging.is_within}
-use Rattle.tracer.specs.declared.versions.Version.{Version, TheVariants.One, TheVariants.Two, TheVariants.Three}
+use Rattle.tracer.specs.declared.versions.Version.{Version, TheVariants.Three}
 use Rattle.tracer.proofs.{VersionLemmas.covers_first_one, ReadLemmas.bind_ok, ReadLemmas.wanted_ok, ReadLemmas.same_ok, ReadLemmas.in_range_taken, ReadLemmas.decimal_is_number}
 use Rattle.tracer.proofs.{SplitLemmas.Lacks, SplitLemmas.digits_alone, SplitLemmas.split_join, SplitLemmas.join_lacks, SplitLemmas.decimal_lacks}
 

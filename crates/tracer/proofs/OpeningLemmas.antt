@@ -4,7 +4,7 @@ use Rattle.std.proofs.Common.{lt-ltb, ltb-true, lit<, arith}
 use Rattle.std.specs.Prelude.{decimal, codes, nat_lt}
 use Rattle.std.specs.{Str.bytes_eq, List.join_with_byte}
 use Rattle.std.proofs.lemmas.{List.length-map, List.map_push, Slice.Eq.bytes_eq-Decides}
-use Rattle.event_log.specs.{Buffers.IsCapacity, declared.ids.TheConstants.BUFFERS, declared.ids.TheConstants.CAPACITY, Reading.◌>>=◌}
+use Rattle.event_log.specs.{Buffers.IsCapacity, declared.ids.TheConstants.BUFFERS, declared.ids.TheConstants.CAPACITY}
 use Rattle.event_log.proofs.DigitsLemmas.{number_to-decimal}
 use Rattle.tracer.specs.{declared.verdicts.Reason.Reason, declared.verdicts.Reason.TheVariants.Spelling, declared.verdicts.Reason.TheVariants.Range}
 use Rattle.tracer.specs.{declared.verdicts.Reason.TheVariants.OfVersion, declared.next_lines.NextLine.NextLine, declared.versions.Version.Version}

@@ -5,7 +5,7 @@ use Rattle.std.specs.Prelude.{decimal, codes, nat_lt, slice_get}
 use Rattle.std.specs.{Str.bytes_eq, List.AllByRecursion, List.list_all, List.join_with_byte}
 use Rattle.std.proofs.lemmas.{List.length_push, Slice.Eq.bytes_eq-Decides, Option.slice_get_within, Bool.and_parts}
 use Rattle.event_log.specs.{Messages.Message, declared.ids.TheConstants.CPUS, declared.ids.TheConstants.THREADS, declared.ids.TheConstants.BUFFERS}
-use Rattle.event_log.specs.{declared.ids.TheConstants.ENTRIES, declared.entries.Entry.Entry, Buffers.items_of, Runs.IsNext, Runs.after_entry, Reading.◌>>=◌}
+use Rattle.event_log.specs.{declared.ids.TheConstants.ENTRIES, declared.entries.Entry.Entry, Buffers.items_of, Runs.IsNext, Runs.after_entry}
 use Rattle.event_log.specs.declared.entries.Kind.{Kind, TheVariants.Send, TheVariants.Recv, TheVariants.Close, TheVariants.SendClosed, TheVariants.RecvClosed}
 use Rattle.tracer.specs.{declared.verdicts.Reason.TheVariants.Spelling, declared.verdicts.Reason.TheVariants.Range, declared.verdicts.Reason.TheVariants.Left}
 use Rattle.tracer.specs.{declared.next_lines.NextLine.NextLine, TraceText.kind_word, TraceText.message_text, TraceText.value_piece, TraceText.entry_pieces}

@@ -1,6 +1,6 @@
 use Rattle.std.proofs.Common.{◌≡◌, ◌+◌, ◌-◌, ◌≤◌, length, arith}
 use Rattle.std.proofs.lemmas.List.{drop-set, drop_all}
-use Rattle.event_log.specs.declared.entries.Kind.{Kind, TheVariants.Send, TheVariants.Recv, TheVariants.Close, TheVariants.SendClosed, TheVariants.RecvClosed}
+use Rattle.event_log.specs.declared.entries.Kind.{Kind, TheVariants.Send}
 use Rattle.tracer.specs.TraceText.{kind_word}
 use Rattle.tracer.proofs.LineLemmas.{line_end}
 use Rattle.tracer.proofs.writing.add_entry.Goals as goal
