@@ -252,24 +252,16 @@ marks_sizes t b slept waits (Released (answer.Waited side)) = (refl, length-set 
 
 -- an answer that is not handed on at once puts its caller to sleep
 sleeping_wait_list : (out : QOut (CvOut BufferOut)) → is_plain out ≡ false → is_some (wait_list_slept (cv_rules buffer_monitor_rules) out) ≡ true
-sleeping_wait_list Acquired plain = absurd cc
 sleeping_wait_list Queued plain = refl
-sleeping_wait_list (Did o) plain = absurd cc
-sleeping_wait_list (Released (answer.Did o)) plain = absurd cc
-sleeping_wait_list (Released (answer.Signalled side front)) plain = absurd cc
-sleeping_wait_list (Released answer.Left) plain = absurd cc
 sleeping_wait_list (Released (answer.Waited Receivers)) plain = refl
 sleeping_wait_list (Released (answer.Waited Senders)) plain = refl
+sleeping_wait_list other plain = absurd cc
 
 sleeping_recorded : (call_state : CallState) (stage : Stage) (out : QOut (CvOut BufferOut)) → is_plain out ≡ false
     → recorded_by call_state stage out ≡ call_state
-sleeping_recorded call_state stage Acquired plain = absurd cc
 sleeping_recorded call_state stage Queued plain = refl
-sleeping_recorded call_state stage (Did o) plain = absurd cc
-sleeping_recorded call_state stage (Released (answer.Did o)) plain = absurd cc
-sleeping_recorded call_state stage (Released (answer.Signalled side front)) plain = absurd cc
-sleeping_recorded call_state stage (Released answer.Left) plain = absurd cc
 sleeping_recorded call_state stage (Released (answer.Waited side)) plain = refl
+sleeping_recorded call_state stage other plain = absurd cc
 
 sleeps_none : (line : Option WaitList) (own : Threads) → is_some line ≡ true → (own_slept line own).current ≡ None
 sleeps_none None own is = absurd cc
