@@ -32,8 +32,7 @@ current_small homes c moves own t legal stands room runs =
 
 -- a thread that runs stands on no waiting list of any lock
 pub current_awake : {G B O : Type 0} (monitor_rules : MonitorRules G B O) (opening : LockId
-    → Option (QueueBlock (LockState B))) (seen : List (QueueEvent (CvCall G)))
-    (c : CpuId) (own : Threads) (t : Tid)
+    → Option (QueueBlock (LockState B))) (seen : List (QueueEvent (CvCall G))) (c : CpuId) (own : Threads) (t : Tid)
     → AreMoves (homes_in opening) (moves_in (lock_kernel (cv_rules monitor_rules) opening) seen)
     → Stands (homes_in opening) c (moves_in (lock_kernel (cv_rules monitor_rules) opening) seen) own
     → LocksAgree (cv_rules monitor_rules) opening seen → own.current ≡ Some t
@@ -82,14 +81,12 @@ wake_kept waits now woke u same told = same ∙ ap (λ b. if b then slice_set wa
 
 -- the poll of a thread that was woken out of its wait, by the buffer at which it waited
 over_at : {G B O : Type 0} (monitor_rules : MonitorRules G B O) (k : Kernel (CvCall G) (LockState B) (Outcome (QOut (CvOut O)))) (ActsFor : CpuId
-    → Type 0)
-    (c : CpuId) (b : BufId) (call : CvCall G)
+    → Type 0) (c : CpuId) (b : BufId) (call : CvCall G)
     (old : List (QueueEvent (CvCall G))) (own : Waiting O) (under_way : Option (SchedCall (CvCall G))) (may : Type 0) (side : Side)
     (waits : List (Option BufId)) (at : Option BufId)
     → is_some at ≡ true → MayWait at under_way b call (lock_caller (cv_rules monitor_rules) call) may
     → ((line : WaitList) → is_in (lock_caller (cv_rules monitor_rules) call) (wait_list_in line (lock_after (cv_rules monitor_rules) k.opening (Buffer b)
-    (buffer_sections old)))
-    ≡ false)
+    (buffer_sections old))) ≡ false)
     → side ≡ side_in call → waits ≡ slice_set own.waits (lock_caller (cv_rules monitor_rules) call).0 None
     → CvPolled monitor_rules k ActsFor c b call at old old own under_way (waiting_with own.lock waits (Some (waited side)))
 over_at monitor_rules k ActsFor c b call old own under_way may side waits None some duty left same now = absurd cc
@@ -106,15 +103,12 @@ over_at {O = O} monitor_rules k ActsFor c b call old own under_way may side wait
 
 -- the poll of a thread that was woken out of its wait
 pub over_polled : {G B O : Type 0} (monitor_rules : MonitorRules G B O) (k : Kernel (CvCall G) (LockState B) (Outcome (QOut (CvOut O)))) (ActsFor : CpuId
-    → Type 0)
-    (c : CpuId) (b : BufId) (call : CvCall G)
-    (old : List (QueueEvent (CvCall G))) (own : Waiting O) (under_way : Option (SchedCall (CvCall G))) (side : Side)
-    (waits : List (Option BufId))
+    → Type 0) (c : CpuId) (b : BufId) (call : CvCall G)
+    (old : List (QueueEvent (CvCall G))) (own : Waiting O) (under_way : Option (SchedCall (CvCall G))) (side : Side) (waits : List (Option BufId))
     → is_some (slept_for own.waits (lock_caller (cv_rules monitor_rules) call)) ≡ true
     → MayCallCond monitor_rules k c old own under_way b call
     → ((line : WaitList) → is_in (lock_caller (cv_rules monitor_rules) call) (wait_list_in line (lock_after (cv_rules monitor_rules) k.opening (Buffer b)
-    (buffer_sections old)))
-    ≡ false)
+    (buffer_sections old))) ≡ false)
     → side ≡ side_in call → waits ≡ slice_set own.waits (lock_caller (cv_rules monitor_rules) call).0 None
     → CvPolled monitor_rules k ActsFor c b call (slept_for own.waits (lock_caller (cv_rules monitor_rules) call)) old old own under_way
     (waiting_with own.lock waits (Some (waited side)))
@@ -125,9 +119,7 @@ over_polled monitor_rules k ActsFor c b call old own under_way side waits some d
 -- whether an answer is that of a wait does not depend on the parcel beside it
 waited_told : {B O : Type 0} (told : B → Parcel → O) (parcel : Parcel) (out : CvOut B) → is_waited (cv_told told out parcel) ≡ is_waited out
 waited_told told parcel (answer.Did out) = refl
-waited_told told parcel (answer.Signalled side front) = refl
-waited_told told parcel answer.Left = refl
-waited_told told parcel (answer.Waited side) = refl
+waited_told told parcel other = refl
 
 waiting_told : {B O : Type 0} (told : B → Parcel → O) (parcel : Parcel) (out : QOut (CvOut B))
     → is_waiting (lock_told (cv_told told) out parcel) ≡ is_waiting out
@@ -188,8 +180,7 @@ reported_left t b waits now lock (Some outcome) result same told = left_by_out t
 
 -- the poll of a thread that does not wait
 pub waits_polled : {G B O : Type 0} (monitor_rules : MonitorRules G B O) (k : Kernel (CvCall G) (LockState B) (Outcome (QOut (CvOut O)))) (ActsFor : CpuId
-    → Type 0)
-    (c : CpuId) (b : BufId) (call : CvCall G)
+    → Type 0) (c : CpuId) (b : BufId) (call : CvCall G)
     (old new : List (QueueEvent (CvCall G))) (own : Waiting O) (under_way : Option (SchedCall (CvCall G))) (lock : Locking (CvOut O))
     (waits : List (Option BufId)) (answer result : Option (Outcome (QOut (CvOut O)))) (at : Option BufId)
     → is_some at ≡ false
@@ -208,8 +199,7 @@ waits_polled monitor_rules k ActsFor c b call old new own under_way lock waits a
 -- it follows its plan where the lock's poll follows its own
 pub waits_follow : {G B O : Type 0} (ActsFor : CpuId → Type 0) (table : Table (QueueEdit (CvCall G)) B (QueueAnswer (Outcome (QOut (CvOut O)))))
     (opening : LockId → Option B) (mv : MoveRules (CvCall G) (Outcome (QOut (CvOut O)))) (homes : List CpuId) (c : CpuId) (b : BufId) (call : CvCall G)
-    (own : Waiting O)
-    (old new : List (Action (QueueEdit (CvCall G)))) (lock : Locking (CvOut O)) (waits : List (Option BufId))
+    (own : Waiting O) (old new : List (Action (QueueEdit (CvCall G)))) (lock : Locking (CvOut O)) (waits : List (Option BufId))
     (answer result : Option (Outcome (QOut (CvOut O)))) (at : Option BufId)
     → is_some at ≡ false → Follows ActsFor table opening c (lock_plan mv homes c b call own.lock) old new (record { own = lock; answer = answer })
     → waits ≡ (if is_wait answer then slice_set own.waits (mv.caller call).0 (Some b) else own.waits) → result ≡ (if is_wait answer then None else answer)

@@ -54,37 +54,20 @@ answered_by c call_state (Some reply) is = (ap (λ s. begun_at s call_state.call
 sent_state : (of : Kind) (k : Option ℕ) (value : Message) (d b : BufId) (m : Message) (from : Source) (s : State)
     → after_sent of k s ≡ after_answer (Some (reply_by (Send d m) of value)) (ins.Send b from k) s
 sent_state kind.Send k value d b m from s = refl
-sent_state kind.Recv k value d b m from s = refl
-sent_state kind.Close k value d b m from s = refl
-sent_state kind.SendClosed k value d b m from s = refl
-sent_state kind.RecvClosed k value d b m from s = refl
+sent_state other k value d b m from s = refl
 
 received_state : (of : Kind) (k : Option ℕ) (value : Message) (d b : BufId) (into : Into) (s : State)
     → after_received of into k value s ≡ after_answer (Some (reply_by (Recv d) of value)) (ins.Recv b into k) s
 received_state kind.Send k value d b into s = refl
-received_state kind.Recv k value d b into s = refl
-received_state kind.Close k value d b into s = refl
-received_state kind.SendClosed k value d b into s = refl
-received_state kind.RecvClosed k value d b into s = refl
+received_state other k value d b into s = refl
 
 -- the reply moves the guest to where the effect leads
 same_state : (i : Instruction) (s : State) (c : Call) (f : Effect) → todo_at s i ≡ Calls c
     → after_effect i f s ≡ after_answer (Some (reply_of c f)) i s
 same_state (ins.Send b from k) s (Send q m) f at = sent_state f.kind k f.value q b m from s
-same_state (ins.Send b from k) s (Recv q) f at = absurd cc
-same_state (ins.Send b from k) s (Close q) f at = absurd cc
-same_state (ins.Recv b into k) s (Send q m) f at = absurd cc
 same_state (ins.Recv b into k) s (Recv q) f at = received_state f.kind k f.value q b into s
-same_state (ins.Recv b into k) s (Close q) f at = absurd cc
-same_state (ins.Close b) s (Send q m) f at = absurd cc
-same_state (ins.Close b) s (Recv q) f at = absurd cc
 same_state (ins.Close b) s (Close q) f at = refl
-same_state ins.Exit s c f at = absurd cc
-same_state ins.Yield s c f at = absurd cc
-same_state (ins.Set r n) s c f at = absurd cc
-same_state (ins.Add r q) s c f at = absurd cc
-same_state (ins.Sub r q) s c f at = absurd cc
-same_state (ins.Jnz r k) s c f at = absurd cc
+same_state other s rest f at = absurd cc
 
 -- an entry whose kind is counted with sends is one more call of a program that stands at a send of its buffer and its message
 module _ (program : List Instruction) (es : List Entry) (s : State) (b : BufId) (e : Entry) (buffer : e.buffer ≡ b) (calls : IsProgramsCalls program es s) where
@@ -111,22 +94,11 @@ calls_more : (program : List Instruction) (es : List Entry) (s : State) (i : Ins
     → IsProgramsCalls program (entry_of cpu t (buffer_of c) f ∷ es) (after_effect i f s)
 calls_more program es s (ins.Send b from k) (Send q m) f cpu t at todo is calls =
     sent_more program es s b (entry_of cpu t q f) (cc todo) calls from k at (is.1 ∙ cc todo) f.kind refl is.0
-calls_more program es s (ins.Send b from k) (Recv q) f cpu t at todo is calls = absurd cc
-calls_more program es s (ins.Send b from k) (Close q) f cpu t at todo is calls = absurd cc
-calls_more program es s (ins.Recv b into k) (Send q m) f cpu t at todo is calls = absurd cc
 calls_more program es s (ins.Recv b into k) (Recv q) f cpu t at todo is calls =
     received_more program es s b (entry_of cpu t q f) (cc todo) calls into k at f.kind refl is
-calls_more program es s (ins.Recv b into k) (Close q) f cpu t at todo is calls = absurd cc
-calls_more program es s (ins.Close b) (Send q m) f cpu t at todo is calls = absurd cc
-calls_more program es s (ins.Close b) (Recv q) f cpu t at todo is calls = absurd cc
 calls_more program es s (ins.Close b) (Close q) f cpu t at todo is calls =
     closed_more program es s b (entry_of cpu t q f) (cc todo) calls at f.kind refl is
-calls_more program es s ins.Exit c f cpu t at todo is calls = absurd cc
-calls_more program es s ins.Yield c f cpu t at todo is calls = absurd cc
-calls_more program es s (ins.Set r n) c f cpu t at todo is calls = absurd cc
-calls_more program es s (ins.Add r q) c f cpu t at todo is calls = absurd cc
-calls_more program es s (ins.Sub r q) c f cpu t at todo is calls = absurd cc
-calls_more program es s (ins.Jnz r k) c f cpu t at todo is calls = absurd cc
+calls_more program es s other rest f cpu t at todo is calls = absurd cc
 
 module _ (program : List Instruction) (s : State) (i : Instruction) (c : Call) (cpu : CpuId) (t : Tid) (at : next_of program s ≡ i)
     (todo : todo_at s i ≡ Calls c) where

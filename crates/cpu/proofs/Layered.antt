@@ -2,9 +2,9 @@
 use Rattle.std.proofs.Common.{◌≡◌, false, Some, None, ap, ◌∙◌, subst, refl, arith}
 use Rattle.event_log.specs.{declared.ids.CpuId.CpuId, declared.ids.Tid.Tid, Actions.phase}
 use Rattle.layer_traits.specs.{contracts.call_layers.CallLayer.TheBound.Met, declared.call_layers.CallLaw.Ghosts as LawGhosts}
-use Rattle.layer_traits.specs.{declared.call_layers.CallLayer.Ghosts, Places.AreMoves, Places.Stands, Places.home_of, Plans.is_in_section}
+use Rattle.layer_traits.specs.{declared.call_layers.CallLayer.Ghosts, BufferLaw.MovesGrow, Framed.Framed, Places.AreMoves, Places.Stands, Places.home_of, Plans.is_in_section}
 use Rattle.layer_traits.proofs.PlaceLemmas.{current_at}
-use Rattle.cpu.specs.{declared.cpus.Cpu.Cpu, Cpus.programs_of, CpuSteps.IsCpuAt, CpuSteps.IsTabledAt, CpuSteps.Leaves, Tower.Privates.threads_in}
+use Rattle.cpu.specs.{declared.cpus.Cpu.Cpu, Cpus.ActsGrow, Cpus.SeenGrows, Cpus.programs_of, CpuSteps.IsCpuAt, CpuSteps.IsTabledAt, CpuSteps.Leaves, Tower.Privates.threads_in}
 use Rattle.cpu.proofs.{CpuStates.valid_cpu, Passing.none_grow, Passing.none_moved, Passing.none_seen, TableCalls.ObservedCpu, TableCalls.ObservedOutset}
 use Rattle.cpu.proofs.{TableCalls.hand_known}
 use borrow.Fn.World.{World}
@@ -115,4 +115,27 @@ left_alone I m p q at number limit part programs = record {
   acts = λ c acts. acts;
   others = λ other apart fits. fits;
   holders = λ c apart acts holds. holds;
+}
+
+-- a step of the CPU's part
+pub left_framed : {P L M : Type 0} (I : Ghosts P L M) (m n : M) (p q : Cpu P M) → I.cpu_of p.part ≡ p.number → q.number ≡ p.number → q.limit ≡ p.limit
+    → Framed I.Fits I.cpu_of I.opening I.site I.room I.ActsFor I.MayHold p.part q.part m n → I.caps n ≡ I.caps m → I.homes_of n ≡ I.homes_of m
+    → programs_of q.guests.items ≡ programs_of p.guests.items → SeenGrows (I.ActsFor m) p.number (I.seen m) (I.seen n)
+    → MovesGrow (I.ActsFor m) p.number (I.moves m) (I.moves n) → (I.IsStepwise → ActsGrow (I.ActsFor m) p.number (I.acts m) (I.acts n)) → Leaves I m p n q
+left_framed I m n p q at number limit framed caps homes programs seen moves grows = record {
+  number = number;
+  limit = limit;
+  cpu = framed.cpu ∙ at;
+  programs = programs;
+  seen = seen;
+  moves = moves;
+  grows = grows;
+  opening = framed.stays.opening;
+  caps = caps;
+  homes = homes;
+  site = framed.stays.site;
+  room = framed.stays.room;
+  acts = framed.stays.acts;
+  others = λ part apart fits. framed.others part (rw at apart) fits;
+  holders = λ d apart acts holds. framed.holders d (rw at apart) acts holds;
 }

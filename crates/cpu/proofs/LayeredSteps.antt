@@ -1,13 +1,15 @@
 -- A system over a layer of message calls, after a step of one of its CPUs.
-use Rattle.std.proofs.Common.{◌≡◌, ℕ, ◌+◌, ◌<◌, List, length, map, Option, Some, slice_set, vec_capacity, subst, ◌∙◌, refl}
+use Rattle.std.proofs.Common.{◌≡◌, ℕ, ◌+◌, ◌<◌, List, length, map, Option, Some, slice_set, vec_capacity, ap, arith, sym, subst, ◌∙◌, refl}
 use Rattle.std.specs.Prelude.{slice_get}
+use Rattle.std.proofs.lemmas.Option.{slice_get_within}
 use Rattle.std.specs.List.{AllByRecursion}
-use Rattle.event_log.specs.declared.ids.{BufId.BufId, TheConstants.CPUS, Tid.Tid, CpuId.CpuId}
-use Rattle.layer_traits.specs.{declared.call_layers.CallLayer.Ghosts, Places.Stands}
+use Rattle.event_log.specs.{declared.ids.BufId.BufId, declared.ids.TheConstants.CPUS, declared.ids.Tid.Tid, declared.ids.CpuId.CpuId, Actions.AreLegal}
+use Rattle.layer_traits.specs.{declared.call_layers.CallLayer.Ghosts, declared.steps.Step.TheVariants.Stepped, Along.IsStep, OnePlace.cpu_at, Places.Stands}
 use Rattle.cpu.specs.{declared.cpus.Cpu.Cpu, Claims.CpuShown, Claims.cpu_shown, CpuSteps.IsCpuAt, CpuSteps.IsTabledAt, CpuSteps.Leaves, Sound.IsReachedByTable}
-use Rattle.cpu.specs.{Cpus.IsCpu, Cpus.programs_of, Systems.IsAt, Systems.SamePlan}
+use Rattle.cpu.specs.{CpuSteps.WentAt, Systems.SteppedByTable, Table.Steps.cpu_step, Tower.Composed.named, Cpus.IsCpu, Cpus.programs_of, Systems.IsAt}
+use Rattle.cpu.specs.{Systems.SamePlan}
 use Rattle.cpu.proofs.{Advances.Holds, Advances.Works, Advances.stepped, Sounding.Observed, Sounding.shown_in, ListReads.shown_at, ListReads.shown_same}
-use Rattle.cpu.proofs.{ListReads.shown_length, Orders.Has}
+use Rattle.cpu.proofs.{ListReads.shown_length, ListReads.shows_at, Orders.Has, Sounding.reached_on, TableSystems.shown_step}
 
 -- what a CPU shows
 abbrev pub shown_by : {P L M : Type 0} → Ghosts P L M → Cpu P M → CpuShown
@@ -49,16 +51,7 @@ module _ {P L M : Type 0} (I : Ghosts P L M) (owner : M → BufId → Option Tid
   abbrev W : Works M (Cpu P M)
   W = works_by I owner threads
 
-  -- CPU number k took a step, from x to y
-  pub went_on : (m n : M) (cpus : List (Cpu P M)) (room taken k : ℕ) (x y : Cpu P M) → Holds W m cpus room taken
-      → W.Sound n (slice_set cpus k y) room (taken + 1) → slice_get cpus k ≡ Some x → I.Fits y.part n → IsCpuAt I n y → (I.IsStepwise → IsTabledAt I n y)
-      → Leaves I m x n y → AllByRecursion (λ e. e.cpu.0 < CPUS) (I.seen n) → taken < room → Holds W n (slice_set cpus k y) room (taken + 1)
-  went_on m n cpus room taken k x y is sound at fits keeps table left known live =
-      stepped W m n cpus room taken k x y is sound at left.number left.cpu fits keeps table
-      (λ z before step. rw (left.homes, left.caps, left.opening) (before step)) (λ z other there. left.others z.part other there) left.acts
-      left.holders left.seen left.grows known left.homes left.caps left.room live
-
-  -- and the system keeps its plan
+  -- after a step of CPU number k, from x to y, the system keeps its plan
   pub plan_preserved : (m n : M) (cpus : List (Cpu P M)) (room taken later k : ℕ) (x y : Cpu P M) → slice_get cpus k ≡ Some x → Leaves I m x n y
       → SamePlan (shown_in (observed_by I owner m) (map (shown_by I) cpus) room taken)
       (shown_in (observed_by I owner n) (map (shown_by I) (slice_set cpus k y)) room later)
@@ -70,6 +63,30 @@ module _ {P L M : Type 0} (I : Ghosts P L M) (owner : M → BufId → Option Tid
     limits = shown_same (shown_by I) (λ (p : CpuShown). p.limit) cpus k x y at left.limit;
     room = refl;
   }
+
+  -- CPU c, at number k, took a step of the step table, from x to y
+  module _ (m n : M) (cpus : List (Cpu P M)) (room taken k : ℕ) (c : CpuId) (x y : Cpu P M) (is : Holds W m cpus room taken) (at : slice_get cpus k ≡ Some x)
+      (same : k ≡ c.0) (left : Leaves I m x n y) (live : taken < room) (legal : AreLegal (I.acts n)) (went : I.IsStepwise → WentAt I m x n y Stepped) where
+    -- so did the table's system
+    pub by_table : I.IsStepwise → SteppedByTable c (shown_in (observed_by I owner m) (map (shown_by I) cpus) room taken)
+        (shown_in (observed_by I owner n) (map (shown_by I) (slice_set cpus k y)) room (taken + 1)) Stepped
+    by_table step setup goes =
+        let number : x.number ≡ c = (is.each k x at).number_is ∙ ap (λ (j : ℕ). cpu_at j) same in
+        shown_step (shown_by I) (λ d. I.ActsFor m d) setup c cpus k x y (I.acts m) (I.acts n) room taken at same
+        (subst (λ (d : CpuId). IsStep (λ a. I.ActsFor m a) (cpu_step setup d) (shown_by I x).private (shown_by I y).private (named (I.acts m)) (named (I.acts n))
+        Stepped) number (went step setup (goes.each k (shown_by I x) (shows_at (shown_by I) cpus k x at)))) is.acts_for legal (λ full. omega (arith, full, live))
+
+    -- and all holds as before
+    pub went_on : I.Fits y.part n → IsCpuAt I n y → (I.IsStepwise → IsTabledAt I n y) → AllByRecursion (λ e. e.cpu.0 < CPUS) (I.seen n)
+        → Holds W n (slice_set cpus k y) room (taken + 1)
+    went_on fits keeps table known =
+        let there = slice_get_within (map (shown_by I) cpus) k (shown_by I x) (shows_at (shown_by I) cpus k x at) in
+        stepped W m n cpus room taken k x y is (
+          is.sound.0 ∙ ap (λ (l : List CpuId). length l) (sym left.homes),
+          λ step. reached_on c _ _ Stepped (subst (λ (j : ℕ). j < length (map (shown_by I) cpus)) same there)
+              (plan_preserved m n cpus room taken (taken + 1) k x y at left) (by_table step) (is.sound.1 step),
+        ) at left.number left.cpu fits keeps table (λ z before step. rw (left.homes, left.caps, left.opening) (before step))
+        (λ z other there. left.others z.part other there) left.acts left.holders left.seen left.grows known left.homes left.caps left.room live
 
 -- from what always holds of each CPU to what is shown of it
 pub cpus_have : {P L M : Type 0} (I : Ghosts P L M) (m : M) (cpus : List (Cpu P M))

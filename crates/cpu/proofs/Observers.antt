@@ -2,12 +2,18 @@
 use Rattle.std.proofs.Common.{◌≡◌, ◌⊎◌, inl, inr, ℕ, ◌+◌, ◌<◌, ◌≤◌, List, length, Option, Some, None, refl, ap, sym, ◌∙◌, subst, arith}
 use Rattle.std.specs.Prelude.{slice_get, slice_index_or}
 use Rattle.std.proofs.lemmas.{Bool.cases_eq, Bool.cases_lt, Option.slice_get_read, Option.slice_get_within}
-use Rattle.event_log.specs.declared.ids.{CpuId.CpuId, Tid.Tid, TheConstants.CPUS}
+use Rattle.event_log.specs.{declared.entries.Entry.Entry, declared.ids.CpuId.CpuId, declared.ids.Tid.Tid, declared.ids.TheConstants.CPUS, Actions.Action}
 use Rattle.layer_traits.specs.{declared.calls.Place.Place, declared.call_layers.CallLayer.Ghosts, OnePlace.cpu_at, Owned.IsHeld, Places.AreMoves, Places.Step}
 use Rattle.layer_traits.specs.{Places.home_of, Places.where_is, Observed.IsOwnPlace, Observed.MayObserve, Observed.ReadsPlace}
 use Rattle.layer_traits.proofs.PlaceLemmas.{hand_home}
-use Rattle.cpu.specs.{declared.cpus.Cpu.Cpu, Claims.CpuShown}
+use Rattle.cpu.specs.{declared.cpus.Cpu.Cpu, Claims.CpuShown, Systems.IsSystem}
 use Rattle.cpu.proofs.ListReads.{there_is}
+
+-- the holder of a system's machine acts for CPU 0
+pub acts_first : {X N : Type 0} {IsOne : X → Type 0} {number : X → CpuId} {ActsFor MayHold : CpuId → Type 0} {IsStepwise : Type 0} {acts : List (Action N)}
+    {cpus : List X} {homes : List CpuId} {seen : List Entry} {room taken left : ℕ} {Sound : Type 0}
+    → IsSystem IsOne number ActsFor MayHold IsStepwise acts cpus homes seen room taken left Sound → ActsFor (cpu_at 0)
+acts_first is = let least = is.some in let most = is.most in is.acts_for (cpu_at 0) (omega (arith, least, most))
 
 -- a CPU that may hold a lock is one of the first n, if no other may
 inside_within : (MayHold : CpuId → Type 0) (n : ℕ) (c : CpuId) → (n ≤ c.0 → c.0 < CPUS → MayHold c → ⊥) → c.0 < CPUS → MayHold c → c.0 < n

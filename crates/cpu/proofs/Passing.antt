@@ -7,7 +7,7 @@ use Rattle.layer_traits.specs.{declared.calls.Call.Call, declared.calls.Effect.E
 use Rattle.layer_traits.specs.{Looks.Tries, Places.Step, Places.Threads, Plans.Plan, Plans.Table, Plans.Left, Plans.Now, Plans.Act, Plans.Follows}
 use Rattle.layer_traits.specs.{BufferLaw.Called, BufferLaw.MovesGrow, BufferLaw.OthersSeen, BufferLaw.Passing, BufferLaw.buffer_of, BufferLaw.entry_of}
 use Rattle.layer_traits.specs.{BufferLaw.still_passing, declared.passes.Pass.Pass, Passes.PassPolled, Passes.pass_steps}
-use Rattle.layer_traits.specs.declared.passes.Pass.TheVariants.{Switch, YieldNow, Drain, MakeReady, End}
+use Rattle.layer_traits.specs.declared.passes.Pass.TheVariants.{Switch, End}
 use Rattle.cpu.specs.{declared.guests.Guest.Guest, Guests.after_pass, Guests.entries_of, Cpus.ActsGrow, Cpus.SeenGrows, Cpus.of_cpu, Cpus.passed_by}
 use Rattle.cpu.specs.{Cpus.programs_of}
 use Rattle.cpu.proofs.GuestLists.{cpu_same, programs_with}
@@ -117,7 +117,4 @@ programs_passed (Some t) guests pass = programs_with guests t.0 (after_pass pass
   where
     keeps : (p : Pass) (g : Guest) → (after_pass p g).program ≡ g.program
     keeps Switch g = refl
-    keeps YieldNow g = refl
-    keeps Drain g = refl
-    keeps (MakeReady s) g = refl
-    keeps End g = refl
+    keeps other g = refl

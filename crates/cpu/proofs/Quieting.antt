@@ -1,11 +1,11 @@
 -- When nobody is pending: by the places of the threads, and by the pending queues.
 use Rattle.std.proofs.Common.{◌≡◌, ◌≢◌, ◌⊎◌, inl, inr, ℕ, ◌+◌, ◌<◌, Bool, true, false, ◌||◌, List, [], ◌∷◌, length, refl, ap, sym, ◌∙◌, subst, arith}
 use Rattle.std.proofs.lemmas.{Bool.and_right, Bool.cases_eq, Option.slice_get_within, Option.same_Some}
-use Rattle.event_log.specs.declared.ids.{CpuId.CpuId, Tid.Tid, LockId.TheVariants.Pending}
+use Rattle.event_log.specs.declared.ids.{CpuId.CpuId, Tid.Tid}
 use Rattle.event_log.proofs.Same.{same_cpu_self}
 use Rattle.thread_blocks.specs.Queues.{is_in}
 use Rattle.thread_blocks.proofs.Members.{same_tid_self}
-use Rattle.layer_traits.specs.{declared.calls.Place.Place, OnePlace.cpu_at, Places.AreMoves, Places.Hand, Places.Pend, Places.Stands, Places.Step}
+use Rattle.layer_traits.specs.{declared.calls.Place.Place, OnePlace.cpu_at, Places.AreMoves, Places.Pend, Places.Stands, Places.Step}
 use Rattle.layer_traits.specs.{Places.Threads, Places.count_in, Places.home_of, Places.is_cpu, Places.is_hand, Places.is_home, Places.is_pend, Places.is_thread}
 use Rattle.layer_traits.specs.{Places.one_if, Places.pending_by, Places.where_is, Observed.IsOwnPlace, Observed.queue_place}
 use Rattle.layer_traits.proofs.{CountLemmas.in_counted, CountLemmas.is_thread_self, PlaceLemmas.hand_at, PlaceLemmas.pend_count, PlaceLemmas.pend_home}

@@ -1,18 +1,18 @@
 -- A system that is reached by the step table: at boot, after a step, and after a schedule.
-use Rattle.std.proofs.Common.{◌≡◌, ◌≢◌, ℕ, zero, suc, ◌+◌, ◌<◌, ◌≤◌, List, [], ◌∷◌, ◌++◌, length, map, replicate, take, Option, Some, None, option_map, refl}
-use Rattle.std.proofs.Common.{ap, sym, ◌∙◌, subst, arith, slice_set}
+use Rattle.std.proofs.Common.{◌≡◌, ℕ, zero, suc, ◌+◌, ◌<◌, ◌≤◌, List, [], ◌∷◌, ◌++◌, length, map, replicate, take, Option, Some, None, option_map, refl}
+use Rattle.std.proofs.Common.{ap, sym, ◌∙◌, subst, arith}
 use Rattle.std.specs.Prelude.{slice_get, slice_index_or}
 use Rattle.std.proofs.lemmas.{List.take_more, Option.slice_get_within, Option.same_Some}
-use Rattle.event_log.specs.{declared.entries.Entry.Entry, declared.ids.BufId.BufId, declared.ids.CpuId.CpuId, declared.ids.TheConstants.CPUS}
-use Rattle.event_log.specs.{declared.ids.TheConstants.THREADS, declared.ids.Tid.Tid, Actions.Action, Actions.AreLegal}
+use Rattle.event_log.specs.{declared.entries.Entry.Entry, declared.ids.BufId.BufId, declared.ids.CpuId.CpuId}
+use Rattle.event_log.specs.{declared.ids.TheConstants.THREADS, declared.ids.Tid.Tid, Actions.Action}
 use Rattle.layer_traits.specs.{declared.moves.WaitList.WaitList, declared.steps.Reason.Reason, declared.steps.Step.Step}
-use Rattle.layer_traits.specs.{declared.steps.Step.TheVariants.Stepped, declared.steps.Step.TheVariants.Halted, Along.IsStep, Places.Step as Moving}
+use Rattle.layer_traits.specs.{declared.steps.Step.TheVariants.Stepped, declared.steps.Step.TheVariants.Halted, Places.Step as Moving}
 use Rattle.cpu.specs.{declared.guests.Guest.Guest, Claims.CpuShown, Claims.Shown, Claims.shown_of, Cpus.guest_at, Cpus.programs_of, Sound.IsReachedByTable}
 use Rattle.cpu.specs.{Sound.IsSetupFor, Sound.RanByTable, Sound.ReturnsAlone, Sound.SoundByTable, Sound.after_steps, Systems.GoesBy, Systems.SamePlan}
-use Rattle.cpu.specs.{Systems.SteppedByTable, Systems.whole_of, Table.Setups.Setup, Table.Steps.IsReached, Table.Steps.Whole, Table.Steps.cpu_step}
-use Rattle.cpu.specs.{Table.Steps.steps, Table.Steps.steps_by, Table.Steps.system_step, Tables.IsSetupOf, Tower.Composed.named, Tower.Views.TowerName}
+use Rattle.cpu.specs.{Systems.SteppedByTable, Systems.whole_of, Table.Setups.Setup, Table.Steps.IsReached, Table.Steps.Whole}
+use Rattle.cpu.specs.{Table.Steps.steps, Table.Steps.steps_by, Table.Steps.system_step, Tower.Views.TowerName}
 use Rattle.cpu.specs.{Wakeups.Alone.HasReturned, Wakeups.Alone.IsInCall, Wakeups.Alone.steps_to_return}
-use Rattle.cpu.proofs.{GuestLists.at_programs, ListReads.shown_length, ListReads.shown_same, ListReads.shows_at, ListReads.there_is, TableSystems.shown_step}
+use Rattle.cpu.proofs.{GuestLists.at_programs, ListReads.shows_at, ListReads.there_is}
 use Rattle.cpu.proofs.{Wakeups.Reaching.systems_lose_no_wake_up, Wakeups.Ready.calls_return_alone}
 
 -- One setup for all states of a system.
@@ -92,50 +92,6 @@ pub record Observed : Type 0 where
 
 abbrev pub shown_in : Observed → List CpuShown → ℕ → ℕ → Shown
 shown_in m cpus room taken = shown_of m.caps m.homes m.seen m.wait_lists m.owner m.moves m.acts cpus room taken
-
--- a step of CPU c, at number k among those that are shown: x became y, and what the machine told before, it tells after; there was room
--- for so many steps, and so many were taken
-pub record Change (X : Type 0) : Type 0 where
-  pub shown : X → CpuShown
-  pub before : Observed
-  pub after : Observed
-  pub c : CpuId
-  pub cpus : List X
-  pub k : ℕ
-  pub x : X
-  pub y : X
-  pub room : ℕ
-  pub taken : ℕ
-  pub at : slice_get cpus k ≡ Some x
-  pub same : k ≡ c.0
-
-module _ {X : Type 0} (one : Change X) where
-  -- the system before the step, and after it
-  abbrev pub old_of : Shown
-  old_of = shown_in one.before (map one.shown one.cpus) one.room one.taken
-
-  abbrev pub new_of : Shown
-  new_of = shown_in one.after (map one.shown (slice_set one.cpus one.k one.y)) one.room (one.taken + 1)
-
-  pub same_plan : one.after.caps ≡ one.before.caps → one.after.homes ≡ one.before.homes
-      → programs_of (one.shown one.y).guests ≡ programs_of (one.shown one.x).guests → (one.shown one.y).limit ≡ (one.shown one.x).limit
-      → SamePlan old_of new_of
-  same_plan caps homes programs limit = record {
-    caps = caps;
-    homes = homes;
-    programs = shown_same one.shown (λ (p : CpuShown). programs_of p.guests) one.cpus one.k one.x one.y one.at programs;
-    count = shown_length one.shown one.cpus one.k one.y;
-    limits = shown_same one.shown (λ (p : CpuShown). p.limit) one.cpus one.k one.x one.y one.at limit;
-    room = refl;
-  }
-
-  pub went_so : (ActsFor : CpuId → Type 0)
-      → ((setup : Setup) → IsSetupOf setup one.before.homes one.before.caps (one.shown one.x).guests (one.shown one.x).limit
-      → IsStep ActsFor (cpu_step setup one.c) (one.shown one.x).private (one.shown one.y).private (named one.before.acts) (named one.after.acts) Stepped)
-      → ((d : CpuId) → d.0 < CPUS → ActsFor d) → AreLegal one.after.acts → one.taken ≢ one.room → SteppedByTable one.c old_of new_of Stepped
-  went_so ActsFor went all legal live setup goes =
-      shown_step one.shown ActsFor setup one.c one.cpus one.k one.x one.y one.before.acts one.after.acts one.room one.taken one.at one.same
-      (went setup (goes.each one.k (one.shown one.x) (shows_at one.shown one.cpus one.k one.x one.at))) all legal live
 
 -- A schedule.
 

@@ -8,7 +8,7 @@ use Rattle.thread_blocks.specs.Queues.{is_in}
 use Rattle.guest.specs.{declared.instructions.Instruction.Instruction, Instructions.names_below, State.State, State.next_of}
 use Rattle.layer_traits.specs.declared.calls.{Call.Call, Call.TheVariants.Send, Call.TheVariants.Recv, Call.TheVariants.Close, Effect.Effect, Reply.Reply}
 use Rattle.layer_traits.specs.{declared.call_states.CallState.CallState, Places.Threads, Places.home_of, Places.one_if}
-use Rattle.layer_traits.specs.BufferLaw.{Called, Calling, UnderWay, MayGoOn, MayPollCall, RunsOn, begun_of, buffer_of, entry_of, still_calling, call_state_of}
+use Rattle.layer_traits.specs.BufferLaw.{Called, Calling, UnderWay, MayPollCall, RunsOn, begun_of, buffer_of, entry_of, still_calling, call_state_of}
 use Rattle.cpu.specs.{declared.cpus.Choice.TheVariants.Polls, declared.guests.Guest.Guest, declared.guests.GuestStage.GuestStage, declared.guests.Todo.Todo}
 use Rattle.cpu.specs.{declared.guests.Todo.TheVariants.Finish, declared.guests.Todo.TheVariants.Calls, Cpus.AllFollow, Cpus.AreOver, Cpus.IsCpu, Cpus.IsOfHome}
 use Rattle.cpu.specs.{Cpus.NamesBelow, Cpus.begins_at, Cpus.begun_count, Cpus.is_begun_guest, Cpus.chosen, Cpus.chosen_at, Cpus.chosen_by, Cpus.chosen_for}
@@ -89,20 +89,9 @@ begun_for g es call_state c follows asks = go g.stage follows.1
 named_buffer : (i : Instruction) (s : State) (c : Call) (buffers : ℕ) → todo_at s i ≡ Calls c → names_below buffers i ≡ true
     → nat_lt (buffer_of c).0 buffers ≡ true
 named_buffer (ins.Send b r k) s (Send q m) buffers asks named = let same : b ≡ q = cc asks in subst (λ (x : BufId). nat_lt x.0 buffers ≡ true) same named
-named_buffer (ins.Send b r k) s (Recv q) buffers asks named = absurd cc
-named_buffer (ins.Send b r k) s (Close q) buffers asks named = absurd cc
-named_buffer (ins.Recv b r k) s (Send q m) buffers asks named = absurd cc
 named_buffer (ins.Recv b r k) s (Recv q) buffers asks named = let same : b ≡ q = cc asks in subst (λ (x : BufId). nat_lt x.0 buffers ≡ true) same named
-named_buffer (ins.Recv b r k) s (Close q) buffers asks named = absurd cc
-named_buffer (ins.Close b) s (Send q m) buffers asks named = absurd cc
-named_buffer (ins.Close b) s (Recv q) buffers asks named = absurd cc
 named_buffer (ins.Close b) s (Close q) buffers asks named = let same : b ≡ q = cc asks in subst (λ (x : BufId). nat_lt x.0 buffers ≡ true) same named
-named_buffer ins.Exit s c buffers asks named = absurd cc
-named_buffer ins.Yield s c buffers asks named = absurd cc
-named_buffer (ins.Set r n) s c buffers asks named = absurd cc
-named_buffer (ins.Add r q) s c buffers asks named = absurd cc
-named_buffer (ins.Sub r q) s c buffers asks named = absurd cc
-named_buffer (ins.Jnz r k) s c buffers asks named = absurd cc
+named_buffer other s rest buffers asks named = absurd cc
 
 -- what one poll of a call leaves of a CPU, for whom the machine's holder acts
 pub record PolledCpu (ActsFor : CpuId → Type 0) (cpu : ValidCpu) (t : Tid) (c : Call) : Type 0 where

@@ -47,9 +47,7 @@ local_at setup c p t s line is = absurd (cc is)
 
 never_sends : (t s : Tid) (todo : Todo) → chosen_todo t todo ≡ Passes (MakeReady s) → ⊥
 never_sends t s (Calls c) is = absurd (cc is)
-never_sends t s Finish is = absurd (cc is)
-never_sends t s PassOn is = absurd (cc is)
-never_sends t s Compute is = absurd (cc is)
+never_sends t s other is = absurd (cc is)
 
 -- a call state between calls has begun none
 unbegun : (f : Call → TableCall) (call_state : CallState) → call_state.stage ≡ at_stage.Idle → option_map f (begun_of call_state) ≡ None

@@ -240,11 +240,7 @@ module _ (cpu : TabledCpu) where
     by_line t g at free (ins.Close b) =
         full_if _ full _ table_full ∙ ap (λ x. if x && full then Some TraceFull else None) (sym (ap begins_at at ∙ ap not free))
     by_line t g at free ins.Yield = refl
-    by_line t g at free ins.Exit = refl
-    by_line t g at free (ins.Set r n) = refl
-    by_line t g at free (ins.Add r q) = refl
-    by_line t g at free (ins.Sub r q) = refl
-    by_line t g at free (ins.Jnz r k) = refl
+    by_line t g at free other = refl
 
     pub call_of : (t : Tid) (g : Guest) → guest_at guests t.0 ≡ Some g
         → (thread_at p t).call ≡ option_map (λ call. call_from call (call_state_of own.call_states t).position (call_state_of own.call_states t).effect

@@ -6,7 +6,7 @@ use Rattle.event_log.specs.{declared.ids.BufId.BufId, declared.ids.LockId.LockId
 use Rattle.event_log.specs.{declared.ids.TheConstants.THREADS, History.same_lock}
 use Rattle.event_log.proofs.Same.{same_lock_true}
 use Rattle.layer_traits.specs.declared.{buffer_edits.BufferEdit.BufferEdit, calls.Call.Call, conditions.CvEdit.TheVariants.Edit}
-use Rattle.layer_traits.specs.declared.{conditions.CvEdit.TheVariants.SignalFront, conditions.CvLeave.TheVariants.Leave, conditions.CvLeave.TheVariants.Wait}
+use Rattle.layer_traits.specs.declared.{conditions.CvLeave.TheVariants.Leave, conditions.CvLeave.TheVariants.Wait}
 use Rattle.layer_traits.specs.declared.{locked.QEdit.TheVariants.Acquire, locked.QEdit.TheVariants.Inside, locked.QEdit.TheVariants.Release, locked.Side.Side}
 use Rattle.layer_traits.specs.declared.{locked.Side.TheVariants.Receivers, locked.Side.TheVariants.Senders, call_states.CallState.CallState}
 use Rattle.layer_traits.specs.declared.buffer_edits.BufferEdit.TheVariants.{Enter, TryPut, TryTake, Shut}
@@ -124,9 +124,7 @@ pub line_apart : (t : Tid) (e : CvCall BufferEdit) (x : Option BufferLock) (side
 line_apart t e None side other = refl
 line_apart t (Acquire u) (Some lock) side other = ap (λ x. count_in t (line_of side x)) (above_asked u lock.owner lock)
 line_apart t (Inside (Edit ed)) (Some lock) side other = line_edit t ed side lock.above other
-line_apart t (Inside (SignalFront u at)) (Some lock) side other = refl
-line_apart t (Release (Leave u)) (Some lock) side other = refl
-line_apart t (Release (Wait u at)) (Some lock) side other = refl
+line_apart t rest (Some lock) side other = refl
 
 -- nobody else's section enters a line for the thread
 pub enter_apart : (t : Tid) (e : CvCall BufferEdit) (side : Side) → same_tid (lock_caller buffer_rules e) t ≡ false → is_enter side t e ≡ false
@@ -135,11 +133,7 @@ enter_apart t (Inside (Edit (Enter u Receivers))) Receivers other = other
 enter_apart t (Inside (Edit (Enter u Senders))) Receivers other = refl
 enter_apart t (Inside (Edit (Enter u Receivers))) Senders other = refl
 enter_apart t (Inside (Edit (Enter u Senders))) Senders other = other
-enter_apart t (Inside (Edit (TryPut u m))) side other = refl
-enter_apart t (Inside (Edit (TryTake u))) side other = refl
-enter_apart t (Inside (Edit (Shut u))) side other = refl
-enter_apart t (Inside (SignalFront u at)) side other = refl
-enter_apart t (Release leave) side other = refl
+enter_apart t rest side other = refl
 
 module _ (opening : LockId → Option BufferLock) (past : List BufferSection) (s : BufferSection) (t : Tid) where
   pub drawn_apart : (lock : LockId) (side : Side) → same_tid (lock_caller buffer_rules s.edit) t ≡ false

@@ -145,12 +145,6 @@ module _ {B : Type 0} (ActsFor : CpuId → Type 0) (table : Table (QueueEdit (Cv
       → Follows ActsFor table opening cpu (plan_of homes cpu t call (call_state_of one.own.call_states t).stage
       (call_state_of one.own.call_states t) one.own) mid new two
       → Follows ActsFor table opening cpu (plan_at homes cpu t call stage call_state own) old new two
-  two_follows Idle call_state own old mid new one two handed out once is waits slept free freed first second = absurd cc
-  two_follows Enters call_state own old mid new one two handed out once is waits slept free freed first second = absurd cc
-  two_follows Tries call_state own old mid new one two handed out once is waits slept free freed first second = absurd cc
-  two_follows Signals call_state own old mid new one two handed out once is waits slept free freed first second = absurd cc
-  two_follows SignalsOwn call_state own old mid new one two handed out once is waits slept free freed first second = absurd cc
-  two_follows Releases call_state own old mid new one two handed out once is waits slept free freed first second = absurd cc
   two_follows Acquires call_state own old mid new one two handed out once is waits slept free freed first second =
       let at = some_of (slept_for own.cv.lock.slept t) (slept refl).1 in
       let stage_is : (call_state_of one.own.call_states t).stage ≡ Enters = ap (λ (x : CallState). x.stage) is in
@@ -173,6 +167,7 @@ module _ {B : Type 0} (ActsFor : CpuId → Type 0) (table : Table (QueueEdit (Cv
       (answers_woken own.cv at.0 at.1) first
       (one_follows AcquiresAgain (call_state_of one.own.call_states t) one.own mid new two refl free freed
       (subst (λ s. Follows ActsFor table opening cpu (plan_of homes cpu t call s (call_state_of one.own.call_states t) one.own) mid new two) stage_is second))
+  two_follows other call_state own old mid new one two handed out once is waits slept free freed first second = absurd cc
 
 -- a plan followed by a holder that acts for fewer CPUs
 pub follows_for : {N B R S A : Type 0} (ActsFor Acts : CpuId → Type 0) → ((d : CpuId) → Acts d → ActsFor d)

@@ -13,7 +13,7 @@ use Rattle.layer_traits.specs.{declared.call_states.CallState.CallState, BufferB
 use Rattle.layer_traits.specs.{Conditions.CvCall, Conditions.cv_rules, LockLaw.lock_kernel, Locking.IsOwners, Locking.lock_caller, Locking.owner_in}
 use Rattle.layer_traits.specs.{Places.count_in, Places.home_of, Places.one_if, Protocol.section, QueueBlocks.homes_in, QueueBlocks.inner, Queues.QueueAllowed}
 use Rattle.layer_traits.specs.{Queues.buffer_sections, Queues.cpu_of_queue_event, Queues.with_section}
-use Rattle.layer_traits.specs.declared.call_states.Stage.TheVariants.{Idle, Acquires, Enters, Tries, Waits, AcquiresAgain, Signals, SignalsOwn, Releases}
+use Rattle.layer_traits.specs.declared.call_states.Stage.TheVariants.{Idle, Acquires, Enters, Tries, Waits, AcquiresAgain}
 use Rattle.layer_traits.specs.BufferProtocol.{BufferLock, BufferSection, IsDue, buffer_at, buffer_monitor_rules, buffer_rules, is_in_line}
 use Rattle.layer_traits.proofs.{CountLemmas.not_counted, ListsLemmas.counted_in}
 use Rattle.thread_blocks.specs.Queues.{same_tid}
@@ -72,11 +72,7 @@ caller_is t (Close b) Enters = refl
 caller_is t (Send b m) Tries = refl
 caller_is t (Recv b) Tries = refl
 caller_is t (Close b) Tries = refl
-caller_is t call Waits = refl
-caller_is t call AcquiresAgain = refl
-caller_is t call Signals = refl
-caller_is t call SignalsOwn = refl
-caller_is t call Releases = refl
+caller_is t call other = refl
 
 -- what a stance lets its thread do
 module _ (O : LockId → Option BufferLock) (past : List BufferSection) (t : Tid) where
@@ -111,9 +107,7 @@ module _ (O : LockId → Option BufferLock) (past : List BufferSection) (t : Tid
   owner_due (Close b) Tries position effect now = absurd (now.joins refl)
   owner_due call Waits position effect now = owned _ (grip_here (buffer_of call) (side_of call) true false true position now.stance)
   owner_due call AcquiresAgain position effect now = not_owned _ (grip_here (buffer_of call) (side_of call) false false true position now.stance)
-  owner_due call Signals position effect now = owned _ (grip_here (buffer_of call) (side_of call) true false false position now.stance)
-  owner_due call SignalsOwn position effect now = owned _ (grip_here (buffer_of call) (side_of call) true false false position now.stance)
-  owner_due call Releases position effect now = owned _ (grip_here (buffer_of call) (side_of call) true false false position now.stance)
+  owner_due call other position effect now = owned _ (grip_here (buffer_of call) (side_of call) true false false position now.stance)
 
   out_of_line : (side : Side) (x : Option BufferLock) → count_in t (line_at side x) ≡ 0 → is_in_line side t x ≡ false
   out_of_line side None none = refl
@@ -142,7 +136,4 @@ module _ (O : LockId → Option BufferLock) (past : List BufferSection) (t : Tid
   due_now (Recv b) Tries position effect now = in_line Receivers _ (once_there b Receivers position now.stance)
   due_now (Close b) Tries position effect now = absurd (now.joins refl)
   due_now call Waits position effect now = now.vain refl
-  due_now call AcquiresAgain position effect now = tt
-  due_now call Signals position effect now = tt
-  due_now call SignalsOwn position effect now = tt
-  due_now call Releases position effect now = tt
+  due_now call other position effect now = tt

@@ -2,13 +2,12 @@
 use Rattle.std.proofs.Common.{◌≡◌, ◌≢◌, ◌⊎◌, inl, inr, Bool, true, false, List, ◌++◌, Option, Some, None, option_map, option_to_list, is_some, if◌then◌else◌}
 use Rattle.std.proofs.Common.{refl, ap, sym, ◌∙◌, subst}
 use Rattle.event_log.specs.declared.ids.{CpuId.CpuId, Tid.Tid}
-use Rattle.layer_traits.specs.{declared.buffer_edits.BufferEdit.BufferEdit, declared.buffer_edits.BufferOut.BufferOut, declared.calls.Call.Call}
-use Rattle.layer_traits.specs.{declared.calls.Effect.Effect, declared.calls.Reply.Reply, declared.conditions.CvOut.CvOut, declared.locked.QOut.QOut}
-use Rattle.layer_traits.specs.{declared.scheds.SchedCall.SchedCall, declared.call_states.Stage.Stage, declared.call_states.CallState.CallState}
+use Rattle.layer_traits.specs.declared.{buffer_edits.BufferEdit.BufferEdit, buffer_edits.BufferOut.BufferOut, calls.Call.Call, calls.Effect.Effect}
+use Rattle.layer_traits.specs.declared.{calls.Reply.Reply, conditions.CvOut.CvOut, locked.QOut.QOut, scheds.SchedCall.SchedCall, call_states.Stage.Stage}
+use Rattle.layer_traits.specs.declared.{call_states.CallState.CallState, buffer_edits.BufferOut.TheVariants.Entered}
 use Rattle.layer_traits.specs.{BufferEffects.effects_in, BufferLaw.Answered, BufferLaw.Called, BufferLaw.begun_at, BufferLaw.buffer_of, BufferLaw.entry_of}
 use Rattle.layer_traits.specs.{BufferLaw.going, BufferLaw.recorded, BufferLaw.enlisted, BufferLaw.replied, BufferLaw.reply_of, BufferLaw.call_state_of}
 use Rattle.layer_traits.specs.{BufferLaw.reported_by, BufferLaw.tried, Conditions.CvCall, LockLaw.slept_for, Places.home_of, Queues.buffer_sections}
-use Rattle.layer_traits.specs.declared.buffer_edits.BufferOut.TheVariants.{Entered, NotYet, Done, WasShut}
 use Rattle.layer_traits.specs.declared.call_states.Stage.TheVariants.{Idle, Acquires, Enters, Tries, Waits, AcquiresAgain, Signals, SignalsOwn, Releases}
 use Rattle.thread_blocks.specs.Queues.{same_tid}
 use Rattle.thread_blocks.proofs.Members.{same_tid_true}
@@ -18,15 +17,11 @@ use Rattle.fifo_buffer.proofs.{SectionPollTaken.SectionPollTaken, Parts.effects_
 
 enlisted_call : (call_state : CallState) (out : BufferOut) → (enlisted call_state out).call ≡ call_state.call
 enlisted_call call_state (Entered p) = refl
-enlisted_call call_state NotYet = refl
-enlisted_call call_state (Done kind op value) = refl
-enlisted_call call_state (WasShut op pos) = refl
+enlisted_call call_state other = refl
 
 tried_call : (call_state : CallState) (out : BufferOut) → (tried call_state out).call ≡ call_state.call
 tried_call call_state (Entered p) = refl
-tried_call call_state NotYet = refl
-tried_call call_state (Done kind op value) = refl
-tried_call call_state (WasShut op pos) = refl
+tried_call call_state other = refl
 
 -- the call goes on after a section, but for the last one, after which it answers
 pub goes_or_ends : (call_state : CallState) (call : Call) (stage : Stage) (out : QOut (CvOut BufferOut)) → call_state.call ≡ Some call

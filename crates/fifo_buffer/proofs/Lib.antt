@@ -15,3 +15,4 @@ pub mod Starting
 pub mod Chains
 pub mod Opening
 pub mod PositionLemmas
+pub mod Within

@@ -26,7 +26,7 @@ use Rattle.thread_blocks.proofs.{Members.same_tid_self, Distinct.out_of_rest}
 use Rattle.fifo_buffer.specs.{Laws.BlockSteps.kind_counts, Stances.Grip, Stances.Holds, Stances.InCall, Stances.IsFreeOf, Stances.Stance, Stances.CallStateFits}
 use Rattle.fifo_buffer.specs.{Stances.done_at, Stances.recorded_by, Stances.line_at, Stances.same_side, Stances.slept_by, Stances.call_state_in}
 use Rattle.fifo_buffer.specs.{Stances.waits_by}
-use Rattle.fifo_buffer.proofs.Apart.{above_asked, line_shut, side_self}
+use Rattle.fifo_buffer.proofs.{Within.within, Apart.above_asked, Apart.line_shut, Apart.side_self}
 use Rattle.event_log.specs.declared.entries.Kind.TheVariants as kind
 use Rattle.layer_traits.specs.declared.buffer_edits.BufferOut.TheVariants as told
 use Rattle.layer_traits.specs.declared.conditions.CvOut.TheVariants as answer
@@ -264,6 +264,15 @@ module _ (opening : LockId → Option BufferLock) (past : List BufferSection) (c
       → effect_on c b e (λ side u. drawn opening (Buffer b) side u past) (Some lock) ≡ None → effect_of opening past (section c (Buffer b) e) ≡ None
   no_effect_here b e is none = ap (λ x. effect_on c b e (λ side u. drawn opening (Buffer b) side u past) x) is ∙ none
 
+  -- a section without an effect
+  silent : (call : Call) (stage : Stage) (out : QOut (CvOut BufferOut))
+      → CallStateFits opening (section c (Buffer (buffer_of call)) (section_at t call stage) ∷ past) t
+      (recorded_by (call_state_in stage call position effect) stage out).call (slept_by (buffer_of call) out) (waits_by (buffer_of call) out)
+      (recorded_by (call_state_in stage call position effect) stage out)
+      → effect_of opening past (section c (Buffer (buffer_of call)) (section_at t call stage)) ≡ None
+      → (recorded_by (call_state_in stage call position effect) stage out).effect ≡ effect → Stepped opening past c t call stage position effect out
+  silent call stage out fits is stays = record { fits = fits; mine = None; is = is; fresh = λ f w. absurd cc; stays = λ w. stays }
+
   asks_step : (call : Call) → buffer_at opening past (Buffer (buffer_of call)) ≡ Some lock → InCall opening past t call None None Acquires position effect
       → Stepped opening past c t call Acquires position effect (asker_report lock.owner)
   asks_step call is now = go lock.owner refl
@@ -272,36 +281,14 @@ module _ (opening : LockId → Option BufferLock) (past : List BufferSection) (c
       none = no_effect_here (buffer_of call) (Acquire t) is refl
 
       go : (owner : Option Tid) → lock.owner ≡ owner → Stepped opening past c t call Acquires position effect (asker_report owner)
-      go None free = record {
-        fits = record {
-          called = refl;
-          stance = took_lock opening past c t (buffer_of call) (side_of call) lock is false position free now.stance;
-          vain = λ w. absurd cc;
-          joins = λ w. absurd cc;
-          effect_is = now.effect_is;
-          slept_here = tt;
-          waits_here = tt;
-        };
-        mine = None;
-        is = none;
-        fresh = λ f w. absurd cc;
-        stays = λ w. refl;
-      }
-      go (Some o) owned = record {
-        fits = record {
-          called = refl;
-          stance = asked_lock opening past c t (buffer_of call) (side_of call) lock is false position now.stance;
-          vain = λ w. absurd cc;
-          joins = λ w. absurd cc;
-          effect_is = now.effect_is;
-          slept_here = (refl, refl);
-          waits_here = tt;
-        };
-        mine = None;
-        is = none;
-        fresh = λ f w. absurd cc;
-        stays = λ w. refl;
-      }
+      go None free = silent call Acquires _
+          (within _ _ _ _ refl (took_lock opening past c t (buffer_of call) (side_of call) lock is false position free now.stance)
+          (λ w. absurd cc) (λ w. absurd cc) now.effect_is tt tt)
+          none refl
+      go (Some o) owned = silent call Acquires _
+          (within _ _ _ _ refl (asked_lock opening past c t (buffer_of call) (side_of call) lock is false position now.stance)
+          (λ w. absurd cc) (λ w. absurd cc) now.effect_is (refl, refl) tt)
+          none refl
 
   asks_again_step : (call : Call) → buffer_at opening past (Buffer (buffer_of call)) ≡ Some lock
       → InCall opening past t call None None AcquiresAgain position effect
@@ -312,36 +299,14 @@ module _ (opening : LockId → Option BufferLock) (past : List BufferSection) (c
       none = no_effect_here (buffer_of call) (Acquire t) is refl
 
       go : (owner : Option Tid) → lock.owner ≡ owner → Stepped opening past c t call AcquiresAgain position effect (asker_report owner)
-      go None free = record {
-        fits = record {
-          called = refl;
-          stance = took_lock opening past c t (buffer_of call) (side_of call) lock is true position free now.stance;
-          vain = λ w. absurd cc;
-          joins = λ w. now.joins refl;
-          effect_is = now.effect_is;
-          slept_here = tt;
-          waits_here = tt;
-        };
-        mine = None;
-        is = none;
-        fresh = λ f w. absurd cc;
-        stays = λ w. refl;
-      }
-      go (Some o) owned = record {
-        fits = record {
-          called = refl;
-          stance = asked_lock opening past c t (buffer_of call) (side_of call) lock is true position now.stance;
-          vain = λ w. absurd cc;
-          joins = λ w. now.joins refl;
-          effect_is = now.effect_is;
-          slept_here = (refl, refl);
-          waits_here = tt;
-        };
-        mine = None;
-        is = none;
-        fresh = λ f w. absurd cc;
-        stays = λ w. refl;
-      }
+      go None free = silent call AcquiresAgain _
+          (within _ _ _ _ refl (took_lock opening past c t (buffer_of call) (side_of call) lock is true position free now.stance)
+          (λ w. absurd cc) (λ w. now.joins refl) now.effect_is tt tt)
+          none refl
+      go (Some o) owned = silent call AcquiresAgain _
+          (within _ _ _ _ refl (asked_lock opening past c t (buffer_of call) (side_of call) lock is true position now.stance)
+          (λ w. absurd cc) (λ w. now.joins refl) now.effect_is (refl, refl) tt)
+          none refl
 
   none_before : (call : Call) (stage : Stage) → done_at stage ≡ false → InCall opening past t call None None stage position effect → effect ≡ None
   none_before call stage begins now = none_of effect (now.effect_is ∙ begins)
@@ -349,46 +314,16 @@ module _ (opening : LockId → Option BufferLock) (past : List BufferSection) (c
   enters_step : (call : Call) → t.0 < THREADS → buffer_at opening past (Buffer (buffer_of call)) ≡ Some lock
       → InCall opening past t call None None Enters position effect
       → Stepped opening past c t call Enters position effect (lock_out buffer_rules (section_at t call Enters) lock)
-  enters_step (Send b m) small is now = record {
-    fits = record {
-      called = refl;
-      stance = entered_line opening past c t b Senders lock is position small now.stance;
-      vain = λ w. absurd cc;
-      joins = λ w. tt;
-      effect_is = now.effect_is;
-      slept_here = tt;
-      waits_here = tt;
-    };
-    mine = None;
-    is = no_effect_here b (Inside (Edit (Enter t Senders))) is refl;
-    fresh = λ f w. absurd cc;
-    stays = λ w. refl;
-  }
-  enters_step (Recv b) small is now = record {
-    fits = record {
-      called = refl;
-      stance = entered_line opening past c t b Receivers lock is position small now.stance;
-      vain = λ w. absurd cc;
-      joins = λ w. tt;
-      effect_is = now.effect_is;
-      slept_here = tt;
-      waits_here = tt;
-    };
-    mine = None;
-    is = no_effect_here b (Inside (Edit (Enter t Receivers))) is refl;
-    fresh = λ f w. absurd cc;
-    stays = λ w. refl;
-  }
+  enters_step (Send b m) small is now = silent (Send b m) Enters _
+      (within _ _ _ _ refl (entered_line opening past c t b Senders lock is position small now.stance)
+      (λ w. absurd cc) (λ w. tt) now.effect_is tt tt)
+      (no_effect_here b (Inside (Edit (Enter t Senders))) is refl) refl
+  enters_step (Recv b) small is now = silent (Recv b) Enters _
+      (within _ _ _ _ refl (entered_line opening past c t b Receivers lock is position small now.stance)
+      (λ w. absurd cc) (λ w. tt) now.effect_is tt tt)
+      (no_effect_here b (Inside (Edit (Enter t Receivers))) is refl) refl
   enters_step (Close b) small is now = record {
-    fits = record {
-      called = refl;
-      stance = has_shut opening past c t b Senders lock is position now.stance;
-      vain = λ w. absurd cc;
-      joins = λ w. absurd cc;
-      effect_is = refl;
-      slept_here = tt;
-      waits_here = tt;
-    };
+    fits = within _ _ _ _ refl (has_shut opening past c t b Senders lock is position now.stance) (λ w. absurd cc) (λ w. absurd cc) refl tt tt;
     mine = Some closed;
     is = ap (λ x. effect_on c b (Inside (Edit (Shut t))) (λ side u. drawn opening (Buffer b) side u past) x) is;
     fresh = λ f same. (none_before (Close b) Enters refl now, same, ap (λ (g : Effect). group_of g.kind) (sym (done f same)));
@@ -406,15 +341,7 @@ module _ (opening : LockId → Option BufferLock) (past : List BufferSection) (c
       → Stepped opening past c t (Send b m) Tries position effect
       (Did (answer.Did (if v then told.Done (effect_kind Senders lock.above) lock.above.effects m else told.NotYet)))
   put_step b m true next is now = record {
-    fits = record {
-      called = refl;
-      stance = has_put opening past c t b lock is position m next now.stance;
-      vain = λ w. absurd cc;
-      joins = λ w. absurd cc;
-      effect_is = refl;
-      slept_here = tt;
-      waits_here = tt;
-    };
+    fits = within _ _ _ _ refl (has_put opening past c t b lock is position m next now.stance) (λ w. absurd cc) (λ w. absurd cc) refl tt tt;
     mine = Some (record { kind = effect_kind Senders lock.above; value = m; op = lock.above.effects; pos = position });
     is = ap (λ x. effect_on c b (Inside (Edit (TryPut t m))) (λ side u. drawn opening (Buffer b) side u past) x) is
         ∙ ap (λ (v : Bool). if v then Some (entry_of c t b
@@ -432,38 +359,19 @@ module _ (opening : LockId → Option BufferLock) (past : List BufferSection) (c
       done : (f : Effect) → Some (record { kind = effect_kind Senders lock.above; value = m; op = lock.above.effects; pos = position }) ≡ Some f
           → record { kind = effect_kind Senders lock.above; value = m; op = lock.above.effects; pos = position } ≡ f
       done f same = cc
-  put_step b m false next is now = record {
-    fits = record {
-      called = refl;
-      stance = put_in_vain opening past c t b lock is position m next now.stance;
-      vain = λ w. vain_put opening past c t b lock is position m next;
-      joins = λ w. tt;
-      effect_is = now.effect_is;
-      slept_here = tt;
-      waits_here = tt;
-    };
-    mine = None;
-    is = ap (λ x. effect_on c b (Inside (Edit (TryPut t m))) (λ side u. drawn opening (Buffer b) side u past) x) is
-        ∙ ap (λ (v : Bool). if v then Some (entry_of c t b
-        (record { kind = effect_kind Senders lock.above; value = m; op = lock.above.effects; pos = drawn opening (Buffer b) Senders t past })) else None) next;
-    fresh = λ f w. absurd cc;
-    stays = λ w. refl;
-  }
+  put_step b m false next is now = silent (Send b m) Tries _
+      (within _ _ _ _ refl (put_in_vain opening past c t b lock is position m next now.stance)
+      (λ w. vain_put opening past c t b lock is position m next) (λ w. tt) now.effect_is tt tt)
+      (ap (λ x. effect_on c b (Inside (Edit (TryPut t m))) (λ side u. drawn opening (Buffer b) side u past) x) is
+      ∙ ap (λ (v : Bool). if v then Some (entry_of c t b
+      (record { kind = effect_kind Senders lock.above; value = m; op = lock.above.effects; pos = drawn opening (Buffer b) Senders t past })) else None) next) refl
 
   take_step : (b : BufId) (v : Bool) → is_next Receivers t lock.above ≡ v → buffer_at opening past (Buffer b) ≡ Some lock
       → InCall opening past t (Recv b) None None Tries position effect
       → Stepped opening past c t (Recv b) Tries position effect
       (Did (answer.Did (if v then told.Done (effect_kind Receivers lock.above) lock.above.effects (first_item lock.above.items) else told.NotYet)))
   take_step b true next is now = record {
-    fits = record {
-      called = refl;
-      stance = has_taken opening past c t b lock is position next now.stance;
-      vain = λ w. absurd cc;
-      joins = λ w. absurd cc;
-      effect_is = refl;
-      slept_here = tt;
-      waits_here = tt;
-    };
+    fits = within _ _ _ _ refl (has_taken opening past c t b lock is position next now.stance) (λ w. absurd cc) (λ w. absurd cc) refl tt tt;
     mine = Some (record { kind = effect_kind Receivers lock.above; value = first_item lock.above.items; op = lock.above.effects; pos = position });
     is = ap (λ x. effect_on c b (Inside (Edit (TryTake t))) (λ side u. drawn opening (Buffer b) side u past) x) is
         ∙ ap (λ (v : Bool). if v then Some (entry_of c t b
@@ -494,29 +402,18 @@ module _ (opening : LockId → Option BufferLock) (past : List BufferSection) (c
 
       done : (f : Effect) → Some taken ≡ Some f → taken ≡ f
       done f same = cc
-  take_step b false next is now = record {
-    fits = record {
-      called = refl;
-      stance = took_in_vain opening past c t b lock is position next now.stance;
-      vain = λ w. vain_take opening past c t b lock is position next;
-      joins = λ w. tt;
-      effect_is = now.effect_is;
-      slept_here = tt;
-      waits_here = tt;
-    };
-    mine = None;
-    is = ap (λ x. effect_on c b (Inside (Edit (TryTake t))) (λ side u. drawn opening (Buffer b) side u past) x) is
-        ∙ ap (λ (v : Bool). if v then Some (entry_of c t b
-        (record {
-          kind = effect_kind Receivers lock.above;
-          value = first_item lock.above.items;
-          op = lock.above.effects;
-          pos = drawn opening
-              (Buffer b) Receivers t past;
-        })) else None) next;
-    fresh = λ f w. absurd cc;
-    stays = λ w. refl;
-  }
+  take_step b false next is now = silent (Recv b) Tries _
+      (within _ _ _ _ refl (took_in_vain opening past c t b lock is position next now.stance)
+      (λ w. vain_take opening past c t b lock is position next) (λ w. tt) now.effect_is tt tt)
+      (ap (λ x. effect_on c b (Inside (Edit (TryTake t))) (λ side u. drawn opening (Buffer b) side u past) x) is
+      ∙ ap (λ (v : Bool). if v then Some (entry_of c t b
+      (record {
+        kind = effect_kind Receivers lock.above;
+        value = first_item lock.above.items;
+        op = lock.above.effects;
+        pos = drawn opening
+            (Buffer b) Receivers t past;
+      })) else None) next) refl
 
   tries_step : (call : Call) → buffer_at opening past (Buffer (buffer_of call)) ≡ Some lock → InCall opening past t call None None Tries position effect
       → Stepped opening past c t call Tries position effect (lock_out buffer_rules (section_at t call Tries) lock)
@@ -526,77 +423,38 @@ module _ (opening : LockId → Option BufferLock) (past : List BufferSection) (c
 
   waits_step : (call : Call) → buffer_at opening past (Buffer (buffer_of call)) ≡ Some lock → InCall opening past t call None None Waits position effect
       → Stepped opening past c t call Waits position effect (Released (answer.Waited (side_of call)))
-  waits_step call is now = record {
-    fits = record {
-      called = refl;
-      stance = waited_there opening past c t (buffer_of call) (side_of call) lock is true position (side_of call) now.stance;
-      vain = λ w. absurd cc;
-      joins = λ w. now.joins refl;
-      effect_is = now.effect_is;
-      slept_here = tt;
-      waits_here = (refl, refl);
-    };
-    mine = None;
-    is = no_effect_here (buffer_of call) (Release (Wait t (side_of call))) is refl;
-    fresh = λ f w. absurd cc;
-    stays = λ w. refl;
-  }
+  waits_step call is now = silent call Waits _
+      (within _ _ _ _ refl (waited_there opening past c t (buffer_of call) (side_of call) lock is true position (side_of call) now.stance)
+      (λ w. absurd cc) (λ w. now.joins refl) now.effect_is tt (refl, refl))
+      (no_effect_here (buffer_of call) (Release (Wait t (side_of call))) is refl) refl
 
   signals_step : (call : Call) (far : Side) (front : Option Tid) → buffer_at opening past (Buffer (buffer_of call)) ≡ Some lock
       → section_at t call Signals ≡ Inside (SignalFront t far) → InCall opening past t call None None Signals position effect
       → Stepped opening past c t call Signals position effect (Did (answer.Signalled far front))
-  signals_step call far front is same now = record {
-    fits = record {
-      called = refl;
-      stance = subst (λ e. Stance opening (section c (Buffer (buffer_of call)) e ∷ past) t (buffer_of call) (side_of call) true false false position) (sym same)
-          (same_there opening past c t (buffer_of call) (side_of call) lock is true false position far now.stance);
-      vain = λ w. absurd cc;
-      joins = λ w. absurd cc;
-      effect_is = now.effect_is;
-      slept_here = tt;
-      waits_here = tt;
-    };
-    mine = None;
-    is = ap (λ e. effect_of opening past (section c (Buffer (buffer_of call)) e)) same ∙ no_effect_here (buffer_of call) (Inside (SignalFront t far)) is refl;
-    fresh = λ f w. absurd cc;
-    stays = λ w. refl;
-  }
+  signals_step call far front is same now = silent call Signals _
+      (within _ _ _ _ refl (subst (λ e. Stance opening (section c (Buffer (buffer_of call)) e ∷ past) t (buffer_of call) (side_of call) true false false position) (sym same) (same_there opening past c t (buffer_of call) (side_of call) lock is true false position far now.stance))
+      (λ w. absurd cc) (λ w. absurd cc) now.effect_is tt tt)
+      (ap (λ e. effect_of opening past (section c (Buffer (buffer_of call)) e)) same ∙ no_effect_here (buffer_of call) (Inside (SignalFront t far)) is refl) refl
 
   signals_own_step : (call : Call) (front : Option Tid) → buffer_at opening past (Buffer (buffer_of call)) ≡ Some lock
       → InCall opening past t call None None SignalsOwn position effect
       → Stepped opening past c t call SignalsOwn position effect (Did (answer.Signalled (side_of call) front))
-  signals_own_step call front is now = record {
-    fits = record {
-      called = refl;
-      stance = same_there opening past c t (buffer_of call) (side_of call) lock is true false position (side_of call) now.stance;
-      vain = λ w. absurd cc;
-      joins = λ w. absurd cc;
-      effect_is = now.effect_is;
-      slept_here = tt;
-      waits_here = tt;
-    };
-    mine = None;
-    is = no_effect_here (buffer_of call) (Inside (SignalFront t (side_of call))) is refl;
-    fresh = λ f w. absurd cc;
-    stays = λ w. refl;
-  }
+  signals_own_step call front is now = silent call SignalsOwn _
+      (within _ _ _ _ refl (same_there opening past c t (buffer_of call) (side_of call) lock is true false position (side_of call) now.stance)
+      (λ w. absurd cc) (λ w. absurd cc) now.effect_is tt tt)
+      (no_effect_here (buffer_of call) (Inside (SignalFront t (side_of call))) is refl) refl
 
   releases_step : (call : Call) → buffer_at opening past (Buffer (buffer_of call)) ≡ Some lock → InCall opening past t call None None Releases position effect
       → Stepped opening past c t call Releases position effect (Released answer.Left)
   releases_step call is now =
       let left = left_there opening past c t (buffer_of call) (side_of call) lock is false position now.stance in
-      record {
-        fits = record {
-          stage_is = refl;
-          stance = record { grip = left.grip; line = left.line; drawn_is = λ w. absurd cc };
-          slept_none = refl;
-          waits_none = refl;
-        };
-        mine = None;
-        is = no_effect_here (buffer_of call) (Release (Leave t)) is refl;
-        fresh = λ f w. absurd cc;
-        stays = λ w. refl;
-      }
+      silent call Releases _ (record {
+        stage_is = refl;
+        stance = record { grip = left.grip; line = left.line; drawn_is = λ w. absurd cc };
+        slept_none = refl;
+        waits_none = refl;
+      })
+      (no_effect_here (buffer_of call) (Release (Leave t)) is refl) refl
 
   -- the section of any stage of a call
   pub own_step : (call : Call) (stage : Stage) → t.0 < THREADS → buffer_at opening past (Buffer (buffer_of call)) ≡ Some lock

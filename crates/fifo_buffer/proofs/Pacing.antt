@@ -17,7 +17,7 @@ use Rattle.layer_traits.specs.declared.call_states.Stage.TheVariants.{Idle, Acqu
 use Rattle.thread_blocks.specs.Queues.{same_tid, is_in}
 use Rattle.fifo_buffer.specs.Stances.{Grip, Holds, InCall, Stance, CallStateFits, call_state_in, waits_at}
 use Rattle.fifo_buffer.specs.SectionPolls.{Begins, BufferEvent, BufferOutcome, Ended, Goes, SectionPolled, recorded_if}
-use Rattle.fifo_buffer.proofs.{Callers.Caller, Events.caller_is, Polls.lock_section_poll, Polls.other_mark, Polls.own_mark}
+use Rattle.fifo_buffer.proofs.{Within.within, Callers.Caller, Events.caller_is, Polls.lock_section_poll, Polls.other_mark, Polls.own_mark}
 use Rattle.layer_traits.specs.declared.conditions.CvOut.TheVariants as answer
 use Rattle.layer_traits.specs.declared.moves.WaitList.TheVariants as line
 
@@ -67,15 +67,7 @@ waited_on O past t call at (Some b) Waits position effect now = absurd (wrong no
 waited_on O past t call at None Waits position effect now = (refl, again, λ out. refl)
   where
     again : (out : QOut (CvOut BufferOut)) → InCall O past t call None None AcquiresAgain position effect
-    again out = record {
-      called = refl;
-      stance = now.stance;
-      vain = λ w. absurd cc;
-      joins = λ w. now.joins refl;
-      effect_is = now.effect_is;
-      slept_here = tt;
-      waits_here = tt;
-    }
+    again out = within _ _ _ _ refl now.stance (λ w. absurd cc) (λ w. now.joins refl) now.effect_is tt tt
 
 -- a thread that was handed the lock holds it
 handed_stance : (O : LockId → Option BufferLock) (past : List BufferSection) (t : Tid) (b : BufId) (side : _) (lined : Bool) (position : ℕ)
@@ -97,28 +89,14 @@ handed_on : (O : LockId → Option BufferLock) (past : List BufferSection) (t : 
     (call_state_in stage call position effect) stage Acquired)
     × ((recorded (call_state_in stage call position effect) stage Acquired).effect ≡ effect) × (waits_at stage ≡ false)
 handed_on O past t call at Acquires position effect holds now = (
-  record {
-    called = refl;
-    stance = handed_stance O past t (buffer_of call) (side_of call) false position holds now.stance;
-    vain = λ w. absurd cc;
-    joins = λ w. absurd cc;
-    effect_is = now.effect_is;
-    slept_here = tt;
-    waits_here = tt;
-  },
+  within _ _ _ _ refl (handed_stance O past t (buffer_of call) (side_of call) false position holds now.stance) (λ w. absurd cc) (λ w. absurd cc) now.effect_is
+      tt tt,
   refl,
   refl,
 )
 handed_on O past t call at AcquiresAgain position effect holds now = (
-  record {
-    called = refl;
-    stance = handed_stance O past t (buffer_of call) (side_of call) true position holds now.stance;
-    vain = λ w. absurd cc;
-    joins = λ w. now.joins refl;
-    effect_is = now.effect_is;
-    slept_here = tt;
-    waits_here = tt;
-  },
+  within _ _ _ _ refl (handed_stance O past t (buffer_of call) (side_of call) true position holds now.stance) (λ w. absurd cc) (λ w. now.joins refl)
+      now.effect_is tt tt,
   refl,
   refl,
 )

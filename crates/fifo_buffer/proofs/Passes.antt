@@ -1,15 +1,13 @@
 -- A call that is passed on to the scheduler has no effect, and leaves the call states as they fit.
 use Rattle.std.proofs.Common.{◌≡◌, Bool, true, false, List, [], ◌++◌, Option, Some, None, is_some, if◌then◌else◌, refl, ap, sym, ◌∙◌, subst}
-use Rattle.std.specs.List.{AllByRecursion}
 use Rattle.event_log.specs.{declared.ids.CpuId.CpuId, declared.ids.LockId.LockId, declared.ids.Tid.Tid, History.AreOthers, History.IsLawful}
 use Rattle.layer_traits.specs.{declared.buffer_edits.BufferEdit.BufferEdit, declared.buffer_edits.BufferOut.BufferOut, declared.passes.Pass.Pass}
-use Rattle.layer_traits.specs.{declared.passes.Pass.TheVariants.Switch, declared.passes.Pass.TheVariants.YieldNow, declared.passes.Pass.TheVariants.Drain}
-use Rattle.layer_traits.specs.{declared.passes.Pass.TheVariants.MakeReady, declared.passes.Pass.TheVariants.End, declared.queue_edits.QueueBlock.QueueBlock}
-use Rattle.layer_traits.specs.{declared.scheds.SchedCall.SchedCall, declared.call_states.CallState.CallState, BufferEffects.effects_in, BufferLaw.Calling}
-use Rattle.layer_traits.specs.{BufferLaw.MayGoOn, BufferLaw.OthersSeen, BufferLaw.Passing, BufferProtocol.BufferLock, BufferProtocol.buffer_monitor_rules}
-use Rattle.layer_traits.specs.{Conditions.CvCall, Conditions.cv_rules, CvLaw.Waiting, LockLaw.lock_kernel, Passes.PassPolled, Places.Threads}
-use Rattle.layer_traits.specs.{QueueBlocks.homes_in, QueueBlocks.inner, Queues.QueueAllowed, Queues.buffer_sections, Queues.cpu_of_queue_event, Queues.moves_in}
-use Rattle.layer_traits.specs.{Scheds.SchedPolled, Scheds.events_of, Scheds.pass_call, SleepLaw.done_if}
+use Rattle.layer_traits.specs.{declared.passes.Pass.TheVariants.Switch, declared.queue_edits.QueueBlock.QueueBlock, declared.scheds.SchedCall.SchedCall}
+use Rattle.layer_traits.specs.{declared.call_states.CallState.CallState, BufferEffects.effects_in, BufferLaw.Calling, BufferLaw.MayGoOn, BufferLaw.OthersSeen}
+use Rattle.layer_traits.specs.{BufferLaw.Passing, BufferProtocol.BufferLock, BufferProtocol.buffer_monitor_rules, Conditions.CvCall, Conditions.cv_rules}
+use Rattle.layer_traits.specs.{CvLaw.Waiting, LockLaw.lock_kernel, Passes.PassPolled, Places.Threads, QueueBlocks.homes_in, QueueBlocks.inner}
+use Rattle.layer_traits.specs.{Queues.QueueAllowed, Queues.buffer_sections, Queues.cpu_of_queue_event, Queues.moves_in, Scheds.SchedPolled, Scheds.events_of}
+use Rattle.layer_traits.specs.{Scheds.pass_call, SleepLaw.done_if}
 use Rattle.layer_traits.proofs.{CallLemmas.pass_polled, SleepLemmas.done_same, Seen.lawful_rest}
 use Rattle.fifo_buffer.specs.{FifoFits.PartFits, SectionPolls.BufferEvent, SectionPolls.BufferOutcome, SectionPolls.NoSection, SectionPolls.under_way_at}
 use Rattle.fifo_buffer.proofs.Parts.{effects_append, effects_others, effects_over, part_on}
@@ -23,18 +21,7 @@ no_sections : (homes : List CpuId) (c : CpuId) (p : Pass) (done : Bool) (past : 
     → buffer_sections (pass_events homes c p done ++ past) ≡ buffer_sections past
 no_sections homes c p false past = refl
 no_sections homes c Switch true past = refl
-no_sections homes c YieldNow true past = refl
-no_sections homes c Drain true past = refl
-no_sections homes c (MakeReady t) true past = refl
-no_sections homes c End true past = refl
-
-pub own_pass : (homes : List CpuId) (c : CpuId) (p : Pass) (done : Bool) → AllByRecursion (λ (e : BufferEvent). e.cpu ≡ c) (pass_events homes c p done)
-own_pass homes c p false = tt
-own_pass homes c Switch true = tt
-own_pass homes c YieldNow true = (refl, tt)
-own_pass homes c Drain true = (refl, tt)
-own_pass homes c (MakeReady t) true = (refl, tt)
-own_pass homes c End true = tt
+no_sections homes c other true past = refl
 
 split : (homes : List CpuId) (c : CpuId) (p : Pass) (done : Bool) (past : List BufferEvent)
     → (if done then events_of c (pass_call homes c p) ++ past else past) ≡ pass_events homes c p done ++ past

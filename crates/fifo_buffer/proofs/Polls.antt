@@ -11,7 +11,7 @@ use Rattle.layer_traits.specs.declared.{conditions.CvOut.CvOut, locked.QEdit.The
 use Rattle.layer_traits.specs.declared.{locked.Side.TheVariants.Receivers, locked.Side.TheVariants.Senders, moves.WaitList.WaitList}
 use Rattle.layer_traits.specs.declared.{queue_edits.QueueBlock.QueueBlock, scheds.SchedCall.SchedCall, call_states.Stage.Stage, call_states.CallState.CallState}
 use Rattle.layer_traits.specs.declared.locked.QOut.TheVariants.{Acquired, Queued, Did, Released}
-use Rattle.layer_traits.specs.declared.call_states.Stage.TheVariants.{Idle, Acquires, Enters, Tries, Waits, AcquiresAgain, Signals, SignalsOwn, Releases}
+use Rattle.layer_traits.specs.declared.call_states.Stage.TheVariants.{Idle, Acquires, Enters, Tries, Waits, AcquiresAgain}
 use Rattle.layer_traits.specs.{BufferEffects.effects_in, BufferLaw.IsEffectOf, BufferLaw.buffer_of, BufferLaw.recorded, BufferLaw.section_at, BufferLaw.side_of}
 use Rattle.layer_traits.specs.{BufferProtocol.BufferLock, BufferProtocol.BufferSection, BufferProtocol.buffer_at, BufferProtocol.buffer_monitor_rules}
 use Rattle.layer_traits.specs.{BufferProtocol.buffer_rules, Conditions.CvCall, Conditions.cv_rules, CvLaw.MayCallCond, CvLaw.MayWait, CvLaw.Waiting}
@@ -185,11 +185,7 @@ same_effect_or_none t (Close b) Enters call_state lock = inr refl
 same_effect_or_none t (Send b m) Tries call_state lock = inr refl
 same_effect_or_none t (Recv b) Tries call_state lock = inr refl
 same_effect_or_none t (Close b) Tries call_state lock = inr refl
-same_effect_or_none t call Waits call_state lock = inl refl
-same_effect_or_none t call AcquiresAgain call_state lock = inl refl
-same_effect_or_none t call Signals call_state lock = inl refl
-same_effect_or_none t call SignalsOwn call_state lock = inl refl
-same_effect_or_none t call Releases call_state lock = inl refl
+same_effect_or_none t call other call_state lock = inl refl
 
 woken_ended : (homes : List CpuId) (c : CpuId) (woke : Option Tid) (own : Threads) → (own_woken homes c woke own).ended ≡ own.ended
 woken_ended homes c None own = refl
@@ -256,24 +252,16 @@ marks_sizes t b slept waits (Released (answer.Waited side)) = (refl, length-set 
 
 -- an answer that is not handed on at once puts its caller to sleep
 sleeping_wait_list : (out : QOut (CvOut BufferOut)) → is_plain out ≡ false → is_some (wait_list_slept (cv_rules buffer_monitor_rules) out) ≡ true
-sleeping_wait_list Acquired plain = absurd cc
 sleeping_wait_list Queued plain = refl
-sleeping_wait_list (Did o) plain = absurd cc
-sleeping_wait_list (Released (answer.Did o)) plain = absurd cc
-sleeping_wait_list (Released (answer.Signalled side front)) plain = absurd cc
-sleeping_wait_list (Released answer.Left) plain = absurd cc
 sleeping_wait_list (Released (answer.Waited Receivers)) plain = refl
 sleeping_wait_list (Released (answer.Waited Senders)) plain = refl
+sleeping_wait_list other plain = absurd cc
 
 sleeping_recorded : (call_state : CallState) (stage : Stage) (out : QOut (CvOut BufferOut)) → is_plain out ≡ false
     → recorded_by call_state stage out ≡ call_state
-sleeping_recorded call_state stage Acquired plain = absurd cc
 sleeping_recorded call_state stage Queued plain = refl
-sleeping_recorded call_state stage (Did o) plain = absurd cc
-sleeping_recorded call_state stage (Released (answer.Did o)) plain = absurd cc
-sleeping_recorded call_state stage (Released (answer.Signalled side front)) plain = absurd cc
-sleeping_recorded call_state stage (Released answer.Left) plain = absurd cc
 sleeping_recorded call_state stage (Released (answer.Waited side)) plain = refl
+sleeping_recorded call_state stage other plain = absurd cc
 
 sleeps_none : (line : Option WaitList) (own : Threads) → is_some line ≡ true → (own_slept line own).current ≡ None
 sleeps_none None own is = absurd cc

@@ -7,7 +7,7 @@ use Rattle.layer_traits.specs.{declared.buffer_edits.BufferEdit.BufferEdit, decl
 use Rattle.layer_traits.specs.{declared.calls.Reply.Reply, declared.conditions.CvOut.CvOut, declared.locked.QOut.QOut, declared.scheds.SchedCall.SchedCall}
 use Rattle.layer_traits.specs.{declared.call_states.Stage.Stage, declared.call_states.CallState.CallState, BufferProtocol.BufferLock}
 use Rattle.layer_traits.specs.{BufferProtocol.BufferSection, Conditions.CvCall, CvLaw.Waiting, LockLaw.is_handed, LockLaw.slept_for, Queues.buffer_sections}
-use Rattle.layer_traits.specs.declared.call_states.Stage.TheVariants.{Idle, Acquires, Enters, Tries, Waits, AcquiresAgain, Signals, SignalsOwn, Releases}
+use Rattle.layer_traits.specs.declared.call_states.Stage.TheVariants.{Idle, Acquires, Waits, AcquiresAgain}
 use Rattle.layer_traits.specs.BufferLaw.{RunsOn, buffer_of, going, recorded, no_call, replied, still_calling, call_state_of}
 use Rattle.thread_blocks.specs.Queues.{same_tid}
 use Rattle.fifo_buffer.specs.Stances.{IsMark, CallStateFits, asks_at, waits_at}
@@ -32,14 +32,7 @@ same_call call_state stage handed out is = absurd cc
 reply_kept : (stage : Stage) (call : Call) (call_state : CallState) (out : QOut (CvOut BufferOut))
     → reply_at call stage (recorded call_state stage out).effect ≡ replied call call_state stage
 reply_kept Idle call call_state out = refl
-reply_kept Acquires call call_state out = refl
-reply_kept Enters call call_state out = refl
-reply_kept Tries call call_state out = refl
-reply_kept Waits call call_state out = refl
-reply_kept AcquiresAgain call call_state out = refl
-reply_kept Signals call call_state out = refl
-reply_kept SignalsOwn call call_state out = refl
-reply_kept Releases call call_state out = refl
+reply_kept other call call_state out = refl
 
 -- a call state of another thread stays where this one's is kept
 pub other_call_state : (call_states now : List CallState) (t u : Tid) (x : CallState) → now ≡ slice_set call_states t.0 x → same_tid t u ≡ false

@@ -1,5 +1,5 @@
 -- What a part keeps between its polls, what it may ask of the conditions beneath, and what one poll of them does for a call.
-use Rattle.std.specs.Prelude.{◌≡◌, ◌⊎◌, Bool, true, false, List, ◌++◌, length, Option, Some, None, option_map, option_to_list, is_some, slice_set}
+use Rattle.std.specs.Prelude.{◌≡◌, ◌⊎◌, Bool, true, false, List, ◌++◌, length, Option, Some, None, option_map, option_to_list, is_some}
 use Rattle.std.specs.List.{AllByRecursion}
 use Rattle.event_log.specs.{declared.ids.BufId.BufId, declared.ids.CpuId.CpuId, declared.ids.LockId.LockId, declared.ids.Tid.Tid}
 use Rattle.event_log.specs.{declared.ids.TheConstants.THREADS, History.AreForeign}

@@ -4,7 +4,7 @@ use Rattle.std.proofs.lemmas.Bool.{false≢true}
 use Rattle.event_log.specs.declared.{ids.BufId.BufId, entries.Entry.Entry}
 use Rattle.event_log.specs.declared.entries.Kind.TheVariants.{Send as SendKind, Recv as RecvKind, Close as CloseKind, SendClosed, RecvClosed}
 use Rattle.guest.specs.declared.instructions.{Register.Register, Source.Source, Into.Into, Instruction.Instruction}
-use Rattle.guest.specs.declared.instructions.Instruction.TheVariants.{Set, Add, Sub, Jnz, Send, Recv, Close, Yield, Exit}
+use Rattle.guest.specs.declared.instructions.Instruction.TheVariants.{Set, Add, Sub, Jnz, Send, Recv, Close, Yield}
 use Rattle.guest.specs.{State.State, State.next_of, State.value_in, State.message_from, State.moved_on, State.moved_to, State.after_local, State.after_send}
 use Rattle.guest.specs.{State.after_recv, State.after_close, State.after_closed, State.after_yield, Calls.IsProgramsCalls, Calls.sets, Calls.adds}
 use Rattle.guest.specs.{Calls.subtracts, Calls.jumps, Calls.goes_on, Calls.yields, Calls.sends, Calls.receives, Calls.closes, Calls.offers, Calls.asks}
@@ -21,11 +21,7 @@ local_at program es s (Set r n) at calls = sets r n calls at
 local_at program es s (Add r q) at calls = adds r q calls at
 local_at program es s (Sub r q) at calls = subtracts r q calls at
 local_at program es s (Jnz r k) at calls = after_jump program es s r k (value_in s r == 0) refl calls at
-local_at program es s (Send b from k) at calls = calls
-local_at program es s (Recv b into k) at calls = calls
-local_at program es s (Close b) at calls = calls
-local_at program es s Yield at calls = calls
-local_at program es s Exit at calls = calls
+local_at program es s other at calls = calls
 
 -- an instruction that shares nothing leaves the list
 pub calls-local : (program : List Instruction) (es : List Entry) (s : State) → IsProgramsCalls program es s
@@ -35,14 +31,7 @@ calls-local program es s calls = local_at program es s (next_of program s) refl 
 yield_at : (program : List Instruction) (es : List Entry) (s : State) (i : Instruction) → next_of program s ≡ i → IsProgramsCalls program es s
     → IsProgramsCalls program es (after_yield i s)
 yield_at program es s Yield at calls = yields calls at
-yield_at program es s (Set r n) at calls = calls
-yield_at program es s (Add r q) at calls = calls
-yield_at program es s (Sub r q) at calls = calls
-yield_at program es s (Jnz r k) at calls = calls
-yield_at program es s (Send b from k) at calls = calls
-yield_at program es s (Recv b into k) at calls = calls
-yield_at program es s (Close b) at calls = calls
-yield_at program es s Exit at calls = calls
+yield_at program es s other at calls = calls
 
 -- and so does a yield
 pub calls-yield : (program : List Instruction) (es : List Entry) (s : State) → IsProgramsCalls program es s

@@ -335,13 +335,7 @@ four_split word a b c w p q r =
 register_again : (r : Register) → register_in (name_of r) ≡ Ok r
 unfolding register_in
 register_again Reg0 = refl
-register_again Reg1 = refl
-register_again Reg2 = refl
-register_again Reg3 = refl
-register_again Reg4 = refl
-register_again Reg5 = refl
-register_again Reg6 = refl
-register_again Reg7 = refl
+register_again other = refl
 
 word_again : (n : ℕ) → n < 2 ^ 64 → word_in (decimal n) ≡ Ok n
 unfolding word_in

@@ -53,8 +53,7 @@ may_beneath (Some (OnBuffer at d)) b e duty owed gives may =
 
 -- a call goes on, and what is kept agrees with it
 pub deferred_goes : {F R O : Type 0} (under : Option (SchedCall (QEdit F R))) (deferred : Option (Outcome (QOut O))) (hand : Option Tid) (b : BufId)
-    (e : QEdit F R)
-    (duty : Type 0)
+    (e : QEdit F R) (duty : Type 0)
     → DeferredFits under deferred hand → MayCall under (OnBuffer b e) duty → (duty → hand ≡ None) → DeferredFits (Some (OnBuffer b e)) deferred hand
 deferred_goes None None hand b e duty fits may empty = empty may
 deferred_goes None (Some outcome) hand b e duty fits may empty = absurd fits

@@ -43,8 +43,7 @@ pass_is under (Some a) p is = ap (option_map (renamed_sched edit_in)) is
 
 -- a pass beneath is a pass here
 pub pass_here : {F R B O : Type 0} (rules : LockRules F R B O) (opening : LockId → Option (QueueBlock (SleepState (QBlock B)))) (ActsFor : CpuId → Type 0)
-    (c : CpuId) (p : Pass)
-    (answer : Option (SchedAnswer (Outcome (QOut O)))) (old new : List (QueueEvent (QLockEdit F R))) (own own' : Threads)
+    (c : CpuId) (p : Pass) (answer : Option (SchedAnswer (Outcome (QOut O)))) (old new : List (QueueEvent (QLockEdit F R))) (own own' : Threads)
     → SchedPolled (beneath rules opening) ActsFor c (call.Pass p) answer old new own own'
     → SchedPolled (here rules opening) ActsFor c (call.Pass p) answer (renamed_events edit_in old) (renamed_events edit_in new) own own'
 pass_here rules opening ActsFor c p answer old new own own' polled =
@@ -125,8 +124,7 @@ module _ {F R B O : Type 0} {rules : LockRules F R B O} {opening : LockId → Op
       → MayGo x (option_map (renamed_sched edit_in) under) b e (lock_caller rules e)
       (MayLock rules (here rules opening) c (renamed_events edit_in past) own.threads.hand b e)
       → LockPolled rules (here rules opening) ActsFor c b e x (renamed_events edit_in past) (renamed_events edit_in past)
-      (record { sleep = own; slept = slept })
-      (option_map (renamed_sched edit_in) under) (left_handed (lock_caller rules e) slept own)
+      (record { sleep = own; slept = slept }) (option_map (renamed_sched edit_in) under) (left_handed (lock_caller rules e) slept own)
   handed_by ActsFor None is some may = absurd cc
   handed_by ActsFor (Some at) is some may =
       let one = subst (λ x. HasOrAwaits (lock_caller rules e)

@@ -59,26 +59,20 @@ answered_with {O = O} done threads outcome answers = go (must_send done threads)
 pub reported_is : {O : Type 0} (t : Tid) (b : BufId) (slept : List (Option BufId)) (sleep : Sleeping (QOut O)) (out : QOut O) (outcome : Outcome (QOut O))
     → left_locked t b slept sleep out outcome ≡ locking sleep (slept_left_with t b slept out) (reported_with out outcome)
 reported_is t b slept sleep Acquired outcome = refl
-reported_is t b slept sleep Queued outcome = refl
-reported_is t b slept sleep (Did out) outcome = refl
-reported_is t b slept sleep (Released out) outcome = refl
+reported_is t b slept sleep other outcome = refl
 
 -- whether a call slept does not depend on what its answer tells
 pub slept_told : {B O : Type 0} (told : B → Parcel → O) (parcel : Parcel) (t : Tid) (b : BufId) (slept : List (Option BufId)) (out : QOut B)
     → slept_left_with t b slept out ≡ slept_left_with t b slept (lock_told told out parcel)
 slept_told told parcel t b slept Acquired = refl
-slept_told told parcel t b slept Queued = refl
-slept_told told parcel t b slept (Did out) = refl
-slept_told told parcel t b slept (Released out) = refl
+slept_told told parcel t b slept other = refl
 
 -- nor does whether its outcome is handed on
 pub reported_told : {B O : Type 0} (told : B → Parcel → O) (parcel : Parcel) (out : QOut B) (outcome : Outcome (QOut B))
     → option_map (λ o. outcome_told (lock_told told) o parcel) (reported_with out outcome)
     ≡ reported_with (lock_told told out parcel) (outcome_told (lock_told told) outcome parcel)
 reported_told told parcel Acquired outcome = refl
-reported_told told parcel Queued outcome = refl
-reported_told told parcel (Did out) outcome = refl
-reported_told told parcel (Released out) outcome = refl
+reported_told told parcel other outcome = refl
 
 module _ {F R B O : Type 0} (rules : LockRules F R B O) where
   asked_waits : (t : Tid) (owner : Option Tid) (state : LockState B) → t.0 < THREADS → asker_report {O = O} owner ≡ Queued
@@ -218,10 +212,7 @@ module _ {F R B O : Type 0} (rules : LockRules F R B O) (opening : LockId → Op
     where
       go : (p : PassCall) → buffer_sections (events_of by (queue_call {E = QEdit F R} (homes_in opening) by (call.Pass p)) ++ past) ≡ buffer_sections past
       go pass.Switch = refl
-      go pass.YieldNow = refl
-      go pass.Drain = refl
-      go (pass.MakeReady t) = refl
-      go pass.End = refl
+      go other = refl
 
   before_pass : (done : Bool) (past : List (QueueEvent (QEdit F R)))
       → IsLawful (QueueAllowed (lock_kernel rules opening)) (if done then events_of by (queue_call (homes_in opening) by (call.Pass p)) ++ past else past)

@@ -3,23 +3,23 @@
 use Rattle.std.proofs.Common.{◌≡◌, ℕ, zero, suc, ◌<◌, true, false, List, [], ◌∷◌, ◌++◌, Option, Some, None, IsSome, option_map, length, slice_get, refl, ap}
 use Rattle.std.proofs.Common.{sym, ◌∙◌, subst, subst₂, arith}
 use Rattle.event_log.specs.{declared.ids.BufId.BufId, declared.ids.CpuId.CpuId, declared.ids.LockId.LockId, declared.ids.LockId.TheVariants.Pending}
-use Rattle.event_log.specs.{declared.ids.LockId.TheVariants.Buffer, declared.ids.Tid.Tid, declared.ids.TheConstants.THREADS, Actions.Action, History.AreOthers}
+use Rattle.event_log.specs.{declared.ids.LockId.TheVariants.Buffer, declared.ids.Tid.Tid, declared.ids.TheConstants.THREADS, History.AreOthers}
 use Rattle.event_log.specs.{History.Grows, History.IsLawful, History.same_cpu}
 use Rattle.layer_traits.specs.declared.passes.Pass.TheVariants.{Switch, YieldNow, Drain, MakeReady, End}
-use Rattle.layer_traits.specs.{declared.queue_edits.QueueBlock.QueueBlock, declared.queue_edits.QueueEdit.QueueEdit, declared.queues.QueueAnswer.QueueAnswer}
+use Rattle.layer_traits.specs.{declared.queue_edits.QueueBlock.QueueBlock, declared.queues.QueueAnswer.QueueAnswer}
 use Rattle.layer_traits.specs.{declared.queues.QueueCall.QueueCall, declared.queues.QueueCall.TheVariants.Push, declared.queues.QueueCall.TheVariants.TakeAll}
-use Rattle.layer_traits.specs.{declared.queues.QueueCall.TheVariants.OnBuffer, declared.queues.QueueEvent.QueueEvent, declared.scheds.SchedAnswer.SchedAnswer}
+use Rattle.layer_traits.specs.{declared.queues.QueueCall.TheVariants.OnBuffer, declared.queues.QueueEvent.QueueEvent}
 use Rattle.layer_traits.specs.{declared.scheds.SchedAnswer.TheVariants.Done, declared.scheds.SchedAnswer.TheVariants.Answer}
 use Rattle.layer_traits.specs.{declared.scheds.SchedCall.SchedCall, MoveRules.MoveRules, MoveRules.WakesSleepers, MoveRules.edit_move, Passes.or_else}
-use Rattle.layer_traits.specs.{Passes.queue_for, Places.AreMoves, Places.Where, Places.Home, Places.Hand, Places.Pend, Places.Asleep, Places.MayEdit}
+use Rattle.layer_traits.specs.{Passes.queue_for, Places.AreMoves, Places.Where, Places.Asleep, Places.MayEdit}
 use Rattle.layer_traits.specs.{Places.MayMove, Places.Stands, Places.Threads, Places.home_of, Places.is_asleep, Places.is_home, Places.pending_by, Places.step}
-use Rattle.layer_traits.specs.{Places.where_is, Plans.Follows, Plans.Table, Plans.answered, Protocol.Rules, Protocol.section, QueueBlocks.StartsWell}
+use Rattle.layer_traits.specs.{Places.where_is, Plans.answered, Protocol.Rules, Protocol.section, QueueBlocks.StartsWell}
 use Rattle.layer_traits.specs.{QueueBlocks.homes_in, Queues.CallAllowed, Queues.Kernel, Queues.buffer_sections, Queues.MayQueue, Queues.QueueAllowed}
 use Rattle.layer_traits.specs.{Queues.QueuePolled, Queues.answer_of, Queues.call_move, Queues.event, Queues.cpu_of_queue_event, Queues.kernel, Queues.lock_of}
-use Rattle.layer_traits.specs.{Queues.moves_in, Queues.out_at, Queues.queue_plan, Scheds.BufferIsThere, Scheds.EditStays, Scheds.IsLocal, Scheds.MaySched}
-use Rattle.layer_traits.specs.{Scheds.SchedPolled, Scheds.StateFor, Scheds.answer_by, Scheds.answer_to, Scheds.events_of, Scheds.left, Scheds.left_by}
-use Rattle.layer_traits.specs.{Scheds.left_local, Scheds.own_after, Scheds.own_answered, Scheds.own_by, Scheds.plan_by, Scheds.queue_call, Scheds.sched_plan}
-use Rattle.layer_traits.proofs.{CallLemmas.follows_raised, CallLemmas.moves_append, CallLemmas.moves_lawful, CallLemmas.moves_others, CallLemmas.moves_over}
+use Rattle.layer_traits.specs.{Queues.moves_in, Queues.out_at, Scheds.BufferIsThere, Scheds.EditStays, Scheds.IsLocal, Scheds.MaySched}
+use Rattle.layer_traits.specs.{Scheds.SchedPolled, Scheds.StateFor, Scheds.answer_by, Scheds.answer_to, Scheds.events_of}
+use Rattle.layer_traits.specs.{Scheds.own_after, Scheds.own_answered, Scheds.own_by, Scheds.queue_call}
+use Rattle.layer_traits.proofs.{CallLemmas.moves_append, CallLemmas.moves_lawful, CallLemmas.moves_others, CallLemmas.moves_over}
 use Rattle.layer_traits.proofs.{CallLemmas.woken_sleeps, CountLemmas.not_counted}
 use Rattle.layer_traits.proofs.PlaceLemmas.{away_from, away_known, current_at, current_new, hand_free, hand_at, pending_at, stands_finished, stands_moved}
 use Rattle.layer_traits.proofs.PlaceLemmas.{stands_others, stands_pushed, stands_switched, stands_taken, home_there}
@@ -36,10 +36,8 @@ known_within (x ∷ homes) (suc n) c is = let below = known_within homes n c is 
 
 -- who sleeps is away from home
 asleep_away : (w : Where) → is_asleep w ≡ true → is_home w ≡ false
-asleep_away Home asleep = absurd cc
-asleep_away (Hand c) asleep = absurd cc
-asleep_away (Pend c) asleep = absurd cc
 asleep_away (Asleep p) asleep = refl
+asleep_away other asleep = absurd cc
 
 -- Which call it is.
 
@@ -48,11 +46,8 @@ module _ {E : Type 0} (homes : List CpuId) (c : CpuId) where
   -- and one that is none touches nothing shared
   pub is_local : (s : SchedCall E) → queue_call homes c s ≡ None → IsLocal s
   is_local (call.Pass Switch) is = tt
-  is_local (call.Pass YieldNow) is = absurd cc
-  is_local (call.Pass Drain) is = absurd cc
-  is_local (call.Pass (MakeReady t)) is = absurd cc
   is_local (call.Pass End) is = tt
-  is_local (call.OnBuffer b e) is = absurd cc
+  is_local other is = absurd cc
 
   -- what the CPU has of its own tells which scheduler's call it is
   same_call : {O : Type 0} (mv : MoveRules E O) (s : SchedCall E) (q : QueueCall E) (own : Threads) → StateFor mv s own → queue_call homes c s ≡ Some q
@@ -132,11 +127,8 @@ module _ {E B O : Type 0} (rules : Rules E B O) (mv : MoveRules E O) (opening : 
     -- a call that touches nothing shared keeps the agreement
     local_stands : (s : SchedCall E) → StateFor mv s own → queue_call H c s ≡ None → Stands H c (moves_in K past) (local_after s own)
     local_stands (call.Pass Switch) state is = stands_switched H c (moves_in K past) own moves stands state.0
-    local_stands (call.Pass YieldNow) state is = absurd cc
-    local_stands (call.Pass Drain) state is = absurd cc
-    local_stands (call.Pass (MakeReady t)) state is = absurd cc
     local_stands (call.Pass End) state is = stands_finished H c (moves_in K past) own moves stands
-    local_stands (call.OnBuffer b e) state is = absurd cc
+    local_stands other state is = absurd cc
 
   -- what others do keeps the agreement
   stands_on : (c : CpuId) (more past : List (QueueEvent E)) (own : Threads) → AreOthers cpu_of_queue_event c more → Lawful (more ++ past)
@@ -222,11 +214,8 @@ module _ {E B O : Type 0} (rules : Rules E B O) (mv : MoveRules E O) (opening : 
         where
           after : (s : SchedCall E) → queue_call H c s ≡ None → local_after s own ≡ own_after K c past s own
           after (call.Pass Switch) none = refl
-          after (call.Pass YieldNow) none = absurd cc
-          after (call.Pass Drain) none = absurd cc
-          after (call.Pass (MakeReady t)) none = absurd cc
           after (call.Pass End) none = refl
-          after (call.OnBuffer b e) none = absurd cc
+          after other none = absurd cc
 
           answers : (s : SchedCall E) → queue_call H c s ≡ None → answer_to K past s ≡ Some Done
           answers (call.Pass Switch) none = refl

@@ -45,10 +45,7 @@ digits_in e = record {
 
 kind_again : (kind : Kind) → kind_in (kind_word kind) ≡ Ok kind
 kind_again Send = refl
-kind_again Recv = refl
-kind_again Close = refl
-kind_again SendClosed = refl
-kind_again RecvClosed = refl
+kind_again other = refl
 
 -- one word of a choice of words
 word_or : (word : List ℕ) (is : Bool) (here kind : Kind) (others : Result Kind Reason) → bytes_eq word (kind_word here) ≡ is
@@ -179,8 +176,7 @@ entry_2 : (cpu : List ℕ) (thread : List ℕ) (ps : List (List ℕ)) (d : Digit
     digits_at op.1 >>= λ pos. ended pos.1 >>= λ _. Ok (spelled_as cpu thread kind buffer.0 value.0 op.0 pos.0)) ≡ Ok d → cpu ∷ thread ∷ ps ≡ shape_of d
 entry_2 cpu thread [] d e = absurd (cc)
 entry_2 cpu thread (p ∷ ps) d e =
-    let read = bind_ok (kind_in p) (λ kind. digits_at ps >>= λ buffer. piece_at buffer.1 >>= λ value. digits_at value.1 >>= λ op. digits_at op.1 >>= λ pos.
-    ended pos.1 >>= λ _. Ok (spelled_as cpu thread kind buffer.0 value.0 op.0 pos.0)) d e in
+    let read = bind_ok (kind_in p) _ d e in
     rw (kind_taken p read.0 read.1) (entry_3 cpu thread read.0 ps d read.2)
 
 entry_1 : (cpu : List ℕ) (ps : List (List ℕ)) (d : Digits)
@@ -234,74 +230,12 @@ pub entry_in_taken : (v : Version) (digits : Digits) (e : Entry) → spells_valu
     → IsSmall v digits e
 unfolding entry_in
 entry_in_taken v digits e spells taken =
-    let a0 = bind_ok (in_range (CPUS - 1) digits.cpu)
-    (λ cpu. in_range (THREADS - 1) digits.thread >>= λ thread. in_range (BUFFERS - 1) digits.buffer >>= λ buffer.
-    value_in digits.kind digits.value >>= λ value. in_range (ENTRIES - 1) digits.op >>= λ op. in_range (ENTRIES - 1) digits.pos >>= λ pos.
-    Ok (record {
-      cpu = record { 0 = cpu };
-      thread = record { 0 = thread };
-      kind = digits.kind;
-      buffer = record { 0 = buffer };
-      value = value;
-      op = op;
-      pos = pos;
-    })) e taken in
-    let a1 = bind_ok (in_range (THREADS - 1) digits.thread)
-    (λ thread. in_range (BUFFERS - 1) digits.buffer >>= λ buffer. value_in digits.kind digits.value >>= λ value.
-    in_range (ENTRIES - 1) digits.op >>= λ op. in_range (ENTRIES - 1) digits.pos >>= λ pos.
-    Ok (record {
-      cpu = record { 0 = a0.0 };
-      thread = record { 0 = thread };
-      kind = digits.kind;
-      buffer = record { 0 = buffer };
-      value = value;
-      op = op;
-      pos = pos;
-    })) e a0.2 in
-    let a2 = bind_ok (in_range (BUFFERS - 1) digits.buffer)
-    (λ buffer. value_in digits.kind digits.value >>= λ value. in_range (ENTRIES - 1) digits.op >>= λ op.
-    in_range (ENTRIES - 1) digits.pos >>= λ pos.
-    Ok (record {
-      cpu = record { 0 = a0.0 };
-      thread = record { 0 = a1.0 };
-      kind = digits.kind;
-      buffer = record { 0 = buffer };
-      value = value;
-      op = op;
-      pos = pos;
-    })) e a1.2 in
-    let a3 = bind_ok (value_in digits.kind digits.value)
-    (λ value. in_range (ENTRIES - 1) digits.op >>= λ op. in_range (ENTRIES - 1) digits.pos >>= λ pos.
-    Ok (record {
-      cpu = record { 0 = a0.0 };
-      thread = record { 0 = a1.0 };
-      kind = digits.kind;
-      buffer = record { 0 = a2.0 };
-      value = value;
-      op = op;
-      pos = pos;
-    })) e a2.2 in
-    let a4 = bind_ok (in_range (ENTRIES - 1) digits.op)
-    (λ op. in_range (ENTRIES - 1) digits.pos >>= λ pos.
-    Ok (record {
-      cpu = record { 0 = a0.0 };
-      thread = record { 0 = a1.0 };
-      kind = digits.kind;
-      buffer = record { 0 = a2.0 };
-      value = a3.0;
-      op = op;
-      pos = pos;
-    })) e a3.2 in
-    let a5 = bind_ok (in_range (ENTRIES - 1) digits.pos)
-    (λ pos. Ok (record {
-      cpu = record { 0 = a0.0 };
-      thread = record { 0 = a1.0 };
-      kind = digits.kind;
-      buffer = record { 0 = a2.0 };
-      value = a3.0;
-      op = a4.0;
-      pos = pos;
-    })) e a4.2 in
+    let a0 = bind_ok (in_range (CPUS - 1) digits.cpu) _ e taken in
+    let a1 = bind_ok (in_range (THREADS - 1) digits.thread) _ e a0.2 in
+    let a2 = bind_ok (in_range (BUFFERS - 1) digits.buffer) _ e a1.2 in
+    let a3 = bind_ok (value_in digits.kind digits.value) _ e a2.2 in
+    let a4 = bind_ok (in_range (ENTRIES - 1) digits.op) _ e a3.2 in
+    let a5 = bind_ok (in_range (ENTRIES - 1) digits.pos) _ e a4.2 in
     let r0 = in_range_taken (CPUS - 1) digits.cpu a0.0 (lit< tt) a0.1 in
     let r1 = in_range_taken (THREADS - 1) digits.thread a1.0 (lit< tt) a1.1 in
     let r2 = in_range_taken (BUFFERS - 1) digits.buffer a2.0 (lit< tt) a2.1 in

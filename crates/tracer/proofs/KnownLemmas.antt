@@ -163,10 +163,7 @@ effect_taken RecvClosed value closed capacity items after none e =
 pos_of : (earlier : List Entry) (contents : List (List Message)) (b capacity : ℕ) (kind : Kind)
     → next_pos (group_of kind) (seen_of earlier contents b capacity) ≡ count_of_kind earlier b kind
 pos_of earlier contents b capacity Send = refl
-pos_of earlier contents b capacity Recv = refl
-pos_of earlier contents b capacity Close = refl
-pos_of earlier contents b capacity SendClosed = refl
-pos_of earlier contents b capacity RecvClosed = refl
+pos_of earlier contents b capacity other = refl
 
 -- an entry that may come is taken
 pub among_again : (caps : List ℕ) (earlier : List Entry) (contents : List (List Message)) (e : Entry) → length contents ≡ length caps
@@ -193,21 +190,20 @@ pub among_taken : (caps : List ℕ) (earlier : List Entry) (contents : List (Lis
     × (after ≡ known_from (earlier ++ e ∷ []) (after_entry contents e) 0 caps)
 unfolding entry_among entry_on
 among_taken caps earlier contents e after long none taken =
-    let found = bind_ok (or_range (slice_get (known_from earlier contents 0 caps) e.buffer.0))
-    (λ seen. entry_on e seen >>= λ next. Ok (slice_set (known_from earlier contents 0 caps) e.buffer.0 next)) after taken in
+    let found = bind_ok (or_range (slice_get (known_from earlier contents 0 caps) e.buffer.0)) _ after taken in
     let at = some_range (slice_get (known_from earlier contents 0 caps) e.buffer.0) found.0 found.1 in
     let inside : e.buffer.0 < length caps =
     omega (arith, slice_get_within (known_from earlier contents 0 caps) e.buffer.0 found.0 at, length-known_from earlier contents 0 caps) in
     let seen = seen_of earlier contents e.buffer.0 (get_or caps e.buffer.0 0) in
     let same : found.0 ≡ seen = same_some found.0 seen (sym at ∙ slice_get-known earlier contents caps e.buffer.0 inside) in
-    let stepped = bind_ok (entry_on e found.0) (λ next. Ok (slice_set (known_from earlier contents 0 caps) e.buffer.0 next)) after found.2 in
+    let stepped = bind_ok (entry_on e found.0) _ after found.2 in
     let read : entry_on e seen ≡ Ok stepped.0 = ap (entry_on e) (sym same) ∙ stepped.1 in
     let group = group_of e.kind in
     let effects = item_effect e.kind e.value (was_closed seen) seen.capacity seen.items in
     let done = effects >>= λ items. Ok (counted group items seen) in
     let op = wanted_ok (e.op == seen.ops) Op (or_reason (e.pos == next_pos group seen) Pos done) stepped.0 read in
     let pos = wanted_ok (e.pos == next_pos group seen) Pos done stepped.0 op.1 in
-    let items = bind_ok effects (λ items. Ok (counted group items seen)) stepped.0 pos.1 in
+    let items = bind_ok effects _ stepped.0 pos.1 in
     let effect = effect_taken e.kind e.value (was_closed seen) seen.capacity seen.items items.0 none items.1 in
     let now : stepped.0 ≡ after_seen e.kind e.value seen = sym (same_ok (counted group items.0 seen) stepped.0 items.2)
     ∙ ap (λ (l : List Message). counted group l seen) effect.1 in (

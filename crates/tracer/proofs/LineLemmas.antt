@@ -103,8 +103,7 @@ numbered_failed line xs i d failed old mid new lt front e here =
 
 -- the text of a trace in the parts in which it is written
 pub spelling_parts : {V : Type 0} (items : V → List Message) (caps : List ℕ) (es : List Entry) (left : List V)
-    → spelling caps es (map items left) ≡ text_line (head_pieces (version_of es))
-    ++ (text_line (count_pieces (length caps))
+    → spelling caps es (map items left) ≡ text_line (head_pieces (version_of es)) ++ (text_line (count_pieces (length caps))
     ++ (flat_map text_line (numbered cap_pieces 0 caps)
     ++ (flat_map (λ e. text_line (entry_pieces e)) es ++ (flat_map text_line (numbered (λ b v. left_pieces b (items v)) 0 left) ++ text_line end_pieces))))
 unfolding spelling lines_of

@@ -6,14 +6,14 @@ use Rattle.std.specs.{Str.bytes_eq, List.AllByRecursion, List.list_all, List.joi
 use Rattle.std.proofs.lemmas.{Bool.and_parts, List.length-map, List.Splits.length-slice_split, List.Splits.join_with_byte-slice_split}
 use Rattle.std.proofs.lemmas.{Slice.Eq.bytes_eq-Decides}
 use Rattle.event_log.specs.{declared.messages.TheConstants.WORDS, Messages.Message, Messages.IsMessage, Messages.padded, Digits.is_number, Digits.number_to}
-use Rattle.event_log.specs.{Reading.◌>>=◌, Rings.first, Rings.rest}
+use Rattle.event_log.specs.{Rings.first, Rings.rest}
 use Rattle.event_log.proofs.{DigitsLemmas.IsSpelled, DigitsLemmas.number_to-Some, DigitsLemmas.number_to-decimal, DigitsLemmas.spelled_number}
 use Rattle.event_log.proofs.{MessageLemmas.padded_eq}
 use Rattle.tracer.specs.{declared.verdicts.Reason.Reason, declared.verdicts.Reason.TheVariants.Range, Versions.covers, Versions.version_of_count}
 use Rattle.tracer.specs.{TraceText.message_text, TraceText.IsItemOf, Judging.take_first, Judging.in_range, Judging.words_of, Judging.spells_message}
 use Rattle.tracer.specs.{Judging.numbers_in, Judging.message_in, Judging.is_same, Judging.is_message, Judging.is_within}
-use Rattle.tracer.specs.declared.versions.Version.{Version, TheVariants.One, TheVariants.Two, TheVariants.Three}
-use Rattle.tracer.proofs.{ReadLemmas.bind_ok, ReadLemmas.wanted_ok, ReadLemmas.same_ok, ReadLemmas.in_range_taken, ReadLemmas.decimal_is_number}
+use Rattle.tracer.specs.declared.versions.Version.{Version, TheVariants.Three}
+use Rattle.tracer.proofs.{VersionLemmas.covers_first_one, ReadLemmas.bind_ok, ReadLemmas.wanted_ok, ReadLemmas.same_ok, ReadLemmas.in_range_taken, ReadLemmas.decimal_is_number}
 use Rattle.tracer.proofs.{SplitLemmas.Lacks, SplitLemmas.digits_alone, SplitLemmas.split_join, SplitLemmas.join_lacks, SplitLemmas.decimal_lacks}
 
 -- words of 64 bits
@@ -46,17 +46,11 @@ is_read read x m same is test = rw is (test ∙ padded_eq x m)
 
 -- ---- one word
 
--- a number is one word
-first_covered : (v : Version) → covers v One ≡ true
-first_covered One = refl
-first_covered Two = refl
-first_covered Three = refl
-
 alone : (piece : List ℕ) → IsSpelled piece → words_of piece ≡ piece ∷ []
 alone piece spelled = digits_alone 44 piece (lit< tt) spelled.digits
 
 pub spells_number : (v : Version) (piece : List ℕ) → is_number piece ≡ true → spells_message v piece ≡ true
-spells_number v piece is = rw (alone piece (spelled_number piece is), is, first_covered v) refl
+spells_number v piece is = rw (alone piece (spelled_number piece is), is, covers_first_one v) refl
 
 pub reads_number : (piece : List ℕ) (n : ℕ) → number_to 18446744073709551615 piece ≡ Some n → message_in piece ≡ Ok (n ∷ [])
 reads_number piece n is = rw (alone piece (number_to-Some 18446744073709551615 piece n is).spelled, is) refl
@@ -129,8 +123,8 @@ same_pieces p w ps qs e1 e2 = rw (e1, e2) refl
 numbers_taken : (words : List (List ℕ)) (ns : List ℕ) → numbers_in words ≡ Ok ns → NumbersTaken words ns
 numbers_taken [] ns e = subst (NumbersTaken []) (same_ok [] ns e) (record { spelled = refl; small = tt; each = refl })
 numbers_taken (w ∷ ws) ns e =
-    let first = bind_ok (in_range 18446744073709551615 w) (λ n. numbers_in ws >>= λ ms. Ok (n ∷ ms)) ns e in
-    let others = bind_ok (numbers_in ws) (λ ms. Ok (first.0 ∷ ms)) ns first.2 in
+    let first = bind_ok (in_range 18446744073709551615 w) _ ns e in
+    let others = bind_ok (numbers_in ws) _ ns first.2 in
     let range = in_range_taken 18446744073709551615 w first.0 (lit< tt) first.1 in
     let rest = numbers_taken ws others.0 others.1 in
     subst (NumbersTaken (w ∷ ws)) (same_ok (first.0 ∷ others.0) ns others.2) (record {

@@ -4,7 +4,7 @@ use Rattle.std.proofs.Common.{lt-ltb, ltb-true, lit<, arith}
 use Rattle.std.specs.Prelude.{decimal, codes, nat_lt}
 use Rattle.std.specs.{Str.bytes_eq, List.join_with_byte}
 use Rattle.std.proofs.lemmas.{List.length-map, List.map_push, Slice.Eq.bytes_eq-Decides}
-use Rattle.event_log.specs.{Buffers.IsCapacity, declared.ids.TheConstants.BUFFERS, declared.ids.TheConstants.CAPACITY, Reading.◌>>=◌}
+use Rattle.event_log.specs.{Buffers.IsCapacity, declared.ids.TheConstants.BUFFERS, declared.ids.TheConstants.CAPACITY}
 use Rattle.event_log.proofs.DigitsLemmas.{number_to-decimal}
 use Rattle.tracer.specs.{declared.verdicts.Reason.Reason, declared.verdicts.Reason.TheVariants.Spelling, declared.verdicts.Reason.TheVariants.Range}
 use Rattle.tracer.specs.{declared.verdicts.Reason.TheVariants.OfVersion, declared.next_lines.NextLine.NextLine, declared.versions.Version.Version}
@@ -42,7 +42,7 @@ pub head_taken : (line : List ℕ) (s after : Progress) → head_line line s ≡
     → (v : Version) × (line ≡ join_with_byte 32 (head_pieces v)) × (after ≡ record s { at = wants.Count; version = v })
 unfolding head_line
 head_taken line s after taken =
-    let read = bind_ok (version_in line) (λ v. Ok (record s { at = wants.Count; version = v })) after taken in
+    let read = bind_ok (version_in line) _ after taken in
     (read.0, version_taken line read.0 read.1, sym (same_ok _ after read.2))
 
 pub step_head : (v : Version) (s : Progress) → s.at ≡ wants.Head
@@ -83,9 +83,9 @@ two_shape word ps rest p q behind e1 e2 e3 e4 = e1 ∙ ap (λ (t : List (List �
 count_digits_taken : (ps : List (List ℕ)) (digits : List ℕ) → count_digits ps ≡ Ok digits → ps ≡ codes "buffers" ∷ digits ∷ []
 unfolding count_digits
 count_digits_taken ps digits taken =
-    let word = bind_ok (word_at (codes "buffers") ps) (λ rest. digits_at rest >>= λ n. ended n.1 >>= λ _. Ok n.0) digits taken in
-    let number = bind_ok (digits_at word.0) (λ n. ended n.1 >>= λ _. Ok n.0) digits word.2 in
-    let last = bind_ok (ended number.0.1) (λ _. Ok number.0.0) digits number.2 in
+    let word = bind_ok (word_at (codes "buffers") ps) _ digits taken in
+    let number = bind_ok (digits_at word.0) _ digits word.2 in
+    let last = bind_ok (ended number.0.1) _ digits number.2 in
     two_shape (codes "buffers") ps word.0 number.0.0 digits number.0.1 (word_taken (codes "buffers") ps word.0 word.1) (digits_taken word.0 number.0 number.1)
     (ended_taken number.0.1 last.0 last.1) (same_ok number.0.0 digits last.2)
 
@@ -104,9 +104,8 @@ count_found ps digits n s after shape range some is =
 pub count_line_taken : (ps : List (List ℕ)) (s after : Progress) → count_line ps s ≡ Ok after → (n : ℕ) × CountTaken ps s after n
 unfolding count_line
 count_line_taken ps s after taken =
-    let digits = bind_ok (count_digits ps) (λ digits. in_range BUFFERS digits >>= λ count.
-    or_reason (nat_lt 0 count) Range (Ok (record s { at = wants.Capacities count; buffers = [] }))) after taken in
-    let count = bind_ok (in_range BUFFERS digits.0) (λ count. or_reason (nat_lt 0 count) Range (Ok (record s { at = wants.Capacities count; buffers = [] }))) after
+    let digits = bind_ok (count_digits ps) _ after taken in
+    let count = bind_ok (in_range BUFFERS digits.0) _ after
     digits.2 in
     let some = wanted_ok (nat_lt 0 count.0) Range (Ok (record s { at = wants.Capacities count.0; buffers = [] })) after count.2 in (
       count.0,
@@ -165,14 +164,12 @@ three_shape word ps rest behind last p p' q q' e1 e2 e3 e4 e5 e6 = e1 ∙ ap (λ
 capacity_digits_taken : (b : ℕ) (ps : List (List ℕ)) (digits : List ℕ) → capacity_digits b ps ≡ Ok digits → ps ≡ codes "cap" ∷ decimal b ∷ digits ∷ []
 unfolding capacity_digits
 capacity_digits_taken b ps digits taken =
-    let word = bind_ok (word_at (codes "cap") ps) (λ rest. piece_at rest >>= λ number.
-    or_reason (is_value number.0 b) Spelling (digits_at number.1) >>= λ capacity. ended capacity.1 >>= λ _. Ok capacity.0) digits taken in
-    let number = bind_ok (piece_at word.0) (λ number. or_reason (is_value number.0 b) Spelling (digits_at number.1) >>= λ capacity. ended capacity.1 >>= λ _.
-    Ok capacity.0) digits word.2 in
-    let capacity = bind_ok (or_reason (is_value number.0.0 b) Spelling (digits_at number.0.1)) (λ capacity. ended capacity.1 >>= λ _. Ok capacity.0) digits
+    let word = bind_ok (word_at (codes "cap") ps) _ digits taken in
+    let number = bind_ok (piece_at word.0) _ digits word.2 in
+    let capacity = bind_ok (or_reason (is_value number.0.0 b) Spelling (digits_at number.0.1)) _ digits
     number.2 in
     let value = wanted_ok (is_value number.0.0 b) Spelling (digits_at number.0.1) capacity.0 capacity.1 in
-    let last = bind_ok (ended capacity.0.1) (λ _. Ok capacity.0.0) digits capacity.2 in
+    let last = bind_ok (ended capacity.0.1) _ digits capacity.2 in
     three_shape (codes "cap") ps word.0 number.0.1 capacity.0.1 number.0.0 (decimal b) capacity.0.0 digits (word_taken (codes "cap") ps word.0 word.1)
     (piece_taken word.0 number.0 number.1) (is_value_taken number.0.0 b value.0) (digits_taken number.0.1 capacity.0 value.1)
     (ended_taken capacity.0.1 last.0 last.1) (same_ok capacity.0.0 digits last.2)
@@ -185,12 +182,7 @@ pub record CapacityTaken (v : Version) (count : ℕ) (caps : List ℕ) (ps : Lis
 
 capacity_found : (v : Version) (count : ℕ) (caps : List ℕ) (ps : List (List ℕ)) (digits : List ℕ) (capacity : ℕ) (after : Progress)
     → ps ≡ codes "cap" ∷ decimal (length (map fresh caps)) ∷ digits ∷ [] → IsInRange CAPACITY digits capacity → 0 < capacity
-    → record {
-      at = behind_cap (length (map fresh caps) + 1) count;
-      version = v;
-      lowest = One;
-      buffers = map fresh caps ++ fresh capacity ∷ [];
-      entries = 0;
+    → record { at = behind_cap (length (map fresh caps) + 1) count; version = v; lowest = One; buffers = map fresh caps ++ fresh capacity ∷ []; entries = 0;
     } ≡ after
     → CapacityTaken v count caps ps after capacity
 capacity_found v count caps ps digits capacity after shape range some is = record {
@@ -205,12 +197,8 @@ pub capacity_line_taken : (v : Version) (at : NextLine) (count : ℕ) (caps : Li
 unfolding capacity_line
 capacity_line_taken v at count caps ps after taken =
     let s = opened v at caps in
-    let digits = bind_ok (capacity_digits (length s.buffers) ps)
-    (λ digits. in_range CAPACITY digits >>= λ capacity. or_reason (nat_lt 0 capacity) Range
-    (Ok (record s { at = behind_cap (length s.buffers + 1) count; buffers = s.buffers ++ fresh capacity ∷ [] }))) after taken in
-    let capacity = bind_ok (in_range CAPACITY digits.0)
-    (λ capacity. or_reason (nat_lt 0 capacity) Range
-    (Ok (record s { at = behind_cap (length s.buffers + 1) count; buffers = s.buffers ++ fresh capacity ∷ [] }))) after digits.2 in
+    let digits = bind_ok (capacity_digits (length s.buffers) ps) _ after taken in
+    let capacity = bind_ok (in_range CAPACITY digits.0) _ after digits.2 in
     let some = wanted_ok (nat_lt 0 capacity.0) Range
     (Ok (record s { at = behind_cap (length s.buffers + 1) count; buffers = s.buffers ++ fresh capacity.0 ∷ [] })) after capacity.2 in (
       capacity.0,

@@ -30,14 +30,14 @@ piece_taken (p ∷ ps) x e = let same : (p, ps) ≡ x = cc in rw (← same) refl
 
 pub word_taken : (w : List ℕ) (ps rest : List (List ℕ)) → word_at w ps ≡ Ok rest → ps ≡ w ∷ rest
 word_taken w ps rest e =
-    let first = bind_ok (piece_at ps) (λ p. or_reason (bytes_eq p.0 w) Spelling (Ok p.1)) rest e in
+    let first = bind_ok (piece_at ps) _ rest e in
     let test = wanted_ok (bytes_eq first.0.0 w) Spelling (Ok first.0.1) rest first.2 in
     let same : first.0.0 ≡ w = (bytes_eq-Decides first.0.0 w).0 test.0 in
     piece_taken ps first.0 first.1 ∙ rw (same, same_ok first.0.1 rest test.1) refl
 
 pub digits_taken : (ps : List (List ℕ)) (x : List ℕ × List (List ℕ)) → digits_at ps ≡ Ok x → ps ≡ x.0 ∷ x.1
 digits_taken ps x e =
-    let first = bind_ok (piece_at ps) (λ p. or_reason (is_number p.0) Spelling (Ok p)) x e in
+    let first = bind_ok (piece_at ps) _ x e in
     let test = wanted_ok (is_number first.0.0) Spelling (Ok first.0) x first.2 in
     piece_taken ps first.0 first.1 ∙ rw (same_ok first.0 x test.1) refl
 

@@ -5,7 +5,7 @@ use Rattle.std.specs.Prelude.{decimal, codes, nat_lt, slice_get}
 use Rattle.std.specs.{Str.bytes_eq, List.AllByRecursion, List.list_all, List.join_with_byte}
 use Rattle.std.proofs.lemmas.{List.length_push, Slice.Eq.bytes_eq-Decides, Option.slice_get_within, Bool.and_parts}
 use Rattle.event_log.specs.{Messages.Message, declared.ids.TheConstants.CPUS, declared.ids.TheConstants.THREADS, declared.ids.TheConstants.BUFFERS}
-use Rattle.event_log.specs.{declared.ids.TheConstants.ENTRIES, declared.entries.Entry.Entry, Buffers.items_of, Runs.IsNext, Runs.after_entry, Reading.◌>>=◌}
+use Rattle.event_log.specs.{declared.ids.TheConstants.ENTRIES, declared.entries.Entry.Entry, Buffers.items_of, Runs.IsNext, Runs.after_entry}
 use Rattle.event_log.specs.declared.entries.Kind.{Kind, TheVariants.Send, TheVariants.Recv, TheVariants.Close, TheVariants.SendClosed, TheVariants.RecvClosed}
 use Rattle.tracer.specs.{declared.verdicts.Reason.TheVariants.Spelling, declared.verdicts.Reason.TheVariants.Range, declared.verdicts.Reason.TheVariants.Left}
 use Rattle.tracer.specs.{declared.next_lines.NextLine.NextLine, TraceText.kind_word, TraceText.message_text, TraceText.value_piece, TraceText.entry_pieces}
@@ -27,16 +27,12 @@ use Rattle.tracer.specs.declared.next_lines.NextLine.TheVariants as wants
 kind_spaces : (kind : Kind) → Lacks 32 (kind_word kind)
 kind_spaces Send = (refl, (refl, (refl, (refl, tt))))
 kind_spaces Recv = (refl, (refl, (refl, (refl, tt))))
-kind_spaces Close = (refl, (refl, (refl, (refl, (refl, tt)))))
-kind_spaces SendClosed = (refl, (refl, (refl, (refl, (refl, tt)))))
-kind_spaces RecvClosed = (refl, (refl, (refl, (refl, (refl, tt)))))
+kind_spaces other = (refl, (refl, (refl, (refl, (refl, tt)))))
 
 kind_feeds : (kind : Kind) → Lacks 10 (kind_word kind)
 kind_feeds Send = (refl, (refl, (refl, (refl, tt))))
 kind_feeds Recv = (refl, (refl, (refl, (refl, tt))))
-kind_feeds Close = (refl, (refl, (refl, (refl, (refl, tt)))))
-kind_feeds SendClosed = (refl, (refl, (refl, (refl, (refl, tt)))))
-kind_feeds RecvClosed = (refl, (refl, (refl, (refl, (refl, tt)))))
+kind_feeds other = (refl, (refl, (refl, (refl, (refl, tt)))))
 
 value_spaces : (kind : Kind) (value : Message) → IsValueOf kind value → Lacks 32 (value_piece kind value)
 value_spaces Send value fits = message_lacks 32 value (lit< tt) fits
@@ -151,8 +147,7 @@ none_of SendClosed value fits = tt
 none_of RecvClosed value fits = fits
 
 entry_found : (v : Version) (at : NextLine) (caps : List ℕ) (earlier : List Entry) (contents : List (List Message)) (ps : List (List ℕ)) (digits : Digits)
-    (e : Entry)
-    (buffers : List Seen) (after : Progress) → length contents ≡ length caps → ps ≡ shape_of digits → IsSmall v digits e
+    (e : Entry) (buffers : List Seen) (after : Progress) → length contents ≡ length caps → ps ≡ shape_of digits → IsSmall v digits e
     → covers v (version_of_kind digits.kind) ≡ true → length earlier < ENTRIES
     → entry_among e (known_from earlier contents 0 caps) ≡ Ok buffers
     → record { at = at; version = v; lowest = both (version_of earlier) (version_of_entry e); buffers = buffers; entries = length earlier + 1 } ≡ after
@@ -176,23 +171,17 @@ entry_found v at caps earlier contents ps digits e buffers after long shape smal
       is = sym is ∙ rw (taken.1, length_push earlier e, version_more earlier e) refl;
     }
 
-entry_line_taken : (v : Version) (at : NextLine) (caps : List ℕ) (earlier : List Entry) (contents : List (List Message)) (ps : List (List ℕ))
-    (after : Progress)
+entry_line_taken : (v : Version) (at : NextLine) (caps : List ℕ) (earlier : List Entry) (contents : List (List Message)) (ps : List (List ℕ)) (after : Progress)
     → length contents ≡ length caps → entry_line ps (progress v at caps earlier contents) ≡ Ok after
     → (e : Entry) × EntryTaken v at caps earlier contents ps after e
 unfolding entry_line
 entry_line_taken v at caps earlier contents ps after long taken =
     let s = progress v at caps earlier contents in
-    let digits = bind_ok (entry_digits ps) (λ digits. or_reason (is_of_version v digits) Spelling (entry_in digits) >>= λ e.
-    or_reason (nat_lt (length earlier) ENTRIES) Range (entry_among e s.buffers) >>= λ buffers.
-    Ok (record s { lowest = both (version_of earlier) (version_of_entry e); buffers = buffers; entries = length earlier + 1 })) after taken in
-    let entry = bind_ok (or_reason (is_of_version v digits.0) Spelling (entry_in digits.0)) (λ e.
-    or_reason (nat_lt (length earlier) ENTRIES) Range (entry_among e s.buffers) >>= λ buffers.
-    Ok (record s { lowest = both (version_of earlier) (version_of_entry e); buffers = buffers; entries = length earlier + 1 })) after digits.2 in
+    let digits = bind_ok (entry_digits ps) _ after taken in
+    let entry = bind_ok (or_reason (is_of_version v digits.0) Spelling (entry_in digits.0)) _ after digits.2 in
     let spells = wanted_ok (is_of_version v digits.0) Spelling (entry_in digits.0) entry.0 entry.1 in
     let parts = and_parts (covers v (version_of_kind digits.0.kind)) (spells_value v digits.0.kind digits.0.value) spells.0 in
-    let among = bind_ok (or_reason (nat_lt (length earlier) ENTRIES) Range (entry_among entry.0 s.buffers))
-    (λ buffers. Ok (record s { lowest = both (version_of earlier) (version_of_entry entry.0); buffers = buffers; entries = length earlier + 1 })) after
+    let among = bind_ok (or_reason (nat_lt (length earlier) ENTRIES) Range (entry_among entry.0 s.buffers)) _ after
     entry.2 in
     let room = wanted_ok (nat_lt (length earlier) ENTRIES) Range (entry_among entry.0 s.buffers) among.0 among.1 in (
       entry.0,
@@ -257,10 +246,8 @@ left_digits_taken : (v : Version) (b : ℕ) (ps values : List (List ℕ)) → le
     → (ps ≡ codes "left" ∷ decimal b ∷ values) × (list_all (spells_message v) values ≡ true)
 unfolding left_digits
 left_digits_taken v b ps values taken =
-    let word = bind_ok (word_at (codes "left") ps) (λ rest. piece_at rest >>= λ number.
-    or_reason (is_value number.0 b) Spelling (or_reason (list_all (spells_message v) number.1) Spelling (Ok number.1))) values taken in
-    let number = bind_ok (piece_at word.0)
-    (λ number. or_reason (is_value number.0 b) Spelling (or_reason (list_all (spells_message v) number.1) Spelling (Ok number.1))) values word.2 in
+    let word = bind_ok (word_at (codes "left") ps) _ values taken in
+    let number = bind_ok (piece_at word.0) _ values word.2 in
     let value = wanted_ok (is_value number.0.0 b) Spelling (or_reason (list_all (spells_message v) number.0.1) Spelling (Ok number.0.1)) values number.2 in
     let rest = wanted_ok (list_all (spells_message v) number.0.1) Spelling (Ok number.0.1) values value.1 in
     let same = same_ok number.0.1 values rest.1 in (
@@ -283,15 +270,10 @@ holds_of values None e = absurd (cc)
 holds_of values (Some seen) e = (seen, refl, e)
 
 left_found : (v : Version) (at : NextLine) (b : ℕ) (caps : List ℕ) (earlier : List Entry) (contents : List (List Message)) (ps values : List (List ℕ))
-    (after : Progress)
-    (seen : Seen) → ps ≡ codes "left" ∷ decimal b ∷ values → list_all (spells_message v) values ≡ true
+    (after : Progress) (seen : Seen) → ps ≡ codes "left" ∷ decimal b ∷ values → list_all (spells_message v) values ≡ true
     → slice_get (known_from earlier contents 0 caps) b ≡ Some seen → are_values values seen.items ≡ true
-    → record {
-      at = cond (nat_lt (b + 1) (length (known_from earlier contents 0 caps))) (wants.Contents (b + 1)) wants.End;
-      version = v;
-      lowest = version_of earlier;
-      buffers = known_from earlier contents 0 caps;
-      entries = length earlier;
+    → record { at = cond (nat_lt (b + 1) (length (known_from earlier contents 0 caps))) (wants.Contents (b + 1)) wants.End; version = v;
+      lowest = version_of earlier; buffers = known_from earlier contents 0 caps; entries = length earlier;
     } ≡ after → LeftTaken v b caps earlier contents ps after
 left_found v at b caps earlier contents ps values after seen shape spells found holds is =
     let inside : b < length caps = omega (arith, slice_get_within (known_from earlier contents 0 caps) b seen found, length-known_from earlier contents 0 caps)
@@ -313,8 +295,7 @@ unfolding left_line
 left_line_taken v at b caps earlier contents ps after taken =
     let s = progress v at caps earlier contents in
     let next : Progress = record s { at = cond (nat_lt (b + 1) (length s.buffers)) (wants.Contents (b + 1)) wants.End } in
-    let digits = bind_ok (left_digits v b ps)
-    (λ values. or_reason (list_all is_within values) Range (or_reason (is_left values (slice_get s.buffers b)) Left (Ok next))) after taken in
+    let digits = bind_ok (left_digits v b ps) _ after taken in
     let range = wanted_ok (list_all is_within digits.0) Range (or_reason (is_left digits.0 (slice_get s.buffers b)) Left (Ok next)) after digits.2 in
     let left = wanted_ok (is_left digits.0 (slice_get s.buffers b)) Left (Ok next) after range.1 in
     let holds = holds_of digits.0 (slice_get s.buffers b) left.0 in

@@ -128,11 +128,7 @@ module _ (site : Site) (had : HasHad site None) (first_position : site.position 
         ended = is_in site.t site.ended;
       })) site.trace)))
   begins_at instruction.Yield is halted = absurd is
-  begins_at instruction.Exit is halted = absurd is
-  begins_at (instruction.Set r n) is halted = absurd is
-  begins_at (instruction.Add r q) is halted = absurd is
-  begins_at (instruction.Sub r q) is halted = absurd is
-  begins_at (instruction.Jnz r k) is halted = absurd is
+  begins_at other is halted = absurd is
 
   pub choice_begins : (call_state_of site.call_states site.t).stage ≡ Idle → AsksFor (next_of (program_of site.setup site.t) g) g site.call
       → halted_at site.setup site.c p ≡ None → choice site.setup site.c p ≡ Goes (from site None had Acquires)

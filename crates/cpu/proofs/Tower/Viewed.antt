@@ -12,8 +12,7 @@ use Rattle.layer_traits.specs.{declared.conditions.CvLeave.TheVariants.Leave, de
 use Rattle.layer_traits.specs.{declared.buffer_edits.BufferEdit.BufferEdit, declared.buffer_edits.BufferOut.BufferOut, Conditions.CvCall, Conditions.signal_to}
 use Rattle.layer_traits.specs.{Locking.LockState, Locking.asked, Locking.wait_list_asked, Locking.signalled, Locking.asker_report, Locking.waiting_without}
 use Rattle.layer_traits.specs.BufferBlocks.{BufferState, entered as tower_entered, first_item, is_next, may_go, may_join, put_in, taken_out}
-use Rattle.cpu.specs.Table.Blocks.{Buffer, OfBuffer, OfPending, Name, AcqQ, Enter, TryPut, TryTake, Shut, WaitOn, SigRecv, SigSend, RelQ, Pend, TakeAll}
-use Rattle.cpu.specs.Table.Blocks.{Nothing, NotYet, front_stands_in}
+use Rattle.cpu.specs.Table.Blocks.{Buffer, OfBuffer, OfPending, Name, AcqQ, Nothing, NotYet, front_stands_in}
 use Rattle.cpu.specs.Table.Edits.{acquired, answer, answer_of_acquire, edited, entered, put, taken, reports, report_of_put, report_of_take, wakes, without_any}
 use Rattle.cpu.specs.Tower.Views.{TablesAgree, TowerBlock, TowerName, answer_view, buffer_view, code, name_of, report_above, report_of, report_in, tower, view}
 use Rattle.layer_traits.specs.declared.buffer_edits.BufferEdit.TheVariants as edit
@@ -23,16 +22,7 @@ use Rattle.layer_traits.specs.declared.queue_edits.QueueEdit.TheVariants as queu
 
 names : (n : Name) → name_of (code n) ≡ n
 names (AcqQ t) = refl
-names (Enter t side) = refl
-names (TryPut t m) = refl
-names (TryTake t) = refl
-names (Shut t) = refl
-names (WaitOn t side) = refl
-names (SigRecv t) = refl
-names (SigSend t) = refl
-names (RelQ t) = refl
-names (Pend t) = refl
-names TakeAll = refl
+names other = refl
 
 codes : (e : TowerName) → code (name_of e) ≡ e
 codes (queue.Push t) = refl

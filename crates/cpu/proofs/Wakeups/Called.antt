@@ -14,7 +14,7 @@ use Rattle.layer_traits.proofs.CountLemmas.{same_cpu_sym}
 use Rattle.cpu.specs.Table.{Blocks.Buffer, Blocks.Block, Blocks.OfBuffer, Blocks.OfPending, Blocks.Name, Blocks.Pend, Blocks.TakeAll, Edits.edited}
 use Rattle.cpu.specs.Table.{Edits.edited_buffer, Edits.answer_of_buffer, Setups.Setup, Setups.home_of, Setups.opening_buffer, Setups.empty_buffer}
 use Rattle.cpu.specs.Wakeups.Order.{Progress, Begins, progress, progress_by, progress_after, block_of, MayEdit, MayEditBlock, IsInOrder}
-use Rattle.cpu.proofs.Wakeups.{Lists.refuted, Lists.none_is_not, Awake.IsAwake, Ordered.same_buffer, Ordered.buffer_awake, Pairs.Pair, Pairs.marked_none}
+use Rattle.cpu.proofs.Wakeups.{Lists.refuted, Lists.none_is_not, Awake.IsAwake, Ordered.same_buffer, Ordered.buffer_awake, Pairs.Pair, Pairs.paired, Pairs.marked_none}
 use Rattle.cpu.proofs.Wakeups.{Pairs.grown_list, Pairs.buffer_self, Pairs.buffer_true, Pairs.woken_sleeps, Pairs.woken_awake, Pairs.other_pair}
 use Rattle.cpu.proofs.Wakeups.{Pairs.thread_some, Pairs.other_joined, Owns.ByCaller, Owns.may_edit, Owns.own_pair, Owns.away, Owns.visit_apart, Owns.post_apart}
 use Rattle.cpu.proofs.Wakeups.Posts.{Outside, is_buffer, sleeps_in, sleeps_at, is_pending, is_moved, caller_in, is_caller, waiters_of, post_by, post_woken}
@@ -46,16 +46,9 @@ good_none setup = record {
   where
     opening_pair : (b : BufId) (u : Tid) (k : Buffer) (o : Option ℕ) → opening_buffer o ≡ Some (OfBuffer k) → Pair b u k Begins Outside Home
     opening_pair b u k None is = absurd (cc is)
-    opening_pair b u k (Some capacity) is = subst (λ x. Pair b u x Begins Outside Home) (same_buffer (empty_buffer capacity) k is) (record {
-      owner = λ e. none_is_not e;
-      inside = λ ins awake. absurd (cc ins);
-      starts = λ on. absurd (cc on);
-      sleepers = sym (marked_none u false refl);
-      senders = sym (marked_none u false refl);
-      receivers = sym (marked_none u false refl);
-      send_line = sym (marked_none u false refl);
-      receive_line = sym (marked_none u false refl);
-    })
+    opening_pair b u k (Some capacity) is = subst (λ x. Pair b u x Begins Outside Home) (same_buffer (empty_buffer capacity) k is) (paired (λ e. none_is_not e)
+        (λ ins awake. absurd (cc ins)) (λ on. absurd (cc on)) (sym (marked_none u false refl)) (sym (marked_none u false refl)) (sym (marked_none u false refl))
+        (sym (marked_none u false refl)) (sym (marked_none u false refl)))
 
     threads_or : Option Block → List Tid
     threads_or None = []
@@ -259,15 +252,11 @@ module _ (setup : Setup) (past : List (Section Name)) (good : Good setup past) (
 
 pub drained_lists : (b : BufId) (list : WaitList) (x : Where) → sleeps_in b list (post_drained x) ≡ sleeps_in b list x
 drained_lists b list Home = refl
-drained_lists b list (Hand c) = refl
-drained_lists b list (IsPending q) = refl
-drained_lists b list (Asleep p) = refl
+drained_lists b list other = refl
 
 pub drained_pending : (x : Where) → is_pending (post_drained x) ≡ false
 drained_pending Home = refl
-drained_pending (Hand c) = refl
-drained_pending (IsPending q) = refl
-drained_pending (Asleep p) = refl
+drained_pending other = refl
 
 pub drained_moved : (x : Where) → is_moved (post_drained x) ≡ true → is_moved x ≡ true
 drained_moved (Hand c) on = refl

@@ -71,11 +71,7 @@ module _ (setup : Setup) (c : CpuId) where
           let now = called p t (record call { position = pos; effect = Some op; stage = Signals }) known in
           record { hand = now.hand; current = now.current; some = now.some }
       by_shut (Position pos) = stays
-      by_shut Nothing = stays
-      by_shut (Done op m) = stays
-      by_shut (WasClosed op) = stays
-      by_shut NotYet = stays
-      by_shut (Drained threads) = stays
+      by_shut other = stays
 
       by_asks : (asks : Group) (told : Reported) → RecordedSome p (recorded_entry c p t call asks told) t
       by_asks Closes told = by_shut told

@@ -1,5 +1,5 @@
 -- One thread and one buffer: what its own sections leave, and what its sections at another buffer do.
-use Rattle.std.proofs.Common.{◌≡◌, ◌≢◌, ℕ, ◌+◌, ◌≤◌, Bool, true, false, not, ◌&&◌, List, [], ◌∷◌, ◌++◌, Option, Some, None, nat_lt, if◌then◌else◌, refl, sym}
+use Rattle.std.proofs.Common.{◌≡◌, ◌≢◌, ◌+◌, ◌≤◌, Bool, true, false, not, ◌&&◌, List, [], ◌∷◌, ◌++◌, Option, Some, None, nat_lt, if◌then◌else◌, refl, sym}
 use Rattle.std.proofs.Common.{ap, ◌∙◌, subst, arith}
 use Rattle.std.proofs.{lemmas.Bool.and_parts, lemmas.Bool.and_from, lemmas.Bool.and_right, lemmas.Bool.false_from_ne_true, lemmas.Option.same_Some}
 use Rattle.std.proofs.{Math.Bool.and-true}
@@ -21,7 +21,7 @@ use Rattle.cpu.proofs.Wakeups.Lists.{refuted, first_is}
 use Rattle.cpu.proofs.Wakeups.Posts.{Waiting, Visit, Outside, In, is_buffer, sleeps_in, list_of, names, goes_on, is_inside, starts_here, stands, is_lined}
 use Rattle.cpu.proofs.Wakeups.Posts.{InStep, caller_in, is_caller, waiters_of, post_woken, post_slept, post_moved, acquired_visit, next_visit, visit_moved}
 use Rattle.cpu.proofs.Wakeups.Posts.{IsDue, marked}
-use Rattle.cpu.proofs.Wakeups.Pairs.{Pair, marked_none, marked_most, buffer_self, sleeps_here, grown_list, first_left, signal_left, front_counted, woken_sleeps}
+use Rattle.cpu.proofs.Wakeups.Pairs.{Pair, paired, marked_none, marked_most, buffer_self, sleeps_here, grown_list, first_left, signal_left, front_counted, woken_sleeps}
 use Rattle.layer_traits.specs.declared.moves.WaitList.TheVariants as wait_list
 
 -- where the section that is due to a thread may come, it is in order
@@ -81,50 +81,27 @@ module _ (b : BufId) (u : Tid) where
   own_acquire : (k : Buffer) (g : Progress) (o : Option Tid) (visit : Visit) → k.busy ≡ o
       → (k.busy ≡ None → g ≡ Begins) → IsDue b (AcqQ u) visit → Pair b u k g visit Home
       → Pair b u (acquired u o k) g (acquired_visit b visit) (if (answer_of_acquire o).slept then Asleep (At (AtBuffer b) wait_list.Sleepers) else Home)
-  own_acquire k g None Outside is idle due pair = record {
-    owner = λ e. (and_from (is_buffer b b) true (buffer_self b) refl, idle is, refl);
-    inside = λ ins awake. refl;
-    starts = λ on. absurd (cc on);
-    sleepers = pair.sleepers;
-    senders = pair.senders;
-    receivers = pair.receivers;
-    send_line = pair.send_line ∙ marked_none u false refl ∙ sym (marked_none u (is_buffer b b && false) (and_right (is_buffer b b) false refl));
-    receive_line = pair.receive_line ∙ marked_none u false refl ∙ sym (marked_none u (is_buffer b b && false) (and_right (is_buffer b b) false refl));
-  }
+  own_acquire k g None Outside is idle due pair = paired (λ e. (and_from (is_buffer b b) true (buffer_self b) refl, idle is, refl)) (λ ins awake. refl)
+      (λ on. absurd (cc on)) pair.sleepers pair.senders pair.receivers
+      (pair.send_line ∙ marked_none u false refl ∙ sym (marked_none u (is_buffer b b && false) (and_right (is_buffer b b) false refl)))
+      (pair.receive_line ∙ marked_none u false refl ∙ sym (marked_none u (is_buffer b b && false) (and_right (is_buffer b b) false refl)))
   own_acquire k g None (Waiting d side) is idle due was =
       let pair : Pair b u k g (Waiting b side) Home = subst (λ x. Pair b u k g (Waiting x side) Home) due was in
-      record {
-        owner = λ e. (and_from (is_buffer b b) true (buffer_self b) refl, subst (MayTry side) (sym (idle is)) tt, refl);
-        inside = λ ins awake. refl;
-        starts = λ on. absurd (cc on);
-        sleepers = pair.sleepers;
-        senders = pair.senders;
-        receivers = pair.receivers;
-        send_line = pair.send_line;
-        receive_line = pair.receive_line;
-      }
-  own_acquire k g (Some owner) Outside is idle due pair = record {
-    owner = λ e. absurd (not_outside b u k g Outside refl pair e);
-    inside = λ ins awake. refuted awake (sleeps_here b wait_list.Sleepers);
-    starts = λ on. and_from (is_buffer b b) true (buffer_self b) refl;
-    sleepers = grown_list u k.sleepers (no_sleepers k g Outside pair) ∙ ap (marked u) (sym (sleeps_here b wait_list.Sleepers));
-    senders = pair.senders ∙ ap (marked u) (sym (and_right (is_buffer b b) false refl));
-    receivers = pair.receivers ∙ ap (marked u) (sym (and_right (is_buffer b b) false refl));
-    send_line = pair.send_line ∙ marked_none u false refl ∙ sym (marked_none u (is_buffer b b && false) (and_right (is_buffer b b) false refl));
-    receive_line = pair.receive_line ∙ marked_none u false refl ∙ sym (marked_none u (is_buffer b b && false) (and_right (is_buffer b b) false refl));
-  }
+      paired (λ e. (and_from (is_buffer b b) true (buffer_self b) refl, subst (MayTry side) (sym (idle is)) tt, refl)) (λ ins awake. refl)
+      (λ on. absurd (cc on)) pair.sleepers pair.senders pair.receivers pair.send_line pair.receive_line
+  own_acquire k g (Some owner) Outside is idle due pair = paired (λ e. absurd (not_outside b u k g Outside refl pair e))
+      (λ ins awake. refuted awake (sleeps_here b wait_list.Sleepers)) (λ on. and_from (is_buffer b b) true (buffer_self b) refl)
+      (grown_list u k.sleepers (no_sleepers k g Outside pair) ∙ ap (marked u) (sym (sleeps_here b wait_list.Sleepers)))
+      (pair.senders ∙ ap (marked u) (sym (and_right (is_buffer b b) false refl))) (pair.receivers ∙ ap (marked u) (sym (and_right (is_buffer b b) false refl)))
+      (pair.send_line ∙ marked_none u false refl ∙ sym (marked_none u (is_buffer b b && false) (and_right (is_buffer b b) false refl)))
+      (pair.receive_line ∙ marked_none u false refl ∙ sym (marked_none u (is_buffer b b && false) (and_right (is_buffer b b) false refl)))
   own_acquire k g (Some owner) (Waiting d side) is idle due was =
       let pair : Pair b u k g (Waiting b side) Home = subst (λ x. Pair b u k g (Waiting x side) Home) due was in
-      record {
-        owner = λ e. absurd (not_outside b u k g (Waiting b side) refl pair e);
-        inside = λ ins awake. refuted awake (sleeps_here b wait_list.Sleepers);
-        starts = λ on. and_from (is_buffer b b) true (buffer_self b) refl;
-        sleepers = grown_list u k.sleepers (no_sleepers k g (Waiting b side) pair) ∙ ap (marked u) (sym (sleeps_here b wait_list.Sleepers));
-        senders = pair.senders ∙ ap (marked u) (sym (and_right (is_buffer b b) false refl));
-        receivers = pair.receivers ∙ ap (marked u) (sym (and_right (is_buffer b b) false refl));
-        send_line = pair.send_line;
-        receive_line = pair.receive_line;
-      }
+      paired (λ e. absurd (not_outside b u k g (Waiting b side) refl pair e)) (λ ins awake. refuted awake (sleeps_here b wait_list.Sleepers))
+      (λ on. and_from (is_buffer b b) true (buffer_self b) refl)
+      (grown_list u k.sleepers (no_sleepers k g (Waiting b side) pair) ∙ ap (marked u) (sym (sleeps_here b wait_list.Sleepers)))
+      (pair.senders ∙ ap (marked u) (sym (and_right (is_buffer b b) false refl)))
+      (pair.receivers ∙ ap (marked u) (sym (and_right (is_buffer b b) false refl))) pair.send_line pair.receive_line
   own_acquire k g o visit is idle due pair = absurd due
 
   -- the pair of a thread that has the lock and goes on, from its places in the two lines
@@ -133,29 +110,9 @@ module _ (b : BufId) (u : Tid) where
       → Pair b u k g (In b before) Home
       → count_in u sends ≡ marked u (is_lined b Senders (In b progress)) → count_in u receives ≡ marked u (is_lined b Receivers (In b progress))
       → Pair b u (record k { send_line = sends; receive_line = receives }) h (In b progress) Home
-  at_work k g h before progress sends receives owner step pair in_sends in_receives = record {
-    owner = λ e. (and_from (is_buffer b b) true (buffer_self b) refl, step, refl);
-    inside = λ ins awake. owner;
-    starts = λ on. absurd (cc on);
-    sleepers = pair.sleepers;
-    senders = pair.senders;
-    receivers = pair.receivers;
-    send_line = in_sends;
-    receive_line = in_receives;
-  }
-
-  own_items : (k : Buffer) (g : Progress) (visit : Visit) (x : Where) (items : List Message) (e s r : ℕ) → Pair b u k g visit x
-      → Pair b u (record k { items = items; effects = e; send_positions = s; receive_positions = r }) g visit x
-  own_items k g visit x items e s r pair = record {
-    owner = pair.owner;
-    inside = pair.inside;
-    starts = pair.starts;
-    sleepers = pair.sleepers;
-    senders = pair.senders;
-    receivers = pair.receivers;
-    send_line = pair.send_line;
-    receive_line = pair.receive_line;
-  }
+  at_work k g h before progress sends receives owner step pair in_sends in_receives = paired
+      (λ e. (and_from (is_buffer b b) true (buffer_self b) refl, step, refl)) (λ ins awake. owner) (λ on. absurd (cc on)) pair.sleepers pair.senders
+      pair.receivers in_sends in_receives
 
   unlined : (progress : Progress) (side : Side) → stands side (In b progress) ≡ false → marked u (is_lined b side (In b progress)) ≡ 0
   unlined progress side off = marked_none u (is_buffer b b && stands side (In b progress)) (and_right (is_buffer b b) (stands side (In b progress)) off)
@@ -184,8 +141,7 @@ module _ (b : BufId) (u : Tid) where
   own_enter k g Senders true is owner pair =
       let sends = entered_list k.send_line true is (pair.send_line ∙ unlined Begins Senders refl) ∙ sym (lined (HasEntered Senders) Senders refl) in
       let receives = pair.receive_line ∙ unlined Begins Receivers refl ∙ sym (unlined (HasEntered Senders) Receivers refl) in
-      own_items _ (HasEntered Senders) (In b (HasEntered Senders)) Home k.items k.effects (entered u Senders k).send_positions k.receive_positions
-      (at_work k g (HasEntered Senders) Begins (HasEntered Senders) (k.send_line ++ u ∷ []) k.receive_line owner refl pair sends receives)
+      at_work k g (HasEntered Senders) Begins (HasEntered Senders) (k.send_line ++ u ∷ []) k.receive_line owner refl pair sends receives
   own_enter k g Senders false is owner pair =
       let sends = entered_list k.send_line false is (pair.send_line ∙ unlined Begins Senders refl) ∙ sym (lined (HasEntered Senders) Senders refl) in
       let receives = pair.receive_line ∙ unlined Begins Receivers refl ∙ sym (unlined (HasEntered Senders) Receivers refl) in
@@ -193,8 +149,7 @@ module _ (b : BufId) (u : Tid) where
   own_enter k g Receivers true is owner pair =
       let receives = entered_list k.receive_line true is (pair.receive_line ∙ unlined Begins Receivers refl) ∙ sym (lined (HasEntered Receivers) Receivers refl) in
       let sends = pair.send_line ∙ unlined Begins Senders refl ∙ sym (unlined (HasEntered Receivers) Senders refl) in
-      own_items _ (HasEntered Receivers) (In b (HasEntered Receivers)) Home k.items k.effects k.send_positions (entered u Receivers k).receive_positions
-      (at_work k g (HasEntered Receivers) Begins (HasEntered Receivers) k.send_line (k.receive_line ++ u ∷ []) owner refl pair sends receives)
+      at_work k g (HasEntered Receivers) Begins (HasEntered Receivers) k.send_line (k.receive_line ++ u ∷ []) owner refl pair sends receives
   own_enter k g Receivers false is owner pair =
       let receives = entered_list k.receive_line false is (pair.receive_line ∙ unlined Begins Receivers refl) ∙ sym (lined (HasEntered Receivers) Receivers refl) in
       let sends = pair.send_line ∙ unlined Begins Senders refl ∙ sym (unlined (HasEntered Receivers) Senders refl) in
@@ -213,8 +168,7 @@ module _ (b : BufId) (u : Tid) where
       let front = (and_parts (is_first u k.send_line) (can_put k) is).0 in
       let sends = left_line k.send_line _ pair.send_line front ∙ sym (unlined (Owes true true) Senders refl) in
       let receives = pair.receive_line ∙ unlined (HasEntered Senders) Receivers refl ∙ sym (unlined (Owes true true) Receivers refl) in
-      own_items _ (Owes true true) (In b (Owes true true)) Home (put m k).items (put m k).effects k.send_positions k.receive_positions
-      (at_work k g (Owes true true) (HasEntered Senders) (Owes true true) (rest k.send_line) k.receive_line owner refl pair sends receives)
+      at_work k g (Owes true true) (HasEntered Senders) (Owes true true) (rest k.send_line) k.receive_line owner refl pair sends receives
   own_put k g m false is owner pair =
       at_work k g (WasRefused Senders) (HasEntered Senders) (WasRefused Senders) k.send_line k.receive_line owner refl pair pair.send_line pair.receive_line
 
@@ -225,45 +179,27 @@ module _ (b : BufId) (u : Tid) where
       let front = (and_parts (is_first u k.receive_line) (can_take k) is).0 in
       let receives = left_line k.receive_line _ pair.receive_line front ∙ sym (unlined (Owes true true) Receivers refl) in
       let sends = pair.send_line ∙ unlined (HasEntered Receivers) Senders refl ∙ sym (unlined (Owes true true) Senders refl) in
-      own_items _ (Owes true true) (In b (Owes true true)) Home (taken k).items (taken k).effects k.send_positions k.receive_positions
-      (at_work k g (Owes true true) (HasEntered Receivers) (Owes true true) k.send_line (rest k.receive_line) owner refl pair sends receives)
+      at_work k g (Owes true true) (HasEntered Receivers) (Owes true true) k.send_line (rest k.receive_line) owner refl pair sends receives
   own_take k g false is owner pair =
       at_work k g (WasRefused Receivers) (HasEntered Receivers) (WasRefused Receivers) k.send_line k.receive_line owner refl pair pair.send_line pair.receive_line
 
   own_shut : (k : Buffer) (g : Progress) → k.busy ≡ Some u → Pair b u k g (In b Begins) Home
       → Pair b u (shut k) (Owes true true) (In b (Owes true true)) Home
   own_shut k g owner pair =
-      let now = at_work k g (Owes true true) Begins (Owes true true) k.send_line k.receive_line owner refl pair
+      at_work k g (Owes true true) Begins (Owes true true) k.send_line k.receive_line owner refl pair
       (pair.send_line ∙ unlined Begins Senders refl ∙ sym (unlined (Owes true true) Senders refl))
-      (pair.receive_line ∙ unlined Begins Receivers refl ∙ sym (unlined (Owes true true) Receivers refl)) in
-      record {
-        owner = now.owner;
-        inside = now.inside;
-        starts = now.starts;
-        sleepers = now.sleepers;
-        senders = now.senders;
-        receivers = now.receivers;
-        send_line = now.send_line;
-        receive_line = now.receive_line;
-      }
+      (pair.receive_line ∙ unlined Begins Receivers refl ∙ sym (unlined (Owes true true) Receivers refl))
 
   -- the thread gives the lock back, and is inside no longer
   own_release : (k : Buffer) (g : Progress) (visit next : Visit) (x : Where) → Pair b u k g visit Home → is_inside b next ≡ false → sleeps_in b wait_list.Sleepers x ≡ false
       → count_in u k.send_line ≡ marked u (is_lined b Senders next) → count_in u k.receive_line ≡ marked u (is_lined b Receivers next)
       → (sends receives : List Tid) → count_in u sends ≡ marked u (sleeps_in b wait_list.Senders x) → count_in u receives ≡ marked u (sleeps_in b wait_list.Receivers x)
       → Pair b u (released (record k { waiting_senders = sends; waiting_receivers = receives })) Begins next x
-  own_release k g visit next x pair outside off in_sends in_receives sends receives now_ws now_wr = record {
-    owner = λ e. refuted (not_first k.sleepers (no_sleepers k g visit pair)) (ap (is_thread u) e ∙ same_tid_self u);
-    inside = λ ins awake. refuted outside ins;
-    starts = λ on. refuted off on;
-    sleepers = first_left u k.sleepers (subst (λ n. n ≤ 1) (sym pair.sleepers) (marked_most u false))
-        ∙ ap (λ d. if d then 0 else count_in u k.sleepers) (not_first k.sleepers (no_sleepers k g visit pair))
-        ∙ no_sleepers k g visit pair ∙ sym (marked_none u (sleeps_in b wait_list.Sleepers x) off);
-    senders = now_ws;
-    receivers = now_wr;
-    send_line = in_sends;
-    receive_line = in_receives;
-  }
+  own_release k g visit next x pair outside off in_sends in_receives sends receives now_ws now_wr = paired
+      (λ e. refuted (not_first k.sleepers (no_sleepers k g visit pair)) (ap (is_thread u) e ∙ same_tid_self u)) (λ ins awake. refuted outside ins)
+      (λ on. refuted off on)
+      (first_left u k.sleepers (subst (λ n. n ≤ 1) (sym pair.sleepers) (marked_most u false)) ∙ ap (λ d. if d then 0 else count_in u k.sleepers) (not_first k.sleepers (no_sleepers k g visit pair)) ∙ no_sleepers k g visit pair ∙ sym (marked_none u (sleeps_in b wait_list.Sleepers x) off))
+      now_ws now_wr in_sends in_receives
 
   own_wait : (k : Buffer) (g : Progress) (side : Side) → Pair b u k g (In b (WasRefused side)) Home
       → Pair b u (released (waiting u side k)) Begins (Waiting b side) (Asleep (At (AtBuffer b) (list_of side)))
@@ -291,16 +227,10 @@ module _ (b : BufId) (u : Tid) where
       → k.busy ≡ Some u → h ≡ Owes x y → Pair b u k g (In b (Owes r s)) Home
       → count_in u sends ≡ 0 → count_in u receives ≡ 0
       → Pair b u (record k { waiting_senders = sends; waiting_receivers = receives }) h (In b (Owes x y)) Home
-  own_signal k g h r s x y sends receives owner step pair no_ws no_wr = record {
-    owner = λ e. (and_from (is_buffer b b) true (buffer_self b) refl, step, refl);
-    inside = λ ins awake. owner;
-    starts = λ on. absurd (cc on);
-    sleepers = pair.sleepers;
-    senders = no_ws ∙ sym (marked_none u false refl);
-    receivers = no_wr ∙ sym (marked_none u false refl);
-    send_line = pair.send_line ∙ unlined (Owes r s) Senders refl ∙ sym (unlined (Owes x y) Senders refl);
-    receive_line = pair.receive_line ∙ unlined (Owes r s) Receivers refl ∙ sym (unlined (Owes x y) Receivers refl);
-  }
+  own_signal k g h r s x y sends receives owner step pair no_ws no_wr = paired (λ e. (and_from (is_buffer b b) true (buffer_self b) refl, step, refl))
+      (λ ins awake. owner) (λ on. absurd (cc on)) pair.sleepers (no_ws ∙ sym (marked_none u false refl)) (no_wr ∙ sym (marked_none u false refl))
+      (pair.send_line ∙ unlined (Owes r s) Senders refl ∙ sym (unlined (Owes x y) Senders refl))
+      (pair.receive_line ∙ unlined (Owes r s) Receivers refl ∙ sym (unlined (Owes x y) Receivers refl))
 
   still_none : (woke : Option Tid) (list : List Tid) → count_in u list ≡ 0 → count_in u (without_any woke list) ≡ 0
   still_none woke list none = signal_left u woke list ∙ by_test (is_thread u woke)
@@ -409,28 +339,16 @@ away b d name k visit off due = absurd due
 -- the pair of a thread whose visit is elsewhere
 pub visit_apart : (b : BufId) (u : Tid) (k : Buffer) (g : Progress) (visit next : Visit) (post : Where)
     → Apart b visit next → Pair b u k g visit post → Pair b u k g next post
-visit_apart b u k g visit next post apart pair = record {
-  owner = λ e. refuted (ap (λ n. n && goes_on visit) apart.before) (pair.owner e).0;
-  inside = λ ins awake. refuted (ap (λ n. n && goes_on next) apart.after) ins;
-  starts = λ on. refuted (ap (λ n. n && starts_here visit) apart.before) (pair.starts on);
-  sleepers = pair.sleepers;
-  senders = pair.senders;
-  receivers = pair.receivers;
-  send_line = pair.send_line ∙ ap (λ n. marked u (n && stands Senders visit)) apart.before ∙ ap (λ n. marked u (n && stands Senders next)) (sym apart.after);
-  receive_line =
-      pair.receive_line ∙ ap (λ n. marked u (n && stands Receivers visit)) apart.before ∙ ap (λ n. marked u (n && stands Receivers next)) (sym apart.after);
-}
+visit_apart b u k g visit next post apart pair = paired (λ e. refuted (ap (λ n. n && goes_on visit) apart.before) (pair.owner e).0)
+    (λ ins awake. refuted (ap (λ n. n && goes_on next) apart.after) ins) (λ on. refuted (ap (λ n. n && starts_here visit) apart.before) (pair.starts on))
+    pair.sleepers pair.senders pair.receivers
+    (pair.send_line ∙ ap (λ n. marked u (n && stands Senders visit)) apart.before ∙ ap (λ n. marked u (n && stands Senders next)) (sym apart.after))
+    (pair.receive_line ∙ ap (λ n. marked u (n && stands Receivers visit)) apart.before ∙ ap (λ n. marked u (n && stands Receivers next)) (sym apart.after))
 
 -- the pair of a thread whose place bears the same marks of the buffer
 pub post_apart : (b : BufId) (u : Tid) (k : Buffer) (g : Progress) (visit : Visit) (post next : Where)
     → ((list : WaitList) → sleeps_in b list next ≡ sleeps_in b list post) → Pair b u k g visit post → Pair b u k g visit next
-post_apart b u k g visit post next same pair = record {
-  owner = λ e. ((pair.owner e).0, (pair.owner e).1, same wait_list.Sleepers ∙ (pair.owner e).2);
-  inside = λ ins awake. pair.inside ins (sym (same wait_list.Sleepers) ∙ awake);
-  starts = λ on. pair.starts (sym (same wait_list.Sleepers) ∙ on);
-  sleepers = pair.sleepers ∙ ap (marked u) (sym (same wait_list.Sleepers));
-  senders = pair.senders ∙ ap (marked u) (sym (same wait_list.Senders));
-  receivers = pair.receivers ∙ ap (marked u) (sym (same wait_list.Receivers));
-  send_line = pair.send_line;
-  receive_line = pair.receive_line;
-}
+post_apart b u k g visit post next same pair = paired (λ e. ((pair.owner e).0, (pair.owner e).1, same wait_list.Sleepers ∙ (pair.owner e).2))
+    (λ ins awake. pair.inside ins (sym (same wait_list.Sleepers) ∙ awake)) (λ on. pair.starts (sym (same wait_list.Sleepers) ∙ on))
+    (pair.sleepers ∙ ap (marked u) (sym (same wait_list.Sleepers))) (pair.senders ∙ ap (marked u) (sym (same wait_list.Senders)))
+    (pair.receivers ∙ ap (marked u) (sym (same wait_list.Receivers))) pair.send_line pair.receive_line

@@ -1,6 +1,6 @@
 -- One thread and one buffer: that its places at the buffer are those that its post and its visit say, by count, and that it owns the
 -- lock exactly where its visit says. Everything here speaks of plain values; the log comes later.
-use Rattle.std.proofs.Common.{◌≡◌, ℕ, ◌+◌, ◌<◌, ◌≤◌, Bool, true, false, not, ◌&&◌, List, [], ◌∷◌, ◌++◌, Option, Some, None, nat_lt, if◌then◌else◌, refl, sym}
+use Rattle.std.proofs.Common.{◌≡◌, ◌+◌, ◌<◌, ◌≤◌, Bool, true, false, not, ◌&&◌, List, [], ◌∷◌, ◌++◌, Option, Some, None, nat_lt, if◌then◌else◌, refl, sym}
 use Rattle.std.proofs.Common.{ap, ◌∙◌, subst, arith}
 use Rattle.std.proofs.lemmas.{Bool.eq-eqb, Bool.eqb-true, Bool.and_parts, Bool.and_right, Option.same_Some}
 use Rattle.event_log.specs.{declared.ids.CpuId.CpuId, declared.ids.Tid.Tid, declared.ids.BufId.BufId, declared.ids.LockId.TheVariants.Buffer as AtBuffer}
@@ -23,18 +23,43 @@ use Rattle.cpu.proofs.Wakeups.Posts.{Waiting, Visit, Outside, In, is_buffer, sle
 use Rattle.cpu.proofs.Wakeups.Posts.{waiters_of, post_by, post_woken, post_moved, next_visit, visit_moved, marked}
 use Rattle.layer_traits.specs.declared.moves.WaitList.TheVariants as wait_list
 
-pub record Pair (b : BufId) (u : Tid) (k : Buffer) (g : Progress) (visit : Visit) (post : Where) : Type 0 where
+-- a thread and a buffer's lock: by who owns it, the lists of its sleepers and of those who wait to send and to receive, and the two lines
+pub record PairOf (b : BufId) (u : Tid) (busy : Option Tid) (asleep senders_in receivers_in sends receives : List Tid) (g : Progress) (visit : Visit)
+    (post : Where) : Type 0 where
   -- who owns the lock is inside and awake, and the owner's progress is what its visit says
-  pub owner : k.busy ≡ Some u → (is_inside b visit ≡ true) × InStep visit g × (sleeps_in b wait_list.Sleepers post ≡ false)
+  pub owner : busy ≡ Some u → (is_inside b visit ≡ true) × InStep visit g × (sleeps_in b wait_list.Sleepers post ≡ false)
   -- who is inside, and does not sleep at the lock, owns it
-  pub inside : is_inside b visit ≡ true → sleeps_in b wait_list.Sleepers post ≡ false → k.busy ≡ Some u
+  pub inside : is_inside b visit ≡ true → sleeps_in b wait_list.Sleepers post ≡ false → busy ≡ Some u
   -- who sleeps at the lock has just asked for it
   pub starts : sleeps_in b wait_list.Sleepers post ≡ true → is_starting b visit ≡ true
-  pub sleepers : count_in u k.sleepers ≡ marked u (sleeps_in b wait_list.Sleepers post)
-  pub senders : count_in u k.waiting_senders ≡ marked u (sleeps_in b wait_list.Senders post)
-  pub receivers : count_in u k.waiting_receivers ≡ marked u (sleeps_in b wait_list.Receivers post)
-  pub send_line : count_in u k.send_line ≡ marked u (is_lined b Senders visit)
-  pub receive_line : count_in u k.receive_line ≡ marked u (is_lined b Receivers visit)
+  pub sleepers : count_in u asleep ≡ marked u (sleeps_in b wait_list.Sleepers post)
+  pub senders : count_in u senders_in ≡ marked u (sleeps_in b wait_list.Senders post)
+  pub receivers : count_in u receivers_in ≡ marked u (sleeps_in b wait_list.Receivers post)
+  pub send_line : count_in u sends ≡ marked u (is_lined b Senders visit)
+  pub receive_line : count_in u receives ≡ marked u (is_lined b Receivers visit)
+
+-- nothing else of the buffer matters
+abbrev pub Pair : BufId → Tid → Buffer → Progress → Visit → Where → Type 0
+Pair b u k g visit post = PairOf b u k.busy k.sleepers k.waiting_senders k.waiting_receivers k.send_line k.receive_line g visit post
+
+-- a pair from its parts, in their order
+pub paired : {b : BufId} {u : Tid} {busy : Option Tid} {asleep senders_in receivers_in sends receives : List Tid} {g : Progress} {visit : Visit} {post : Where}
+    → (busy ≡ Some u → (is_inside b visit ≡ true) × InStep visit g × (sleeps_in b wait_list.Sleepers post ≡ false))
+    → (is_inside b visit ≡ true → sleeps_in b wait_list.Sleepers post ≡ false → busy ≡ Some u)
+    → (sleeps_in b wait_list.Sleepers post ≡ true → is_starting b visit ≡ true) → count_in u asleep ≡ marked u (sleeps_in b wait_list.Sleepers post)
+    → count_in u senders_in ≡ marked u (sleeps_in b wait_list.Senders post) → count_in u receivers_in ≡ marked u (sleeps_in b wait_list.Receivers post)
+    → count_in u sends ≡ marked u (is_lined b Senders visit) → count_in u receives ≡ marked u (is_lined b Receivers visit)
+    → PairOf b u busy asleep senders_in receivers_in sends receives g visit post
+paired owner inside starts sleepers senders receivers send_line receive_line = record {
+  owner = owner;
+  inside = inside;
+  starts = starts;
+  sleepers = sleepers;
+  senders = senders;
+  receivers = receivers;
+  send_line = send_line;
+  receive_line = receive_line;
+}
 
 -- Marks and counts.
 
@@ -190,93 +215,42 @@ not_mine u t o owner other mine = refuted other (subst (λ x. same_tid t x ≡ t
 
 module _ (setup : Setup) (c : CpuId) (b : BufId) (u t : Tid) (other : same_tid t u ≡ false) (visit : Visit) (post : Where) where
   other_acquire : (k : Buffer) (g : Progress) (o : Option Tid) → k.busy ≡ o → Pair b u k g visit post → Pair b u (acquired t o k) g visit post
-  other_acquire k g None is pair = record {
-    owner = λ e. not_mine u t (Some t) refl other e;
-    inside = λ ins awake. none_is_not (sym is ∙ pair.inside ins awake);
-    starts = pair.starts;
-    sleepers = pair.sleepers;
-    senders = pair.senders;
-    receivers = pair.receivers;
-    send_line = pair.send_line;
-    receive_line = pair.receive_line;
-  }
-  other_acquire k g (Some owner) is pair = record {
-    owner = pair.owner;
-    inside = pair.inside;
-    starts = pair.starts;
-    sleepers = other_joined u t k.sleepers other ∙ pair.sleepers;
-    senders = pair.senders;
-    receivers = pair.receivers;
-    send_line = pair.send_line;
-    receive_line = pair.receive_line;
-  }
+  other_acquire k g None is pair = paired (λ e. not_mine u t (Some t) refl other e) (λ ins awake. none_is_not (sym is ∙ pair.inside ins awake)) pair.starts
+      pair.sleepers pair.senders pair.receivers pair.send_line pair.receive_line
+  other_acquire k g (Some owner) is pair = paired pair.owner pair.inside pair.starts (other_joined u t k.sleepers other ∙ pair.sleepers) pair.senders
+      pair.receivers pair.send_line pair.receive_line
 
   -- the lines and the owner's progress alone are changed
   with_lines : (k : Buffer) (g h : Progress) → k.busy ≡ Some t → Pair b u k g visit post
       → (sends receives : List Tid) → count_in u sends ≡ count_in u k.send_line → count_in u receives ≡ count_in u k.receive_line
       → Pair b u (record k { send_line = sends; receive_line = receives }) h visit post
-  with_lines k g h owner pair sends receives same_sends same_receives = record {
-    owner = λ e. not_mine u t k.busy owner other e;
-    inside = pair.inside;
-    starts = pair.starts;
-    sleepers = pair.sleepers;
-    senders = pair.senders;
-    receivers = pair.receivers;
-    send_line = same_sends ∙ pair.send_line;
-    receive_line = same_receives ∙ pair.receive_line;
-  }
-
-  -- nor do the items and the counters matter
-  with_items : (k : Buffer) (g : Progress) (items : List Message) (e s r : ℕ) → Pair b u k g visit post
-      → Pair b u (record k { items = items; effects = e; send_positions = s; receive_positions = r }) g visit post
-  with_items k g items e s r pair = record {
-    owner = pair.owner;
-    inside = pair.inside;
-    starts = pair.starts;
-    sleepers = pair.sleepers;
-    senders = pair.senders;
-    receivers = pair.receivers;
-    send_line = pair.send_line;
-    receive_line = pair.receive_line;
-  }
+  with_lines k g h owner pair sends receives same_sends same_receives = paired (λ e. not_mine u t k.busy owner other e) pair.inside pair.starts pair.sleepers
+      pair.senders pair.receivers (same_sends ∙ pair.send_line) (same_receives ∙ pair.receive_line)
 
   other_enter : (k : Buffer) (g : Progress) (side : Side) (joins : Bool) → k.busy ≡ Some t → Pair b u k g visit post
       → Pair b u (if joins then entered t side k else k) (HasEntered side) visit post
   other_enter k g Senders true owner pair =
-      let grown = with_lines k g (HasEntered Senders) owner pair (k.send_line ++ t ∷ []) k.receive_line (count_behind u t k.send_line other) refl in
-      with_items _ (HasEntered Senders) k.items k.effects (entered t Senders k).send_positions k.receive_positions grown
+      with_lines k g (HasEntered Senders) owner pair (k.send_line ++ t ∷ []) k.receive_line (count_behind u t k.send_line other) refl
   other_enter k g Receivers true owner pair =
-      let grown = with_lines k g (HasEntered Receivers) owner pair k.send_line (k.receive_line ++ t ∷ []) refl (count_behind u t k.receive_line other) in
-      with_items _ (HasEntered Receivers) k.items k.effects k.send_positions (entered t Receivers k).receive_positions grown
+      with_lines k g (HasEntered Receivers) owner pair k.send_line (k.receive_line ++ t ∷ []) refl (count_behind u t k.receive_line other)
   other_enter k g side false owner pair = with_lines k g (HasEntered side) owner pair k.send_line k.receive_line refl refl
 
   other_put : (k : Buffer) (g : Progress) (m : Message) (may : Bool) → may_put t k ≡ may → k.busy ≡ Some t → Pair b u k g visit post
       → Pair b u (if may then put m k else k) (if may then Owes true true else WasRefused Senders) visit post
   other_put k g m true is owner pair =
       let front = (and_parts (is_first t k.send_line) (can_put k) is).0 in
-      let left = with_lines k g (Owes true true) owner pair (rest k.send_line) k.receive_line (other_left u t k.send_line front other) refl in
-      with_items _ (Owes true true) (put m k).items (put m k).effects k.send_positions k.receive_positions left
+      with_lines k g (Owes true true) owner pair (rest k.send_line) k.receive_line (other_left u t k.send_line front other) refl
   other_put k g m false is owner pair = with_lines k g (WasRefused Senders) owner pair k.send_line k.receive_line refl refl
 
   other_take : (k : Buffer) (g : Progress) (may : Bool) → may_take t k ≡ may → k.busy ≡ Some t → Pair b u k g visit post
       → Pair b u (if may then taken k else k) (if may then Owes true true else WasRefused Receivers) visit post
   other_take k g true is owner pair =
       let front = (and_parts (is_first t k.receive_line) (can_take k) is).0 in
-      let left = with_lines k g (Owes true true) owner pair k.send_line (rest k.receive_line) refl (other_left u t k.receive_line front other) in
-      with_items _ (Owes true true) (taken k).items (taken k).effects k.send_positions k.receive_positions left
+      with_lines k g (Owes true true) owner pair k.send_line (rest k.receive_line) refl (other_left u t k.receive_line front other)
   other_take k g false is owner pair = with_lines k g (WasRefused Receivers) owner pair k.send_line k.receive_line refl refl
 
   other_shut : (k : Buffer) (g : Progress) → k.busy ≡ Some t → Pair b u k g visit post → Pair b u (shut k) (Owes true true) visit post
-  other_shut k g owner pair = record {
-    owner = λ e. not_mine u t k.busy owner other e;
-    inside = pair.inside;
-    starts = pair.starts;
-    sleepers = pair.sleepers;
-    senders = pair.senders;
-    receivers = pair.receivers;
-    send_line = pair.send_line;
-    receive_line = pair.receive_line;
-  }
+  other_shut k g owner pair = with_lines k g (Owes true true) owner pair k.send_line k.receive_line refl refl
 
   other_release : (k : Buffer) (g : Progress) → k.busy ≡ Some t → Pair b u k g visit post
       → Pair b u (released k) Begins visit (if is_thread u (first k.sleepers) then post_woken setup c u else post)
@@ -290,48 +264,20 @@ module _ (setup : Setup) (c : CpuId) (b : BufId) (u t : Tid) (other : same_tid t
           let on = (first_sleeps b u k g visit post pair is).1 in
           let no_lock = woken_awake b wait_list.Sleepers (same_cpu (home_of setup u) c) c in
           let start = start_inside b visit (pair.starts on) in
-          record {
-            owner = λ e. (start.0, start.1, no_lock);
-            inside = λ ins awake. thread_some u (first k.sleepers) is;
-            starts = λ now. refuted no_lock now;
-            sleepers = first_left u k.sleepers most ∙ ap (λ x. if x then 0 else count_in u k.sleepers) is ∙ sym (marked_none u _ no_lock);
-            senders = pair.senders ∙ ap (marked u) (one_list b wait_list.Sleepers wait_list.Senders post refl on ∙ sym (woken_awake b wait_list.Senders (same_cpu (home_of setup u) c) c));
-            receivers = pair.receivers ∙ ap (marked u) (one_list b wait_list.Sleepers wait_list.Receivers post refl on ∙ sym (woken_awake b wait_list.Receivers (same_cpu (home_of setup u) c) c));
-            send_line = pair.send_line;
-            receive_line = pair.receive_line;
-          }
-      by_test false is = record {
-        owner = λ e. refuted is (ap (is_thread u) e ∙ same_tid_self u);
-        inside = λ ins awake. not_mine u t k.busy owner other (pair.inside ins awake);
-        starts = pair.starts;
-        sleepers = first_left u k.sleepers most ∙ ap (λ x. if x then 0 else count_in u k.sleepers) is ∙ pair.sleepers;
-        senders = pair.senders;
-        receivers = pair.receivers;
-        send_line = pair.send_line;
-        receive_line = pair.receive_line;
-      }
+          paired (λ e. (start.0, start.1, no_lock)) (λ ins awake. thread_some u (first k.sleepers) is) (λ now. refuted no_lock now)
+          (first_left u k.sleepers most ∙ ap (λ x. if x then 0 else count_in u k.sleepers) is ∙ sym (marked_none u _ no_lock))
+          (pair.senders ∙ ap (marked u) (one_list b wait_list.Sleepers wait_list.Senders post refl on ∙ sym (woken_awake b wait_list.Senders (same_cpu (home_of setup u) c) c)))
+          (pair.receivers ∙ ap (marked u) (one_list b wait_list.Sleepers wait_list.Receivers post refl on ∙ sym (woken_awake b wait_list.Receivers (same_cpu (home_of setup u) c) c)))
+          pair.send_line pair.receive_line
+      by_test false is = paired (λ e. refuted is (ap (is_thread u) e ∙ same_tid_self u)) (λ ins awake. not_mine u t k.busy owner other (pair.inside ins awake))
+          pair.starts (first_left u k.sleepers most ∙ ap (λ x. if x then 0 else count_in u k.sleepers) is ∙ pair.sleepers) pair.senders pair.receivers
+          pair.send_line pair.receive_line
 
   with_waiting : (k : Buffer) (g : Progress) (side : Side) → Pair b u k g visit post → Pair b u (waiting t side k) g visit post
-  with_waiting k g Senders pair = record {
-    owner = pair.owner;
-    inside = pair.inside;
-    starts = pair.starts;
-    sleepers = pair.sleepers;
-    senders = other_joined u t k.waiting_senders other ∙ pair.senders;
-    receivers = pair.receivers;
-    send_line = pair.send_line;
-    receive_line = pair.receive_line;
-  }
-  with_waiting k g Receivers pair = record {
-    owner = pair.owner;
-    inside = pair.inside;
-    starts = pair.starts;
-    sleepers = pair.sleepers;
-    senders = pair.senders;
-    receivers = other_joined u t k.waiting_receivers other ∙ pair.receivers;
-    send_line = pair.send_line;
-    receive_line = pair.receive_line;
-  }
+  with_waiting k g Senders pair = paired pair.owner pair.inside pair.starts pair.sleepers (other_joined u t k.waiting_senders other ∙ pair.senders)
+      pair.receivers pair.send_line pair.receive_line
+  with_waiting k g Receivers pair = paired pair.owner pair.inside pair.starts pair.sleepers pair.senders
+      (other_joined u t k.waiting_receivers other ∙ pair.receivers) pair.send_line pair.receive_line
 
   other_wait : (k : Buffer) (g : Progress) (side : Side) → k.busy ≡ Some t → Pair b u k g visit post
       → Pair b u (released (waiting t side k)) Begins visit (if is_thread u (first k.sleepers) then post_woken setup c u else post)
@@ -347,28 +293,14 @@ module _ (setup : Setup) (c : CpuId) (b : BufId) (u t : Tid) (other : same_tid t
           let on = (due_receives b u k g visit post pair is).1 in
           let off = one_list b wait_list.Receivers wait_list.Sleepers post refl on in
           let no_lock = woken_awake b wait_list.Sleepers (same_cpu (home_of setup u) c) c in
-          record {
-            owner = λ e. not_mine u t k.busy owner other e;
-            inside = λ ins awake. pair.inside ins off;
-            starts = λ now. refuted no_lock now;
-            sleepers = pair.sleepers ∙ ap (marked u) (off ∙ sym no_lock);
-            senders =
-                pair.senders ∙ ap (marked u) (one_list b wait_list.Receivers wait_list.Senders post refl on ∙ sym (woken_awake b wait_list.Senders (same_cpu (home_of setup u) c) c));
-            receivers = signal_left u (due_receiver k) k.waiting_receivers ∙ ap (λ x. if x then 0 else count_in u k.waiting_receivers) is
-                ∙ sym (marked_none u _ (woken_awake b wait_list.Receivers (same_cpu (home_of setup u) c) c));
-            send_line = pair.send_line;
-            receive_line = pair.receive_line;
-          }
-      by_test false is = record {
-        owner = λ e. not_mine u t k.busy owner other e;
-        inside = pair.inside;
-        starts = pair.starts;
-        sleepers = pair.sleepers;
-        senders = pair.senders;
-        receivers = signal_left u (due_receiver k) k.waiting_receivers ∙ ap (λ x. if x then 0 else count_in u k.waiting_receivers) is ∙ pair.receivers;
-        send_line = pair.send_line;
-        receive_line = pair.receive_line;
-      }
+          paired (λ e. not_mine u t k.busy owner other e) (λ ins awake. pair.inside ins off) (λ now. refuted no_lock now)
+          (pair.sleepers ∙ ap (marked u) (off ∙ sym no_lock))
+          (pair.senders ∙ ap (marked u) (one_list b wait_list.Receivers wait_list.Senders post refl on ∙ sym (woken_awake b wait_list.Senders (same_cpu (home_of setup u) c) c)))
+          (signal_left u (due_receiver k) k.waiting_receivers ∙ ap (λ x. if x then 0 else count_in u k.waiting_receivers) is ∙ sym (marked_none u _ (woken_awake b wait_list.Receivers (same_cpu (home_of setup u) c) c)))
+          pair.send_line pair.receive_line
+      by_test false is = paired (λ e. not_mine u t k.busy owner other e) pair.inside pair.starts pair.sleepers pair.senders
+          (signal_left u (due_receiver k) k.waiting_receivers ∙ ap (λ x. if x then 0 else count_in u k.waiting_receivers) is ∙ pair.receivers) pair.send_line
+          pair.receive_line
 
   other_sig_send : (k : Buffer) (g h : Progress) → k.busy ≡ Some t → Pair b u k g visit post
       → Pair b u (edited_buffer (SigSend t) k) h visit (if is_thread u (due_sender k) then post_woken setup c u else post)
@@ -379,28 +311,14 @@ module _ (setup : Setup) (c : CpuId) (b : BufId) (u t : Tid) (other : same_tid t
           let on = (due_sends b u k g visit post pair is).1 in
           let off = one_list b wait_list.Senders wait_list.Sleepers post refl on in
           let no_lock = woken_awake b wait_list.Sleepers (same_cpu (home_of setup u) c) c in
-          record {
-            owner = λ e. not_mine u t k.busy owner other e;
-            inside = λ ins awake. pair.inside ins off;
-            starts = λ now. refuted no_lock now;
-            sleepers = pair.sleepers ∙ ap (marked u) (off ∙ sym no_lock);
-            senders = signal_left u (due_sender k) k.waiting_senders ∙ ap (λ x. if x then 0 else count_in u k.waiting_senders) is
-                ∙ sym (marked_none u _ (woken_awake b wait_list.Senders (same_cpu (home_of setup u) c) c));
-            receivers = pair.receivers ∙ ap (marked u) (one_list b wait_list.Senders wait_list.Receivers post refl on
-                ∙ sym (woken_awake b wait_list.Receivers (same_cpu (home_of setup u) c) c));
-            send_line = pair.send_line;
-            receive_line = pair.receive_line;
-          }
-      by_test false is = record {
-        owner = λ e. not_mine u t k.busy owner other e;
-        inside = pair.inside;
-        starts = pair.starts;
-        sleepers = pair.sleepers;
-        senders = signal_left u (due_sender k) k.waiting_senders ∙ ap (λ x. if x then 0 else count_in u k.waiting_senders) is ∙ pair.senders;
-        receivers = pair.receivers;
-        send_line = pair.send_line;
-        receive_line = pair.receive_line;
-      }
+          paired (λ e. not_mine u t k.busy owner other e) (λ ins awake. pair.inside ins off) (λ now. refuted no_lock now)
+          (pair.sleepers ∙ ap (marked u) (off ∙ sym no_lock))
+          (signal_left u (due_sender k) k.waiting_senders ∙ ap (λ x. if x then 0 else count_in u k.waiting_senders) is ∙ sym (marked_none u _ (woken_awake b wait_list.Senders (same_cpu (home_of setup u) c) c)))
+          (pair.receivers ∙ ap (marked u) (one_list b wait_list.Senders wait_list.Receivers post refl on ∙ sym (woken_awake b wait_list.Receivers (same_cpu (home_of setup u) c) c)))
+          pair.send_line pair.receive_line
+      by_test false is = paired (λ e. not_mine u t k.busy owner other e) pair.inside pair.starts pair.sleepers
+          (signal_left u (due_sender k) k.waiting_senders ∙ ap (λ x. if x then 0 else count_in u k.waiting_senders) is ∙ pair.senders) pair.receivers
+          pair.send_line pair.receive_line
 
 by_acquire : (setup : Setup) (c : CpuId) (u : Tid) (o : Option Tid) (x : Where)
     → (if is_thread u (answer_of_acquire o).woke then post_woken setup c u else x) ≡ x

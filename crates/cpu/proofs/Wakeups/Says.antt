@@ -5,7 +5,7 @@ use Rattle.std.proofs.lemmas.{Bool.cases_lt, List.set_past}
 use Rattle.event_log.specs.{declared.ids.CpuId.CpuId, declared.ids.Tid.Tid, Actions.Action, History.same_cpu, Messages.no_message, Runs.Group, Runs.Sends}
 use Rattle.event_log.specs.{Runs.Receives, Runs.Closes}
 use Rattle.guest.specs.{declared.instructions.Instruction.Instruction, State.State, State.next_of, State.message_from, State.after_yield}
-use Rattle.guest.specs.declared.instructions.Instruction.TheVariants.{Set, Add, Sub, Jnz, Send, Recv, Close, Yield as YieldLine, Exit}
+use Rattle.guest.specs.declared.instructions.Instruction.TheVariants.{Set, Send, Recv, Close, Yield as YieldLine, Exit}
 use Rattle.thread_blocks.specs.Queues.{same_tid}
 use Rattle.thread_blocks.proofs.Members.{same_tid_true}
 use Rattle.layer_traits.specs.{declared.steps.Reason.TheVariants.AllEnded, declared.steps.Reason.TheVariants.TraceFull, Plans.reply}
@@ -94,21 +94,13 @@ module _ (setup : Setup) (c : CpuId) where
           fine_call p t call (record call { position = pos; stage = Tries }) known fine is
           (λ says e. let said = says (ap is_before at) in (said.0, said.1, line))
       by_report line Nothing = fine
-      by_report line (Done op m) = fine
-      by_report line (WasClosed op) = fine
-      by_report line (DidShut op pos) = fine
-      by_report line NotYet = fine
-      by_report line (Drained threads) = fine
+      by_report line other = fine
 
       by_shut : (told : Reported) → AllFine setup (recorded_shut c p t call told)
       by_shut (DidShut op pos) =
           fine_call p t call (record call { position = pos; effect = Some op; stage = Signals }) known fine is (λ says e. absurd (cc e))
       by_shut (Position pos) = fine
-      by_shut Nothing = fine
-      by_shut (Done op m) = fine
-      by_shut (WasClosed op) = fine
-      by_shut NotYet = fine
-      by_shut (Drained threads) = fine
+      by_shut other = fine
 
       by_asks : (asks : Group) → call.asks ≡ asks → (told : Reported) → AllFine setup (recorded_entry c p t call asks told)
       by_asks Closes asked told = by_shut told
@@ -237,9 +229,7 @@ module _ (setup : Setup) (c : CpuId) where
           says = subst (Says (program_of setup t) (thread_at p t).guest) (sym outside) tt;
         })
     fine_instruction t runs_now outside (Set r n) at = fine_guest t outside _
-    fine_instruction t runs_now outside (Add r q) at = fine_guest t outside _
-    fine_instruction t runs_now outside (Sub r q) at = fine_guest t outside _
-    fine_instruction t runs_now outside (Jnz r k) at = fine_guest t outside _
+    fine_instruction t runs_now outside other at = fine_guest t outside _
 
     pub fine_choice : FineChoice (choice setup c p)
     fine_choice = by_hand p.hand

@@ -366,9 +366,7 @@ hand_not_home c x on = refl
 
 pub drained_hand : (c : CpuId) (x : Where) → is_hand c (post_drained x) ≡ is_hand c x
 drained_hand c Home = refl
-drained_hand c (Hand d) = refl
-drained_hand c (IsPending q) = refl
-drained_hand c (Asleep p) = refl
+drained_hand c other = refl
 
 drained_stays_home : (x : Where) → is_home x ≡ true → is_home (post_drained x) ≡ true
 drained_stays_home (Hand d) on = absurd (cc on)

@@ -1,13 +1,13 @@
 -- A buffer's block tells its effects after any lawful sections; so each effect may come after those before it.
 use Rattle.std.proofs.Common.{◌≡◌, ℕ, ◌+◌, ◌<◌, ◌%◌, ◌^◌, Bool, true, false, ◌&&◌, ◌==◌, List, [], ◌∷◌, ◌++◌, length, Option, Some, None, option_map}
 use Rattle.std.proofs.Common.{option_to_list, slice_get, slice_set, if◌then◌else◌, refl, ap, sym, ◌∙◌, subst, arith, length-append, lt-ltb}
-use Rattle.std.specs.Prelude.{count_by, nat_lt}
+use Rattle.std.specs.Prelude.{count_by, nat_lt, slice_index}
 use Rattle.std.proofs.lemmas.{Bool.and_right, Bool.eqb-false, Bool.ne_eqb, Bool.or_parts, List.get_or-set_other, List.get_or-set_same, List.length-map}
 use Rattle.std.proofs.lemmas.{List.length-set, Option.get_or_from_slice_get, Option.slice_get_within}
 use Rattle.event_log.specs.declared.entries.{Entry.Entry, Kind.Kind, Kind.TheVariants.Send, Kind.TheVariants.Recv, Kind.TheVariants.Close}
 use Rattle.event_log.specs.{declared.ids.BufId.BufId, declared.ids.CpuId.CpuId, declared.ids.LockId.LockId, declared.ids.LockId.TheVariants.Buffer}
 use Rattle.event_log.specs.{declared.ids.Tid.Tid, Buffers.after_effect, Buffers.items_of, History.IsLawful, History.same_lock, Messages.Message}
-use Rattle.event_log.specs.{Messages.no_message, Runs.count_of, Runs.count_of_kind, Runs.group_of, Runs.kind_eq, Runs.same_group}
+use Rattle.event_log.specs.{Messages.no_message, Runs.count_of, Runs.count_of_kind, Runs.group_of, Runs.is_closed, Runs.kind_eq, Runs.same_group}
 use Rattle.event_log.proofs.{Same.same_lock_self, Same.same_lock_true, RunLemmas.count_cons, RunLemmas.counts_here, RunLemmas.items_none, RunLemmas.kind_cons}
 use Rattle.event_log.proofs.{RunLemmas.kinds_here}
 use Rattle.layer_traits.specs.declared.buffer_edits.BufferEdit.{BufferEdit, TheVariants.Enter, TheVariants.TryPut, TheVariants.TryTake, TheVariants.Shut}
@@ -84,56 +84,50 @@ counted_here e es b kind of v here is alike =
     kinds_here e es b kind here ∙ ap (λ k. (if kind_eq k kind then 1 else 0) + count_of_kind es b kind) is
     ∙ ap (λ (w : Bool). (if w then 1 else 0) + count_of_kind es b kind) alike
 
+-- a tally from its parts, in their order
+tallied : {caps : List ℕ} {b : ℕ} {es : List Entry} {position : Side → Tid → ℕ} {x : BufferState} → b < length caps
+    → length (contents_of caps es) ≡ length caps → items_of (contents_of caps es) b ≡ x.items → slice_index caps b ≡ x.capacity → is_closed es b ≡ x.closed
+    → x.closes ≡ count_of_kind es b Close % 2 ^ 64 → x.effects ≡ count_of es b % 2 ^ 64
+    → ((side : Side) → drawn_of side x ≡ (count_of_kind es b (kind_on side) + length (line_of side x)) % 2 ^ 64)
+    → ((side : Side) → IsNumbered (position side) (count_of_kind es b (kind_on side)) (line_of side x)) → Tally caps b es position x
+tallied known wide items capacity closed closes effects positions numbered = record {
+  known = known;
+  wide = wide;
+  items = items;
+  capacity = capacity;
+  closed = closed;
+  closes = closes;
+  effects = effects;
+  positions = positions;
+  numbered = numbered;
+}
+
 module _ (caps : List ℕ) (b : ℕ) (es : List Entry) where
   -- no effect, or one on another buffer
   elsewhere : (o : Option Entry) → ((e : Entry) → o ≡ Some e → (e.buffer.0 == b) ≡ false) → (p q : Side → Tid → ℕ) (x : BufferState)
       → ((side : Side) (t : Tid) → q side t ≡ p side t)
       → Tally caps b es p x → Tally caps b (option_to_list o ++ es) q x
-  elsewhere None apart p q x same tally = record {
-    known = tally.known;
-    wide = tally.wide;
-    items = tally.items;
-    capacity = tally.capacity;
-    closed = tally.closed;
-    closes = tally.closes;
-    effects = tally.effects;
-    positions = tally.positions;
-    numbered = λ side. numbered_same (p side) (q side) (count_of_kind es b (kind_on side)) (line_of side x) (same side) (tally.numbered side);
-  }
+  elsewhere None apart p q x same tally = tallied tally.known tally.wide tally.items tally.capacity tally.closed tally.closes tally.effects tally.positions
+      (λ side. numbered_same (p side) (q side) (count_of_kind es b (kind_on side)) (line_of side x) (same side) (tally.numbered side))
   elsewhere (Some e) apart p q x same tally =
       let other : (e.buffer.0 == b) ≡ false = apart e refl in
       let count : count_of (e ∷ es) b ≡ count_of es b
       = count_cons e es b ∙ ap (λ (v : Bool). (if v then 1 else 0) + count_of es b) other ∙ omega arith in
       let kinds : (kind : Kind) → count_of_kind (e ∷ es) b kind ≡ count_of_kind es b kind
       = λ kind. kind_cons e es b kind ∙ ap (λ (v : Bool). (if v && kind_eq e.kind kind then 1 else 0) + count_of_kind es b kind) other ∙ omega arith in
-      record {
-        known = tally.known;
-        wide = length-set (contents_of caps es) e.buffer.0 _ ∙ tally.wide;
-        items = get_or-set_other (contents_of caps es) e.buffer.0 b _ [] (λ at. eqb-false e.buffer.0 b other (sym at)) ∙ tally.items;
-        capacity = tally.capacity;
-        closed = ap (nat_lt 0) (kinds Close) ∙ tally.closed;
-        closes = tally.closes ∙ ap (λ n. n % 2 ^ 64) (sym (kinds Close));
-        effects = tally.effects ∙ ap (λ n. n % 2 ^ 64) (sym count);
-        positions = λ side. tally.positions side ∙ ap (λ n. (n + length (line_of side x)) % 2 ^ 64) (sym (kinds (kind_on side)));
-        numbered = λ side. subst (λ n. IsNumbered (q side) n (line_of side x)) (sym (kinds (kind_on side)))
-            (numbered_same (p side) (q side) (count_of_kind es b (kind_on side)) (line_of side x) (same side) (tally.numbered side));
-      }
+      tallied tally.known (length-set (contents_of caps es) e.buffer.0 _ ∙ tally.wide)
+      (get_or-set_other (contents_of caps es) e.buffer.0 b _ [] (λ at. eqb-false e.buffer.0 b other (sym at)) ∙ tally.items) tally.capacity
+      (ap (nat_lt 0) (kinds Close) ∙ tally.closed) (tally.closes ∙ ap (λ n. n % 2 ^ 64) (sym (kinds Close)))
+      (tally.effects ∙ ap (λ n. n % 2 ^ 64) (sym count))
+      (λ side. tally.positions side ∙ ap (λ n. (n + length (line_of side x)) % 2 ^ 64) (sym (kinds (kind_on side))))
+      (λ side. subst (λ n. IsNumbered (q side) n (line_of side x)) (sym (kinds (kind_on side))) (numbered_same (p side) (q side) (count_of_kind es b (kind_on side)) (line_of side x) (same side) (tally.numbered side)))
 
   -- a thread entered a line in which it did not stand
   entered_tally : (p q : Side → Tid → ℕ) (x : BufferState) (u : Tid) (side : Side) → is_in u (line_of side x) ≡ false → q side u ≡ drawn_of side x
       → ((at : Side) (t : Tid) → same_tid u t ≡ false → q at t ≡ p at t) → ((at : Side) → is_in u (line_of at x) ≡ false)
       → Tally caps b es p x → Tally caps b es q (entered side u x)
-  entered_tally p q x u Senders out drew others nowhere tally = record {
-    known = tally.known;
-    wide = tally.wide;
-    items = tally.items;
-    capacity = tally.capacity;
-    closed = tally.closed;
-    closes = tally.closes;
-    effects = tally.effects;
-    positions = λ side. positions_in_line side;
-    numbered = λ side. numbers side;
-  }
+  entered_tally p q x u Senders out drew others nowhere tally = tallied tally.known tally.wide tally.items tally.capacity tally.closed tally.closes
+      tally.effects (λ side. positions_in_line side) (λ side. numbers side)
     where
       positions_in_line : (side : Side)
           → drawn_of side (entered Senders u x) ≡ (count_of_kind es b (kind_on side) + length (line_of side (entered Senders u x))) % 2 ^ 64
@@ -150,17 +144,8 @@ module _ (caps : List ℕ) (b : ℕ) (es : List Entry) where
           numbered_behind (q Senders) (count_of_kind es b Send) u x.send_line
           (numbered_apart (p Senders) (q Senders) (count_of_kind es b Send) u x.send_line out (others Senders) (tally.numbered Senders))
           (drew ∙ tally.positions Senders)
-  entered_tally p q x u Receivers out drew others nowhere tally = record {
-    known = tally.known;
-    wide = tally.wide;
-    items = tally.items;
-    capacity = tally.capacity;
-    closed = tally.closed;
-    closes = tally.closes;
-    effects = tally.effects;
-    positions = λ side. positions_in_line side;
-    numbered = λ side. numbers side;
-  }
+  entered_tally p q x u Receivers out drew others nowhere tally = tallied tally.known tally.wide tally.items tally.capacity tally.closed tally.closes
+      tally.effects (λ side. positions_in_line side) (λ side. numbers side)
     where
       positions_in_line : (side : Side)
           → drawn_of side (entered Receivers u x) ≡ (count_of_kind es b (kind_on side) + length (line_of side (entered Receivers u x))) % 2 ^ 64
@@ -213,17 +198,12 @@ module _ (caps : List ℕ) (b : ℕ) (es : List Entry) where
   step_tally : (e : Entry) → e.buffer.0 ≡ b → (side : Side) (kind : Kind) → e.kind ≡ kind → (u : Tid) (value : Message) → e.value ≡ value
       → (x y : BufferState) → BlockStep side kind u value x y
       → (p q : Side → Tid → ℕ) → ((at : Side) (t : Tid) → q at t ≡ p at t) → Tally caps b es p x → Tally caps b (e ∷ es) q y
-  step_tally e here side kind is_kind u value is_value x y step p q same tally = record {
-    known = tally.known;
-    wide = length-set (contents_of caps es) e.buffer.0 _ ∙ tally.wide;
-    items = left_by e here kind is_kind value is_value x.items tally.known tally.wide tally.items ∙ sym step.items;
-    capacity = tally.capacity ∙ sym step.capacity;
-    closed = ap (nat_lt 0) none_closed ∙ tally.closed ∙ sym step.closed;
-    closes = step.closes ∙ tally.closes ∙ ap (λ n. n % 2 ^ 64) (sym none_closed);
-    effects = step.effects ∙ one_more x.effects (count_of es b) tally.effects ∙ ap (λ n. n % 2 ^ 64) (sym (counts_here e es b here));
-    positions = λ at. step.positions at ∙ positions_now at (same_side side at) refl;
-    numbered = λ at. numbers at (same_side side at) refl;
-  }
+  step_tally e here side kind is_kind u value is_value x y step p q same tally = tallied tally.known
+      (length-set (contents_of caps es) e.buffer.0 _ ∙ tally.wide)
+      (left_by e here kind is_kind value is_value x.items tally.known tally.wide tally.items ∙ sym step.items) (tally.capacity ∙ sym step.capacity)
+      (ap (nat_lt 0) none_closed ∙ tally.closed ∙ sym step.closed) (step.closes ∙ tally.closes ∙ ap (λ n. n % 2 ^ 64) (sym none_closed))
+      (step.effects ∙ one_more x.effects (count_of es b) tally.effects ∙ ap (λ n. n % 2 ^ 64) (sym (counts_here e es b here)))
+      (λ at. step.positions at ∙ positions_now at (same_side side at) refl) (λ at. numbers at (same_side side at) refl)
     where
       none_closed : count_of_kind (e ∷ es) b Close ≡ count_of_kind es b Close
       none_closed = counted_here e es b Close kind false here is_kind (no_close side kind step.counts) ∙ omega arith
@@ -263,17 +243,12 @@ module _ (caps : List ℕ) (b : ℕ) (es : List Entry) where
 
   shut_tally : (e : Entry) → e.buffer.0 ≡ b → e.kind ≡ Close → (x : BufferState) (p q : Side → Tid → ℕ) → ((at : Side) (t : Tid) → q at t ≡ p at t)
       → Tally caps b es p x → Tally caps b (e ∷ es) q (shut x)
-  shut_tally e here closes x p q same tally = record {
-    known = tally.known;
-    wide = length-set (contents_of caps es) e.buffer.0 _ ∙ tally.wide;
-    items = left_by e here Close closes e.value refl x.items tally.known tally.wide tally.items;
-    capacity = tally.capacity;
-    closed = ap (nat_lt 0) more ∙ lt-ltb 0 (1 + count_of_kind es b Close) (omega arith);
-    closes = one_more x.closes (count_of_kind es b Close) tally.closes ∙ ap (λ n. n % 2 ^ 64) (omega (arith, more));
-    effects = one_more x.effects (count_of es b) tally.effects ∙ ap (λ n. n % 2 ^ 64) (sym (counts_here e es b here));
-    positions = λ side. positions_now side;
-    numbered = λ side. numbers side;
-  }
+  shut_tally e here closes x p q same tally = tallied tally.known (length-set (contents_of caps es) e.buffer.0 _ ∙ tally.wide)
+      (left_by e here Close closes e.value refl x.items tally.known tally.wide tally.items) tally.capacity
+      (ap (nat_lt 0) more ∙ lt-ltb 0 (1 + count_of_kind es b Close) (omega arith))
+      (one_more x.closes (count_of_kind es b Close) tally.closes ∙ ap (λ n. n % 2 ^ 64) (omega (arith, more)))
+      (one_more x.effects (count_of es b) tally.effects ∙ ap (λ n. n % 2 ^ 64) (sym (counts_here e es b here))) (λ side. positions_now side)
+      (λ side. numbers side)
     where
       more : count_of_kind (e ∷ es) b Close ≡ 1 + count_of_kind es b Close
       more = counted_here e es b Close Close true here closes refl
@@ -387,17 +362,8 @@ module _ (caps : List ℕ) (b : ℕ) (es : List Entry) where
 
       go : (v : Bool) → Tally caps b es q (if v then entered side u lock.above else lock.above)
       go true = entered_tally p q lock.above u side (nowhere side) drew others nowhere tally
-      go false = record {
-        known = tally.known;
-        wide = tally.wide;
-        items = tally.items;
-        capacity = tally.capacity;
-        closed = tally.closed;
-        closes = tally.closes;
-        effects = tally.effects;
-        positions = tally.positions;
-        numbered = λ to. numbered_apart (p to) (q to) (count_of_kind es b (kind_on to)) u (line_of to lock.above) (nowhere to) (others to) (tally.numbered to);
-      }
+      go false = tallied tally.known tally.wide tally.items tally.capacity tally.closed tally.closes tally.effects tally.positions
+          (λ to. numbered_apart (p to) (q to) (count_of_kind es b (kind_on to)) u (line_of to lock.above) (nowhere to) (others to) (tally.numbered to))
 
 placed_as : (cpu : CpuId) (d : BufId) (t : Tid) (kind : Kind) (m : Message) (op pos : ℕ) (v : Bool) (e : Entry)
     → (if v then Some (entry cpu t kind d m op pos) else None) ≡ Some e → IsPlaced cpu d e
@@ -555,17 +521,8 @@ start_tallied : (caps : List ℕ) (b : BufId) (o : Option ℕ) (lock : BufferLoc
 start_tallied caps b None lock is at p = absurd cc
 start_tallied caps b (Some n) lock is at p =
     let same : fresh_lock n ≡ lock = cc in
-    subst (λ (y : BufferLock). Tally caps b.0 [] p y.above) same (record {
-      known = slice_get_within caps b.0 n is;
-      wide = length-map caps (λ (m : ℕ). no_items);
-      items = items_none caps b.0;
-      capacity = get_or_from_slice_get caps b.0 n 0 is;
-      closed = refl;
-      closes = refl;
-      effects = refl;
-      positions = λ side. start_positions side;
-      numbered = λ side. start_numbers side;
-    })
+    subst (λ (y : BufferLock). Tally caps b.0 [] p y.above) same (tallied (slice_get_within caps b.0 n is) (length-map caps (λ (m : ℕ). no_items))
+    (items_none caps b.0) (get_or_from_slice_get caps b.0 n 0 is) refl refl refl (λ side. start_positions side) (λ side. start_numbers side))
   where
     start_positions : (side : Side) → drawn_of side (empty_block n) ≡ (count_of_kind [] b.0 (kind_on side) + length (line_of side (empty_block n))) % 2 ^ 64
     start_positions Receivers = refl

@@ -15,10 +15,8 @@ module _ {P Q F R B O : Type 0} (rules : LockRules F R B O) (opening : LockId �
 
   -- what is told of a block with its waiting lists is told of its lock
   pub locks_shown : (b : BufId) (tells : P → Option (SleepState (QBlock B))) (home : Option (SleepState (QBlock B)))
-      → IsObserved FitsP cpu_below MayHold tells home
-      (block_after (sleep_edited (busy_rules rules)) (inner opening) (Buffer b) (buffer_sections past))
-      → IsObserved FitsQ (λ q. cpu_below (below q)) MayHold
-      (λ q. option_map nested_lock_of (tells (below q))) (option_map nested_lock_of home)
+      → IsObserved FitsP cpu_below MayHold tells home (block_after (sleep_edited (busy_rules rules)) (inner opening) (Buffer b) (buffer_sections past))
+      → IsObserved FitsQ (λ q. cpu_below (below q)) MayHold (λ q. option_map nested_lock_of (tells (below q))) (option_map nested_lock_of home)
       (lock_after rules (inner (viewed nested_lock_of opening)) (Buffer b) (buffer_sections (renamed_events edit_in past)))
   locks_shown b tells home shown =
       let truth = block_after (sleep_edited (busy_rules rules)) (inner opening) (Buffer b) (buffer_sections past) in

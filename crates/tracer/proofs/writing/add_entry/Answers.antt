@@ -1,16 +1,13 @@
 use Rattle.std.proofs.Common.{◌≡◌, ◌+◌, ◌-◌, ◌≤◌, length, arith}
 use Rattle.std.proofs.lemmas.List.{drop-set, drop_all}
-use Rattle.event_log.specs.declared.entries.Kind.{Kind, TheVariants.Send, TheVariants.Recv, TheVariants.Close, TheVariants.SendClosed, TheVariants.RecvClosed}
+use Rattle.event_log.specs.declared.entries.Kind.{Kind, TheVariants.Send}
 use Rattle.tracer.specs.TraceText.{kind_word}
 use Rattle.tracer.proofs.LineLemmas.{line_end}
 use Rattle.tracer.proofs.writing.add_entry.Goals as goal
 
 kind_word_short : (k : Kind) → length (kind_word k) ≤ 5
 kind_word_short Send = omega arith
-kind_word_short Recv = omega arith
-kind_word_short Close = omega arith
-kind_word_short SendClosed = omega arith
-kind_word_short RecvClosed = omega arith
+kind_word_short other = omega arith
 
 pub returns-clause-line : goal.returns-clause-line
 returns-clause-line c =

@@ -1,7 +1,7 @@
-use Rattle.std.proofs.Common.{ap, subst, refl, ◌∙◌}
+use Rattle.std.proofs.Common.{ap, subst, refl}
 use Rattle.event_log.specs.declared.ids.CpuId.{CpuId}
 use Rattle.layer_traits.specs.Looks.{Tries}
-use Rattle.cpu.proofs.{CpuStates.valid_cpu, Passing.look_grows, Passing.others_same, Passing.others_grow, Schedules.seen_stays, TableCalls.looked_steps}
+use Rattle.cpu.proofs.{CpuStates.valid_cpu, Layered.left_framed, Passing.look_grows, Passing.others_same, Passing.others_grow, Schedules.seen_stays, TableCalls.looked_steps}
 use Rattle.cpu.proofs.cpus.Cpu.look.Goals as goal
 
 pub returns-clause-is : goal.returns-clause-is
@@ -21,25 +21,12 @@ returns-clause-leaves g c =
     let I = g.I.CallLayer in
     let m = c.args.m.now in
     let e = c.look.ensures in
-    record {
-      number = refl;
-      limit = refl;
-      cpu = e.framed.cpu ∙ c.requires.number;
-      programs = refl;
-      seen = others_grow _ _ _ _ e.seen;
-      moves = rw c.requires.number at e.moves;
-      grows = λ step. look_grows (λ d. I.ActsFor m d) c.args.self.now.number (I.acts m) (I.acts c.look.new.m) c.look.result
-          (λ looked. subst (λ (d : CpuId). Tries (λ e. I.ActsFor m e) d (I.acts m) (I.acts c.look.new.m)) c.requires.number (e.tries step looked))
-          (λ no. ap I.acts (e.still no).1);
-      opening = e.framed.stays.opening;
-      caps = e.caps;
-      homes = e.homes;
-      site = e.framed.stays.site;
-      room = e.framed.stays.room;
-      acts = e.framed.stays.acts;
-      others = λ q apart fits. e.framed.others q (rw c.requires.number apart) fits;
-      holders = λ d apart acts holds. e.framed.holders d (rw c.requires.number apart) acts holds;
-    }
+    left_framed I m c.look.new.m c.args.self.now _ c.requires.number refl refl e.framed e.caps e.homes
+    refl (others_grow _ _ _ _ e.seen)
+    (rw c.requires.number at e.moves)
+    (λ step. look_grows (λ d. I.ActsFor m d) c.args.self.now.number (I.acts m) (I.acts c.look.new.m) c.look.result
+    (λ looked. subst (λ (d : CpuId). Tries (λ e. I.ActsFor m e) d (I.acts m) (I.acts c.look.new.m)) c.requires.number (e.tries step looked))
+    (λ no. ap I.acts (e.still no).1))
 
 pub returns-clause-table : goal.returns-clause-table
 returns-clause-table g c = λ step.

@@ -1,33 +1,33 @@
-use Rattle.std.proofs.Common.{rules, ◌≡◌, true, false, ◌++◌, Option, is_some, ap, sym, refl, ◌∙◌, subst, if◌then◌else◌}
+use Rattle.std.proofs.Common.{rules, ◌≡◌, true, false, ◌++◌, List, Option, is_some, ap, sym, refl, ◌∙◌, subst, if◌then◌else◌}
 use Rattle.event_log.specs.declared.ids.{CpuId.CpuId, Tid.Tid}
 use Rattle.layer_traits.specs.{Places.pending_by, QueueBlocks.homes_in, BufferLaw.MovesGrow}
 use Rattle.cpu.specs.Cpus.{ActsGrow, passed_by, programs_of}
 use Rattle.cpu.proofs.Passing.{under_way_done, under_way_waits, follows_grow, others_same, programs_passed, passed_grows, others_grow}
 use Rattle.cpu.proofs.{Schedules.current_within, Schedules.may_pass, Schedules.noted_done, Schedules.noted_wait, TableCalls.ObservedPass}
 use Rattle.cpu.proofs.{TableCalls.hand_preserved, TableCalls.passed_steps, TableCalls.passed_tabled, CpuStates.valid_cpu, Layered.acts_for, Layered.laws_of}
-use Rattle.cpu.proofs.{Layered.layered, Layered.runs_home, Layered.observed_cpu, Layered.observed_outset, cpus.Cpu.pass.Given.Over}
+use Rattle.cpu.specs.declared.guests.Guest.{Guest}
+use Rattle.cpu.proofs.{Layered.IsLayered, Layered.layered, Layered.left_framed, Layered.runs_home, Layered.observed_cpu, Layered.observed_outset, cpus.Cpu.pass.Given.Over}
+use Rattle.cpu.proofs.cpus.Cpu.pass.Goals.{Start, After-pass-done, After-note_pass, Else-is_some}
 use Rattle.cpu.proofs.cpus.Cpu.pass.Goals as goal
+
+-- the CPU over its layers
+abbrev cpu : (g : Over) (c : Start g) → IsLayered g.I.CallLayer c.args.m.now c.args.self.now
+cpu g c = layered (laws_of g.met.I.CallLayer) c.args.m.now c.args.self.now c.requires.fits c.requires.number c.requires.is c.requires.table
 
 pub pass-done-requires-clause-may : goal.pass-done-requires-clause-may
 pass-done-requires-clause-may g c =
-    let m = c.args.m.now in
-    let p = c.args.self.now in
-    let cpu = layered (laws_of g.met.I.CallLayer) m p c.requires.fits c.requires.number c.requires.is c.requires.table in
-    may_pass (valid_cpu c.requires.is) c.args.pass (runs_home cpu) c.requires.chosen
+    may_pass (valid_cpu c.requires.is) c.args.pass (runs_home (cpu g (goal.at.pass-done-requires-clause-may g c).Start)) c.requires.chosen
 
 pub note_pass-requires : goal.note_pass-requires
 note_pass-requires g c = λ t runs.
-    let m = c.args.m.now in
-    let p = c.args.self.now in
-    let cpu = layered (laws_of g.met.I.CallLayer) m p c.requires.fits c.requires.number c.requires.is c.requires.table in
-    current_within (valid_cpu c.requires.is) (runs_home cpu) t (sym c.current-runs.ensures ∙ runs)
+    current_within (valid_cpu c.requires.is) (runs_home (cpu g (goal.at.note_pass-requires g c).Start)) t (sym c.current-runs.ensures ∙ runs)
 
 pub returns-then-is_some-clause-is : goal.returns-then-is_some-clause-is
 returns-then-is_some-clause-is g c =
     let I = g.I.CallLayer in
     let m = c.args.m.now in
     let p = c.args.self.now in
-    let cpu = layered (laws_of g.met.I.CallLayer) m p c.requires.fits c.requires.number c.requires.is c.requires.table in
+    let cpu = cpu g (goal.at.returns-then-is_some-clause-is g c).Start in
     let some : is_some c.pass-done.result ≡ true = search rules in
     let told = c.pass-done.ensures.passed in
     rw (c.pass-done.ensures.homes, c.pass-done.ensures.caps, c.pass-done.ensures.call_states)
@@ -43,32 +43,19 @@ returns-then-is_some-clause-leaves g c =
     let I = g.I.CallLayer in
     let m = c.args.m.now in
     let e = c.pass-done.ensures in
-    record {
-      number = refl;
-      limit = refl;
-      cpu = e.framed.cpu ∙ c.requires.number;
-      programs = ap programs_of c.note_pass.ensures ∙ programs_passed c.current-runs.result c.args.self.now.guests.items c.args.pass;
-      seen = others_grow _ _ _ _ e.seen;
-      moves = subst (λ (d : CpuId). MovesGrow (λ e. I.ActsFor m e) d (I.moves m) (I.moves c.pass-done.new.m)) c.requires.number
-          (passed_grows _ _ _ _ _ _ _ _ _ e.passed);
-      grows = λ step. subst (λ (d : CpuId). ActsGrow (λ e. I.ActsFor m e) d (I.acts m) (I.acts c.pass-done.new.m)) c.requires.number
-          (follows_grow _ _ _ _ _ _ _ _ (e.follows step));
-      opening = e.framed.stays.opening;
-      caps = e.caps;
-      homes = e.homes;
-      site = e.framed.stays.site;
-      room = e.framed.stays.room;
-      acts = e.framed.stays.acts;
-      others = λ q apart fits. e.framed.others q (rw c.requires.number apart) fits;
-      holders = λ d apart acts holds. e.framed.holders d (rw c.requires.number apart) acts holds;
-    }
+    left_framed I m c.pass-done.new.m c.args.self.now _ c.requires.number refl refl e.framed e.caps e.homes
+    (ap programs_of c.note_pass.ensures ∙ programs_passed c.current-runs.result c.args.self.now.guests.items c.args.pass) (others_grow _ _ _ _ e.seen)
+    (subst (λ (d : CpuId). MovesGrow (λ e. I.ActsFor m e) d (I.moves m) (I.moves c.pass-done.new.m)) c.requires.number
+    (passed_grows _ _ _ _ _ _ _ _ _ e.passed))
+    (λ step. subst (λ (d : CpuId). ActsGrow (λ e. I.ActsFor m e) d (I.acts m) (I.acts c.pass-done.new.m)) c.requires.number
+    (follows_grow _ _ _ _ _ _ _ _ (e.follows step)))
 
 pub returns-else-is_some-clause-is : goal.returns-else-is_some-clause-is
 returns-else-is_some-clause-is g c =
     let I = g.I.CallLayer in
     let m = c.args.m.now in
     let p = c.args.self.now in
-    let cpu = layered (laws_of g.met.I.CallLayer) m p c.requires.fits c.requires.number c.requires.is c.requires.table in
+    let cpu = cpu g (goal.at.returns-else-is_some-clause-is g c).Start in
     let none : is_some c.pass-done.result ≡ false = search rules in
     let told = c.pass-done.ensures.passed in
     rw (c.pass-done.ensures.homes, c.pass-done.ensures.caps, c.pass-done.ensures.call_states)
@@ -83,38 +70,25 @@ returns-else-is_some-clause-leaves g c =
     let I = g.I.CallLayer in
     let m = c.args.m.now in
     let e = c.pass-done.ensures in
-    record {
-      number = refl;
-      limit = refl;
-      cpu = e.framed.cpu ∙ c.requires.number;
-      programs = refl;
-      seen = others_grow _ _ _ _ e.seen;
-      moves = subst (λ (d : CpuId). MovesGrow (λ e. I.ActsFor m e) d (I.moves m) (I.moves c.pass-done.new.m)) c.requires.number
-          (passed_grows _ _ _ _ _ _ _ _ _ e.passed);
-      grows = λ step. subst (λ (d : CpuId). ActsGrow (λ e. I.ActsFor m e) d (I.acts m) (I.acts c.pass-done.new.m)) c.requires.number
-          (follows_grow _ _ _ _ _ _ _ _ (e.follows step));
-      opening = e.framed.stays.opening;
-      caps = e.caps;
-      homes = e.homes;
-      site = e.framed.stays.site;
-      room = e.framed.stays.room;
-      acts = e.framed.stays.acts;
-      others = λ q apart fits. e.framed.others q (rw c.requires.number apart) fits;
-      holders = λ d apart acts holds. e.framed.holders d (rw c.requires.number apart) acts holds;
-    }
+    left_framed I m c.pass-done.new.m c.args.self.now _ c.requires.number refl refl e.framed e.caps e.homes
+    refl (others_grow _ _ _ _ e.seen)
+    (subst (λ (d : CpuId). MovesGrow (λ e. I.ActsFor m e) d (I.moves m) (I.moves c.pass-done.new.m)) c.requires.number
+    (passed_grows _ _ _ _ _ _ _ _ _ e.passed))
+    (λ step. subst (λ (d : CpuId). ActsGrow (λ e. I.ActsFor m e) d (I.acts m) (I.acts c.pass-done.new.m)) c.requires.number
+    (follows_grow _ _ _ _ _ _ _ _ (e.follows step)))
 
--- what a poll that ended the pass leaves of the CPU over the tower
-abbrev done_observed : (g : Over) (c : goal.After-note_pass g) (step : g.I.CallLayer.IsStepwise)
-    → let cpu = layered (laws_of g.met.I.CallLayer) c.args.m.now c.args.self.now c.requires.fits c.requires.number c.requires.is c.requires.table in
-    ObservedPass (λ d. g.I.CallLayer.ActsFor c.args.m.now d) (observed_cpu cpu step) c.args.pass (g.I.CallLayer.acts c.args.m.now)
-done_observed g c step =
+-- what the poll leaves of the CPU over the tower, with these guests
+abbrev observed : (g : Over) (c : After-pass-done g) (step : g.I.CallLayer.IsStepwise) (guests : List (Option Guest))
+    → guests ≡ (if is_some c.pass-done.result then passed_by (g.I.CallLayer.threads c.args.self.now.part).current c.args.self.now.guests.items c.args.pass
+    else c.args.self.now.guests.items)
+    → ObservedPass (λ d. g.I.CallLayer.ActsFor c.args.m.now d)
+    (observed_cpu (cpu g (goal.at.pass-done-requires-clause-may g c.before).Start) step) c.args.pass (g.I.CallLayer.acts c.args.m.now)
+observed g c step guests is =
     let I = g.I.CallLayer in
     let law = g.met.I.CallLayer in
     let m = c.args.m.now in
-    let p = c.args.self.now in
     let q = c.pass-done.new.self in
     let n = c.pass-done.new.m in
-    let done : is_some c.pass-done.result ≡ true = sym c.is_some.ensures ∙ c.if-is_some.true in
     record {
       homes = homes_in (I.opening m);
       homes_are = law.reads_homes m;
@@ -122,7 +96,7 @@ done_observed g c step =
       own = I.threads q;
       reads_own = (law.reads_own q).0;
       under_way = I.under_way q;
-      guests = c.note_pass.new.self.items;
+      guests = guests;
       new = I.acts n;
       result = c.pass-done.result;
       before = I.moves m;
@@ -132,68 +106,46 @@ done_observed g c step =
       follows = c.pass-done.ensures.follows step;
       passed = c.pass-done.ensures.passed;
       under_way_is = c.pass-done.ensures.under_way;
-      guests_is = c.note_pass.ensures ∙ (ap (λ (o : Option Tid). passed_by o p.guests.items c.args.pass) c.current-runs.ensures
-          ∙ sym (ap (λ b. if b then passed_by (I.threads p.part).current p.guests.items c.args.pass else p.guests.items) done));
+      guests_is = is;
     }
+
+done_guests : (g : Over) (c : After-note_pass g) → c.note_pass.new.self.items ≡ (if is_some c.pass-done.result
+    then passed_by (g.I.CallLayer.threads c.args.self.now.part).current c.args.self.now.guests.items c.args.pass else c.args.self.now.guests.items)
+done_guests g c =
+    let p = c.args.self.now in
+    let done : is_some c.pass-done.result ≡ true = sym c.is_some.ensures ∙ c.if-is_some.true in
+    c.note_pass.ensures ∙ (ap (λ (o : Option Tid). passed_by o p.guests.items c.args.pass) c.current-runs.ensures
+    ∙ sym (ap (λ b. if b then passed_by (g.I.CallLayer.threads p.part).current p.guests.items c.args.pass else p.guests.items) done))
+
+wait_guests : (g : Over) (c : Else-is_some g) → c.args.self.now.guests.items ≡ (if is_some c.pass-done.result
+    then passed_by (g.I.CallLayer.threads c.args.self.now.part).current c.args.self.now.guests.items c.args.pass else c.args.self.now.guests.items)
+wait_guests g c =
+    let p = c.args.self.now in
+    let done : is_some c.pass-done.result ≡ false = sym c.is_some.ensures ∙ c.if-is_some.false in
+    sym (ap (λ b. if b then passed_by (g.I.CallLayer.threads p.part).current p.guests.items c.args.pass else p.guests.items) done)
 
 pub returns-then-is_some-clause-table : goal.returns-then-is_some-clause-table
 returns-then-is_some-clause-table g c = λ step.
-    let m = c.args.m.now in
-    let p = c.args.self.now in
-    let cpu = layered (laws_of g.met.I.CallLayer) m p c.requires.fits c.requires.number c.requires.is c.requires.table in
+    let cpu = cpu g (goal.at.returns-then-is_some-clause-table g c).Start in
     rw (c.pass-done.ensures.homes, c.pass-done.ensures.caps, c.pass-done.ensures.framed.stays.opening)
-    (passed_tabled (observed_cpu cpu step) _ _ (observed_outset cpu step) c.args.pass c.requires.chosen c.requires.live (done_observed g c step))
+    (passed_tabled (observed_cpu cpu step) _ _ (observed_outset cpu step) c.args.pass c.requires.chosen c.requires.live
+    (observed g (goal.at.returns-then-is_some-clause-table g c).After-pass-done step c.note_pass.new.self.items (done_guests g c)))
 
 pub returns-then-is_some-clause-steps : goal.returns-then-is_some-clause-steps
 returns-then-is_some-clause-steps g c = λ step.
-    let m = c.args.m.now in
-    let p = c.args.self.now in
-    let cpu = layered (laws_of g.met.I.CallLayer) m p c.requires.fits c.requires.number c.requires.is c.requires.table in
-    passed_steps (observed_cpu cpu step) _ _ (observed_outset cpu step) c.args.pass c.requires.chosen c.requires.live (done_observed g c step)
-
--- and what one leaves that did not
-abbrev wait_observed : (g : Over) (c : goal.Else-is_some g) (step : g.I.CallLayer.IsStepwise)
-    → let cpu = layered (laws_of g.met.I.CallLayer) c.args.m.now c.args.self.now c.requires.fits c.requires.number c.requires.is c.requires.table in
-    ObservedPass (λ d. g.I.CallLayer.ActsFor c.args.m.now d) (observed_cpu cpu step) c.args.pass (g.I.CallLayer.acts c.args.m.now)
-wait_observed g c step =
-    let I = g.I.CallLayer in
-    let law = g.met.I.CallLayer in
-    let m = c.args.m.now in
-    let p = c.args.self.now in
-    let q = c.pass-done.new.self in
-    let n = c.pass-done.new.m in
-    let done : is_some c.pass-done.result ≡ false = sym c.is_some.ensures ∙ c.if-is_some.false in
-    record {
-      homes = homes_in (I.opening m);
-      homes_are = law.reads_homes m;
-      part = I.own q;
-      own = I.threads q;
-      reads_own = (law.reads_own q).0;
-      under_way = I.under_way q;
-      guests = p.guests.items;
-      new = I.acts n;
-      result = c.pass-done.result;
-      before = I.moves m;
-      after = I.moves n;
-      known = hand_preserved (I.homes_of m) (I.homes_of n) (I.cpu_of q) (I.moves n) (I.threads q) c.pass-done.ensures.homes
-          (law.stands q n c.pass-done.ensures.framed.fits) (law.moves_legal n (I.cpu_of q) (law.own_cpu q n c.pass-done.ensures.framed.fits));
-      follows = c.pass-done.ensures.follows step;
-      passed = c.pass-done.ensures.passed;
-      under_way_is = c.pass-done.ensures.under_way;
-      guests_is = sym (ap (λ b. if b then passed_by (I.threads p.part).current p.guests.items c.args.pass else p.guests.items) done);
-    }
+    let cpu = cpu g (goal.at.returns-then-is_some-clause-steps g c).Start in
+    passed_steps (observed_cpu cpu step) _ _ (observed_outset cpu step) c.args.pass c.requires.chosen c.requires.live
+    (observed g (goal.at.returns-then-is_some-clause-steps g c).After-pass-done step c.note_pass.new.self.items (done_guests g c))
 
 pub returns-else-is_some-clause-table : goal.returns-else-is_some-clause-table
 returns-else-is_some-clause-table g c = λ step.
-    let m = c.args.m.now in
-    let p = c.args.self.now in
-    let cpu = layered (laws_of g.met.I.CallLayer) m p c.requires.fits c.requires.number c.requires.is c.requires.table in
+    let cpu = cpu g (goal.at.returns-else-is_some-clause-table g c).Start in
     rw (c.pass-done.ensures.homes, c.pass-done.ensures.caps, c.pass-done.ensures.framed.stays.opening)
-    (passed_tabled (observed_cpu cpu step) _ _ (observed_outset cpu step) c.args.pass c.requires.chosen c.requires.live (wait_observed g c step))
+    (passed_tabled (observed_cpu cpu step) _ _ (observed_outset cpu step) c.args.pass c.requires.chosen c.requires.live
+    (observed g (goal.at.returns-else-is_some-clause-table g c).After-pass-done step c.args.self.now.guests.items (wait_guests g c)))
 
 pub returns-else-is_some-clause-steps : goal.returns-else-is_some-clause-steps
 returns-else-is_some-clause-steps g c = λ step.
-    let m = c.args.m.now in
-    let p = c.args.self.now in
-    let cpu = layered (laws_of g.met.I.CallLayer) m p c.requires.fits c.requires.number c.requires.is c.requires.table in
-    passed_steps (observed_cpu cpu step) _ _ (observed_outset cpu step) c.args.pass c.requires.chosen c.requires.live (wait_observed g c step)
+    let cpu = cpu g (goal.at.returns-else-is_some-clause-steps g c).Start in
+    passed_steps (observed_cpu cpu step) _ _ (observed_outset cpu step) c.args.pass c.requires.chosen c.requires.live
+    (observed g (goal.at.returns-else-is_some-clause-steps g c).After-pass-done step c.args.self.now.guests.items (wait_guests g c))

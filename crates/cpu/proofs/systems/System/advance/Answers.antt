@@ -1,133 +1,67 @@
-use Rattle.std.proofs.Common.{◌≡◌, ◌<◌, ℕ, List, length, map, ap, sym, ◌∙◌, subst, arith}
+use Rattle.std.proofs.Common.{◌≡◌, ◌<◌, ℕ, ap, sym, ◌∙◌, subst}
 use Rattle.std.specs.Prelude.{Option, Some, slice_get}
-use Rattle.std.proofs.lemmas.Option.{slice_get_within}
-use Rattle.event_log.specs.declared.ids.CpuId.{CpuId}
-use Rattle.layer_traits.specs.{declared.steps.Step.TheVariants.Stepped, Along.IsStep, OnePlace.cpu_at}
-use Rattle.cpu.specs.{declared.cpus.Cpu.Cpu, Table.Steps.cpu_step, Tower.Composed.named, Systems.own_reason, Systems.own_reason_in, Systems.reason_or}
-use Rattle.cpu.specs.{Sound.IsReachedByTable, Claims.CpuShown, Claims.Shown}
-use Rattle.cpu.proofs.{Sounding.Change, Sounding.new_of, Sounding.old_of, Sounding.reached_on, Sounding.same_plan, Sounding.went_so, TableSystems.own_live}
-use Rattle.cpu.proofs.{TableSystems.shown_step, Advances.live_room, ListReads.read_at, ListReads.shows_at, LayeredSteps.shown_by, LayeredSteps.observed_by}
-use Rattle.cpu.proofs.{LayeredSteps.went_on, LayeredSteps.plan_preserved}
+use Rattle.cpu.specs.{Systems.own_reason, Systems.own_reason_in, Systems.reason_or, Claims.CpuShown, Claims.Shown}
+use Rattle.cpu.proofs.{TableSystems.own_live, Advances.live_room, ListReads.read_at, ListReads.shows_at, LayeredSteps.by_table, LayeredSteps.shown_by}
+use Rattle.cpu.proofs.{LayeredSteps.went_on, LayeredSteps.plan_preserved, systems.System.advance.Given.Over, systems.System.advance.Goals.After-index_mut-at}
 use Rattle.cpu.proofs.systems.System.advance.Goals as goal
+
+module _ (g : Over) (c : After-index_mut-at g) where
+  -- the CPU that steps is the one at its number
+  at : slice_get c.self.inside.cpus.items c.from.result ≡ Some c.index_mut-at.result.now
+  at = read_at (shown_by g.I.CallLayer) c.self.inside.cpus.items c.args.self.now.cpus c.from.result c.args.cpu.0 c.index_mut-at.result.now
+      (ap (λ (s : Shown). s.cpus) c.self.view_is) c.from.ensures c.requires.exists c.index_mut-at.ensures.value
+
+  room : c.self.inside.taken < c.self.inside.room
+  room = live_room _ c.args.cpu (rw (← c.self.view_is) at c.requires.live) c.self.invariant.used
 
 pub go-requires-clause-number : goal.go-requires-clause-number
 go-requires-clause-number g c =
-    let I = g.I.CallLayer in
-    let items = c.self.inside.cpus.items in
-    let shown = shown_by I in
-    let at = read_at shown items c.args.self.now.cpus c.from.result c.args.cpu.0 c.index_mut-at.result.now (ap (λ (s : Shown). s.cpus) c.self.view_is)
-    c.from.ensures c.requires.exists c.index_mut-at.ensures.value in
-    (c.self.invariant.each c.from.result c.index_mut-at.result.now at).holds.1
+    (c.self.invariant.each c.from.result c.index_mut-at.result.now (at g (goal.at.go-requires-clause-number g c).After-index_mut-at)).holds.1
 
 pub go-requires-clause-is : goal.go-requires-clause-is
 go-requires-clause-is g c =
-    let I = g.I.CallLayer in
-    let items = c.self.inside.cpus.items in
-    let shown = shown_by I in
-    let at = read_at shown items c.args.self.now.cpus c.from.result c.args.cpu.0 c.index_mut-at.result.now (ap (λ (s : Shown). s.cpus) c.self.view_is)
-    c.from.ensures c.requires.exists c.index_mut-at.ensures.value in
-    (c.self.invariant.each c.from.result c.index_mut-at.result.now at).holds.2
+    (c.self.invariant.each c.from.result c.index_mut-at.result.now (at g (goal.at.go-requires-clause-is g c).After-index_mut-at)).holds.2
 
 pub go-requires-clause-table : goal.go-requires-clause-table
 go-requires-clause-table g c =
-    let I = g.I.CallLayer in
-    let items = c.self.inside.cpus.items in
-    let shown = shown_by I in
-    let at = read_at shown items c.args.self.now.cpus c.from.result c.args.cpu.0 c.index_mut-at.result.now (ap (λ (s : Shown). s.cpus) c.self.view_is)
-    c.from.ensures c.requires.exists c.index_mut-at.ensures.value in
-    (c.self.invariant.each c.from.result c.index_mut-at.result.now at).holds.3
+    (c.self.invariant.each c.from.result c.index_mut-at.result.now (at g (goal.at.go-requires-clause-table g c).After-index_mut-at)).holds.3
 
 pub go-requires-clause-live : goal.go-requires-clause-live
 go-requires-clause-live g c =
-    let I = g.I.CallLayer in
-    let items = c.self.inside.cpus.items in
     let k = c.from.result in
     let x = c.index_mut-at.result.now in
-    let shown = shown_by I in
-    let at = read_at shown items c.args.self.now.cpus k c.args.cpu.0 x (ap (λ (s : Shown). s.cpus) c.self.view_is) c.from.ensures c.requires.exists
-    c.index_mut-at.ensures.value in
+    let shown = shown_by g.I.CallLayer in
     let there = subst (λ (j : ℕ). slice_get c.args.self.now.cpus j ≡ Some (shown x)) c.from.ensures
-    (subst (λ (s : Shown). slice_get s.cpus k ≡ Some (shown x)) c.self.view_is (shows_at shown items k x at)) in
+    (subst (λ (s : Shown). slice_get s.cpus k ≡ Some (shown x)) c.self.view_is
+    (shows_at shown c.self.inside.cpus.items k x (at g (goal.at.go-requires-clause-live g c).After-index_mut-at))) in
     own_live (own_reason (shown x)) c.args.self.now
     (sym (ap (λ (o : Option CpuShown). reason_or (own_reason_in o) c.args.self.now) there) ∙ c.requires.live)
 
 pub invariant_of-self : goal.invariant_of-self
 invariant_of-self g c =
     let I = g.I.CallLayer in
-    let m = c.self.inside.machine in
-    let is = c.self.invariant in
-    let items = c.self.inside.cpus.items in
-    let shown = shown_by I in
-    let at = read_at shown items c.args.self.now.cpus c.from.result c.args.cpu.0 c.index_mut-at.result.now (ap (λ (s : Shown). s.cpus) c.self.view_is)
-    c.from.ensures c.requires.exists c.index_mut-at.ensures.value in
-    let e = c.go.ensures in
-    let left = e.leaves in
-    let known = g.met.I.Owned.known c.go.new.m (I.cpu_of c.go.new.self.part) (g.met.I.CallLayer.own_cpu c.go.new.self.part c.go.new.m e.fits) in
-    let live : c.self.inside.taken < c.self.inside.room = live_room _ c.args.cpu (rw (← c.self.view_is) at c.requires.live) is.used in
-    let k = c.from.result in
-    let x = c.index_mut-at.result.now in
+    let n = c.go.new.m in
     let y = c.go.new.self in
-    let number : x.number ≡ c.args.cpu = (is.each k x at).number_is ∙ ap (λ (j : ℕ). cpu_at j) c.from.ensures in
-    let there : slice_get (map shown items) c.args.cpu.0 ≡ Some (shown x) =
-    subst (λ (j : ℕ). slice_get (map shown items) j ≡ Some (shown x)) c.from.ensures (shows_at shown items k x at) in
-    let within : c.args.cpu.0 < length (map shown items) = slice_get_within (map shown items) c.args.cpu.0 (shown x) there in
-    let told = observed_by I g.I.Owned.owner in
-    let one : Change (Cpu g.row.I.Denot g.row.I-Machine.Denot) = record {
-      shown = shown;
-      before = told m;
-      after = told c.go.new.m;
-      c = c.args.cpu;
-      cpus = items;
-      k = k;
-      x = x;
-      y = y;
-      room = c.self.inside.room;
-      taken = c.self.inside.taken;
-      at = at;
-      same = c.from.ensures;
-    } in
-    let reached : I.IsStepwise → IsReachedByTable (new_of one) = λ step.
-    let legal = g.met.I.CallLayer.legal c.go.new.m (I.cpu_of y.part) (g.met.I.CallLayer.own_cpu y.part c.go.new.m e.fits) in
-    reached_on c.args.cpu (old_of one) (new_of one) Stepped within (same_plan one left.caps left.homes left.programs left.limit)
-    (went_so one (λ d. I.ActsFor m d) (λ setup of.
-    subst (λ (d : CpuId). IsStep (λ a. I.ActsFor m a) (cpu_step setup d) (shown x).private (shown y).private (named (I.acts m)) (named (I.acts
-    c.go.new.m)) Stepped) number
-    (e.steps step setup of)) is.acts_for legal (λ same. omega (arith, same, live))) (is.sound.1 step) in
-    let count = is.sound.0 ∙ ap (λ (l : List CpuId). length l) (sym left.homes) in
-    went_on I g.I.Owned.owner c.self.inside.threads m c.go.new.m items c.self.inside.room c.self.inside.taken k x y is (count, reached) at e.fits e.is e.table
-    left known live
+    let e = c.go.ensures in
+    let acts = g.met.I.CallLayer.own_cpu y.part n e.fits in
+    let p = (goal.at.invariant_of-self g c).After-index_mut-at in
+    went_on I g.I.Owned.owner c.self.inside.threads c.self.inside.machine n c.self.inside.cpus.items c.self.inside.room c.self.inside.taken c.from.result
+    c.args.cpu c.index_mut-at.result.now y c.self.invariant (at g p) c.from.ensures e.leaves (room g p)
+    (g.met.I.CallLayer.legal n (I.cpu_of y.part) acts) e.steps e.fits e.is e.table (g.met.I.Owned.known n (I.cpu_of y.part) acts)
 
 pub returns-clause-plan : goal.returns-clause-plan
 returns-clause-plan g c =
-    let I = g.I.CallLayer in
-    let items = c.self.inside.cpus.items in
-    let at = read_at (shown_by I) items c.args.self.now.cpus c.from.result c.args.cpu.0 c.index_mut-at.result.now (ap (λ (s : Shown). s.cpus) c.self.view_is)
-    c.from.ensures c.requires.exists c.index_mut-at.ensures.value in
-    rw (← c.self.view_is) (plan_preserved I g.I.Owned.owner c.self.inside.threads c.self.inside.machine c.go.new.m items c.self.inside.room c.self.inside.taken
-    _ c.from.result c.index_mut-at.result.now c.go.new.self at c.go.ensures.leaves)
+    rw (← c.self.view_is) (plan_preserved g.I.CallLayer g.I.Owned.owner c.self.inside.threads c.self.inside.machine c.go.new.m c.self.inside.cpus.items
+    c.self.inside.room c.self.inside.taken _ c.from.result c.index_mut-at.result.now c.go.new.self
+    (at g (goal.at.returns-clause-plan g c).After-index_mut-at) c.go.ensures.leaves)
 
 pub returns-clause-steps : goal.returns-clause-steps
-returns-clause-steps g c = λ step setup goes.
+returns-clause-steps g c = λ step.
     let I = g.I.CallLayer in
-    let m = c.self.inside.machine in
-    let is = c.self.invariant in
-    let items = c.self.inside.cpus.items in
-    let k = c.from.result in
-    let x = c.index_mut-at.result.now in
+    let n = c.go.new.m in
     let y = c.go.new.self in
-    let shown = shown_by I in
-    let at = read_at shown items c.args.self.now.cpus k c.args.cpu.0 x (ap (λ (s : Shown). s.cpus) c.self.view_is) c.from.ensures c.requires.exists
-    c.index_mut-at.ensures.value in
     let e = c.go.ensures in
-    let legal = g.met.I.CallLayer.legal c.go.new.m (I.cpu_of y.part) (g.met.I.CallLayer.own_cpu y.part c.go.new.m e.fits) in
-    let number : x.number ≡ c.args.cpu = (is.each k x at).number_is ∙ ap (λ (j : ℕ). cpu_at j) c.from.ensures in
-    let of = (rw (← c.self.view_is) at goes).each k (shown x) (shows_at shown items k x at) in
-    let room : c.self.inside.taken < c.self.inside.room = live_room _ c.args.cpu (rw (← c.self.view_is) at c.requires.live) is.used in
-    let went : IsStep (λ d. I.ActsFor m d) (cpu_step setup c.args.cpu) (shown x).private (shown y).private
-    (named (I.acts m)) (named (I.acts c.go.new.m)) Stepped =
-    subst (λ (d : CpuId). IsStep (λ a. I.ActsFor m a) (cpu_step setup d) (shown x).private (shown y).private
-    (named (I.acts m)) (named (I.acts c.go.new.m)) Stepped) number
-    (e.steps step setup of) in
-    rw (← c.self.view_is) (shown_step shown (λ d. I.ActsFor m d) setup c.args.cpu items k x y (I.acts m)
-    (I.acts c.go.new.m) c.self.inside.room c.self.inside.taken at
-    c.from.ensures went is.acts_for legal (λ same. omega (arith, same, room)))
+    let p = (goal.at.returns-clause-steps g c).After-index_mut-at in
+    rw (← c.self.view_is) (by_table I g.I.Owned.owner c.self.inside.threads c.self.inside.machine n c.self.inside.cpus.items c.self.inside.room
+    c.self.inside.taken c.from.result c.args.cpu c.index_mut-at.result.now y c.self.invariant (at g p) c.from.ensures e.leaves (room g p)
+    (g.met.I.CallLayer.legal n (I.cpu_of y.part) (g.met.I.CallLayer.own_cpu y.part n e.fits)) e.steps step)

@@ -1,21 +1,17 @@
-use Rattle.std.proofs.Common.{◌≡◌, ◌<◌, None, ap, sym, ◌∙◌, subst, arith, option_map}
-use Rattle.event_log.specs.{declared.ids.TheConstants.CPUS, Buffers.items_of}
+use Rattle.std.proofs.Common.{◌≡◌, None, ap, sym, ◌∙◌, subst, option_map}
+use Rattle.event_log.specs.Buffers.{items_of}
 use Rattle.cpu.specs.Claims.{Shown}
-use Rattle.cpu.proofs.Observers.{held_here, item_at, up_to, up_to_end}
+use Rattle.cpu.proofs.Observers.{acts_first, held_here, item_at, up_to, up_to_end}
 use Rattle.cpu.proofs.systems.System.buffer.Goals as goal
 
 pub buffer_in-requires-clause-acts : goal.buffer_in-requires-clause-acts
-buffer_in-requires-clause-acts g c =
-    let is = c.self.invariant in
-    let some : 0 < CPUS = let least = is.some in let most = is.most in omega (arith, least, most) in
-    (record { 0 = 0 }, is.acts_for (record { 0 = 0 }) some)
+buffer_in-requires-clause-acts g c = (record { 0 = 0 }, acts_first c.self.invariant)
 
 pub returns-in-Some : goal.returns-in-Some
 returns-in-Some g c =
     let m = c.self.inside.machine in
     let is = c.self.invariant in
-    let some : 0 < CPUS = let least = is.some in let most = is.most in omega (arith, least, most) in
-    let told = g.met.I.Owned.items m (record { 0 = 0 }) c.args.buffer (is.acts_for (record { 0 = 0 }) some) (rw (← c.self.view_is) at c.requires) in
+    let told = g.met.I.Owned.items m (record { 0 = 0 }) c.args.buffer (acts_first is) (rw (← c.self.view_is) at c.requires) in
     subst (λ (s : Shown). c.in-Some.items.items ≡ items_of s.contents c.args.buffer.0) c.self.view_is
     (told.by_machine c.in-Some.items.items (sym c.buffer_in.ensures ∙ ap (λ o. option_map (λ x. x.items) o) c.in-Some.is))
 
@@ -24,8 +20,7 @@ returns-in-Some-buffer_here g c =
     let m = c.self.inside.machine in
     let is = c.self.invariant in
     let items = c.self.inside.cpus.items in
-    let some : 0 < CPUS = let least = is.some in let most = is.most in omega (arith, least, most) in
-    let told = g.met.I.Owned.items m (record { 0 = 0 }) c.args.buffer (is.acts_for (record { 0 = 0 }) some) (rw (← c.self.view_is) at c.requires) in
+    let told = g.met.I.Owned.items m (record { 0 = 0 }) c.args.buffer (acts_first is) (rw (← c.self.view_is) at c.requires) in
     let x = c.at-item.result in
     let at = item_at items c.deref-at-items.result.now c.loop-at.at-index x c.deref-at-items.ensures.value c.loop-at-test.true c.at-item.is in
     subst (λ (s : Shown). c.in-Some-buffer_here.items.items ≡ items_of s.contents c.args.buffer.0) c.self.view_is
@@ -44,8 +39,7 @@ returns g c =
     let m = c.self.inside.machine in
     let is = c.self.invariant in
     let items = c.self.inside.cpus.items in
-    let some : 0 < CPUS = let least = is.some in let most = is.most in omega (arith, least, most) in
-    let told = g.met.I.Owned.items m (record { 0 = 0 }) c.args.buffer (is.acts_for (record { 0 = 0 }) some) (rw (← c.self.view_is) at c.requires) in
+    let told = g.met.I.Owned.items m (record { 0 = 0 }) c.args.buffer (acts_first is) (rw (← c.self.view_is) at c.requires) in
     absurd (held_here I m items
     (λ k x at. let e = is.each k x at in (e.number_is, e.holds.0, e.holds.1)) is.holders (λ p. g.I.Owned.items_here p c.args.buffer)
     (told.somewhere (sym c.buffer_in.ensures ∙ ap (λ o. option_map (λ x. x.items) o) c.in_default.is))

@@ -1,22 +1,17 @@
-use Rattle.std.proofs.Common.{◌≡◌, ◌<◌, None, length, sym, ◌∙◌, subst, arith}
+use Rattle.std.proofs.Common.{◌≡◌, None, length, sym, ◌∙◌, subst}
 use Rattle.std.specs.Prelude.{slice_index_or}
-use Rattle.event_log.specs.declared.ids.TheConstants.{CPUS}
 use Rattle.cpu.specs.Claims.{Shown, buffer_at}
-use Rattle.cpu.proofs.{ListReads.listed_there, Observers.held_here, Observers.item_at, Observers.up_to, Observers.up_to_end}
+use Rattle.cpu.proofs.{ListReads.listed_there, Observers.acts_first, Observers.held_here, Observers.item_at, Observers.up_to, Observers.up_to_end}
 use Rattle.cpu.proofs.systems.System.busy.Goals as goal
 
 pub busy_in-requires-clause-acts : goal.busy_in-requires-clause-acts
-busy_in-requires-clause-acts g c =
-    let is = c.self.invariant in
-    let some : 0 < CPUS = let least = is.some in let most = is.most in omega (arith, least, most) in
-    (record { 0 = 0 }, is.acts_for (record { 0 = 0 }) some)
+busy_in-requires-clause-acts g c = (record { 0 = 0 }, acts_first c.self.invariant)
 
 pub returns-in-Some : goal.returns-in-Some
 returns-in-Some g c =
     let m = c.self.inside.machine in
     let is = c.self.invariant in
-    let some : 0 < CPUS = let least = is.some in let most = is.most in omega (arith, least, most) in
-    let told = g.met.I.Owned.owners m (record { 0 = 0 }) c.args.buffer (is.acts_for (record { 0 = 0 }) some) (rw (← c.self.view_is) at c.requires) in
+    let told = g.met.I.Owned.owners m (record { 0 = 0 }) c.args.buffer (acts_first is) (rw (← c.self.view_is) at c.requires) in
     let within = rw (← c.self.view_is) at c.requires in
     subst (λ (s : Shown). c.in-Some.owner ≡ slice_index_or s.owners c.args.buffer.0 None) c.self.view_is
     (told.by_machine c.in-Some.owner (sym c.busy_in.ensures ∙ c.in-Some.is)
@@ -27,8 +22,7 @@ returns-in-Some-busy_here g c =
     let m = c.self.inside.machine in
     let is = c.self.invariant in
     let items = c.self.inside.cpus.items in
-    let some : 0 < CPUS = let least = is.some in let most = is.most in omega (arith, least, most) in
-    let told = g.met.I.Owned.owners m (record { 0 = 0 }) c.args.buffer (is.acts_for (record { 0 = 0 }) some) (rw (← c.self.view_is) at c.requires) in
+    let told = g.met.I.Owned.owners m (record { 0 = 0 }) c.args.buffer (acts_first is) (rw (← c.self.view_is) at c.requires) in
     let x = c.at-item.result in
     let at = item_at items c.deref-at-items.result.now c.loop-at.at-index x c.deref-at-items.ensures.value c.loop-at-test.true c.at-item.is in
     let within = rw (← c.self.view_is) at c.requires in
@@ -48,8 +42,7 @@ returns g c =
     let m = c.self.inside.machine in
     let is = c.self.invariant in
     let items = c.self.inside.cpus.items in
-    let some : 0 < CPUS = let least = is.some in let most = is.most in omega (arith, least, most) in
-    let told = g.met.I.Owned.owners m (record { 0 = 0 }) c.args.buffer (is.acts_for (record { 0 = 0 }) some) (rw (← c.self.view_is) at c.requires) in
+    let told = g.met.I.Owned.owners m (record { 0 = 0 }) c.args.buffer (acts_first is) (rw (← c.self.view_is) at c.requires) in
     absurd (held_here I m items
     (λ k x at. let e = is.each k x at in (e.number_is, e.holds.0, e.holds.1)) is.holders (λ p. g.I.Owned.owner_here p c.args.buffer)
     (told.somewhere (sym c.busy_in.ensures ∙ c.in_default.is))

@@ -1,15 +1,15 @@
 use Rattle.std.proofs.Common.{◌≡◌, ◌<◌, ◌^◌, length, map, reverse, refl, ap, sym, ◌∙◌, subst, arith}
 use Rattle.std.specs.List.{AllByRecursion}
 use Rattle.std.proofs.lemmas.List.{length-map}
-use Rattle.event_log.specs.{declared.entries.Entry.Entry, declared.ids.TheConstants.CPUS, declared.ids.CpuId.CpuId, declared.ids.LockId.TheVariants.Pending}
-use Rattle.event_log.specs.{Actions.phase}
+use Rattle.event_log.specs.{declared.entries.Entry.Entry, declared.ids.CpuId.CpuId, declared.ids.LockId.TheVariants.Pending, Actions.phase}
 use Rattle.event_log.proofs.{Streams.taken_put, Renaming.phase_renamed}
 use Rattle.layer_traits.proofs.EffectRunLemmas.{effects_are_run}
 use Rattle.cpu.specs.Claims.{CpuShown, FollowPrograms, HasOneOrder, MovesAgree, Shown, StandsOnce, StayHome, buffer_at}
 use Rattle.cpu.proofs.{ListReads.there_is, Onces.once_of, Orders.closed_by_order, Orders.follow_programs, Orders.stay_home, Orders.traces_interleaved}
 use Rattle.cpu.proofs.{Sounding.shown_in, Sounding.sound_of, ListReads.shown_at, ListReads.shows_at, TableCalls.halted_read, Placing.ended_is}
-use Rattle.cpu.proofs.{Placing.place_read, Observing.has_buffer, Observing.pending_read, Layered.laws_of, Layered.layered, Layered.observed_cpu}
-use Rattle.cpu.proofs.{LayeredSteps.shown_by, LayeredSteps.cpus_have, LayeredSteps.observed_by}
+use Rattle.cpu.proofs.{Placing.place_read, Observers.acts_first, Observing.has_buffer, Observing.pending_read, Layered.laws_of, Layered.layered}
+use Rattle.cpu.proofs.{Layered.observed_cpu, LayeredSteps.shown_by, LayeredSteps.cpus_have, LayeredSteps.observed_by, Orders.Has}
+use Rattle.cpu.proofs.{systems.System.holds.Given.Over, systems.System.holds.Goals.After-self}
 use Rattle.cpu.specs.{Sound.SoundByTable, Cpus.halted_at as own_halted_at, Sound.IsSetupFor, Table.Blocks.OfPending, Table.Setups.Setup, Table.Steps.block_at}
 use Rattle.cpu.specs.{Table.Steps.halted_at, Observed.CpuIsObserved, Observed.HasBuffer, Observed.ObservedByTable, Tower.Composed.named, Tower.Views.name_of}
 use Rattle.std.specs.Prelude.{ℕ, Some, slice_get}
@@ -20,21 +20,27 @@ use Rattle.cpu.proofs.systems.System.holds.Goals as goal
 pub returns-clause-sound : goal.returns-clause-sound
 returns-clause-sound g c = λ step. subst (λ (s : Shown). SoundByTable s) c.self.view_is (sound_of _ (c.self.invariant.sound.1 step))
 
-pub returns-clause-agree : goal.returns-clause-agree
-returns-clause-agree g c =
-    let I = g.I.CallLayer in
-    let law = g.met.I.CallLayer in
-    let m = c.self.inside.machine in
+-- each CPU has what always holds of it
+each : (g : Over) (c : After-self g) → let I = g.I.CallLayer in let m = c.self.inside.machine in
+    (k : ℕ) (p : CpuShown) → slice_get (map (shown_by I) c.self.inside.cpus.items) k ≡ Some p
+    → Has (I.homes_of m) (length (I.caps m)) (I.seen m) (I.moves m) k p
+each g c = cpus_have g.I.CallLayer c.self.inside.machine c.self.inside.cpus.items c.self.invariant.each
+    (λ part fits. g.met.I.CallLayer.stands part c.self.inside.machine fits)
+
+-- and all agree with the moves
+agree : (g : Over) (c : After-self g) → MovesAgree (shown_in (observed_by g.I.CallLayer g.I.Owned.owner c.self.inside.machine)
+    (map (shown_by g.I.CallLayer) c.self.inside.cpus.items) c.self.inside.room c.self.inside.taken)
+agree g c =
     let is = c.self.invariant in
-    let some : 0 < CPUS = let least = is.some in let most = is.most in omega (arith, least, most) in
-    let acts = is.acts_for (record { 0 = 0 }) some in
-    let each = cpus_have I m c.self.inside.cpus.items is.each (λ part fits. law.stands part m fits) in
-    let count = length-map c.self.inside.cpus.items (shown_by I) in
-    subst (λ (s : Shown). MovesAgree s) c.self.view_is (record {
-      lawful = law.moves_legal m (record { 0 = 0 }) acts;
-      stands = λ k p at. (each k p at).stands;
+    let count = length-map c.self.inside.cpus.items (shown_by g.I.CallLayer) in
+    record {
+      lawful = g.met.I.CallLayer.moves_legal c.self.inside.machine (record { 0 = 0 }) (acts_first is);
+      stands = λ k p at. (each g c k p at).stands;
       within = λ t home at. let inside = is.within t home at in omega (arith, inside, count);
-    })
+    }
+
+pub returns-clause-agree : goal.returns-clause-agree
+returns-clause-agree g c = subst (λ (s : Shown). MovesAgree s) c.self.view_is (agree g c)
 
 pub returns-clause-observed : goal.returns-clause-observed
 returns-clause-observed g c = λ step.
@@ -44,8 +50,7 @@ returns-clause-observed g c = λ step.
     let is = c.self.invariant in
     let items = c.self.inside.cpus.items in
     let zero : CpuId = cpu_at 0 in
-    let some : 0 < CPUS = let least = is.some in let most = is.most in omega (arith, least, most) in
-    let acts = is.acts_for zero some in
+    let acts = acts_first is in
     let shown = shown_by I in
     let count = length-map items shown in
     let are = law.moves_are step m zero acts in
@@ -59,12 +64,6 @@ returns-clause-observed g c = λ step.
     let sound : SoundByTable s = sound_of s (c.self.invariant.sound.1 step) in
     let homes : (setup : Setup) → IsSetupFor setup s → setup.homes ≡ s.homes =
     λ setup goes. (goes.goes.each 0 (shown first.0) (shows_at shown items 0 first.0 first.1)).homes_are in
-    let each = cpus_have I m items is.each (λ part fits. law.stands part m fits) in
-    let agree : MovesAgree s = record {
-      lawful = law.moves_legal m zero acts;
-      stands = λ k p at. (each k p at).stands;
-      within = λ t home at. let inside = is.within t home at in omega (arith, inside, count);
-    } in
     let cpus_told : (setup : Setup) → IsSetupFor setup s → (k : ℕ) (p : CpuShown) → slice_get s.cpus k ≡ Some p → CpuIsObserved setup s k p =
     λ setup goes. shown_at shown (λ j q. CpuIsObserved setup s j q) items (λ j x there.
     let at = (is.each j x there).holds in
@@ -97,7 +96,7 @@ returns-clause-observed g c = λ step.
       few = let size = tabled.size in let few = one.2.few in omega (arith, size, few);
       cpus = cpus_told;
       buffers = buffers_told;
-      places = λ setup goes. place_read s agree (I.wait_lists m) refl (law.lists first.0.part m one.0) setup (cpus_told setup goes) (buffers_told setup goes)
+      places = λ setup goes. place_read s (agree g c) (I.wait_lists m) refl (law.lists first.0.part m one.0) setup (cpus_told setup goes) (buffers_told setup goes)
           (homes setup goes);
     })
 
@@ -107,15 +106,12 @@ returns-clause-one_order g c =
     let law = g.met.I.CallLayer in
     let m = c.self.inside.machine in
     let is = c.self.invariant in
-    let some : 0 < CPUS = let least = is.some in let most = is.most in omega (arith, least, most) in
-    let acts = is.acts_for (record { 0 = 0 }) some in
-    let each = cpus_have I m c.self.inside.cpus.items is.each (λ part fits. law.stands part m fits) in
     let count = length-map c.self.inside.cpus.items (shown_by I) in
     let few : length (I.seen m) < 2 ^ 64 = let short = is.short in let used = is.used in let small = is.small in omega (arith, short, used, small) in
-    let run = effects_are_run (I.caps m) (I.seen m) (law.lawful m (record { 0 = 0 }) acts) few in
+    let run = effects_are_run (I.caps m) (I.seen m) (law.lawful m (record { 0 = 0 }) (acts_first is)) few in
     subst (λ (s : Shown). HasOneOrder s) c.self.view_is (record {
       order = reverse (I.seen m);
-      keeps = traces_interleaved _ _ (I.seen m) _ _ each (subst (λ n. AllByRecursion (λ (e : Entry). e.cpu.0 < n) (I.seen m)) (sym count) is.known);
+      keeps = traces_interleaved _ _ (I.seen m) _ _ (each g c) (subst (λ n. AllByRecursion (λ (e : Entry). e.cpu.0 < n) (I.seen m)) (sym count) is.known);
       run = run;
       fifo = taken_put _ _ _ run;
       closed = λ b within. closed_by_order (I.seen m) (length (I.caps m)) b within;
@@ -123,37 +119,19 @@ returns-clause-one_order g c =
 
 pub returns-clause-follow : goal.returns-clause-follow
 returns-clause-follow g c =
-    let I = g.I.CallLayer in
-    let law = g.met.I.CallLayer in
-    let m = c.self.inside.machine in
-    let is = c.self.invariant in
-    let each = cpus_have I m c.self.inside.cpus.items is.each (λ part fits. law.stands part m fits) in
-    subst (λ (s : Shown). FollowPrograms s) c.self.view_is (λ k p t guest at there. follow_programs _ _ _ _ k p (each k p at) t guest there)
+    subst (λ (s : Shown). FollowPrograms s) c.self.view_is (λ k p t guest at there. follow_programs _ _ _ _ k p (each g c k p at) t guest there)
 
 pub returns-clause-stay : goal.returns-clause-stay
-returns-clause-stay g c =
-    let I = g.I.CallLayer in
-    let law = g.met.I.CallLayer in
-    let m = c.self.inside.machine in
-    let is = c.self.invariant in
-    let each = cpus_have I m c.self.inside.cpus.items is.each (λ part fits. law.stands part m fits) in
-    subst (λ (s : Shown). StayHome s) c.self.view_is (λ k p at. stay_home _ _ _ _ k p (each k p at))
+returns-clause-stay g c = subst (λ (s : Shown). StayHome s) c.self.view_is (λ k p at. stay_home _ _ _ _ k p (each g c k p at))
 
 pub returns-clause-once : goal.returns-clause-once
 returns-clause-once g c =
     let I = g.I.CallLayer in
-    let law = g.met.I.CallLayer in
     let m = c.self.inside.machine in
-    let is = c.self.invariant in
-    let some : 0 < CPUS = let least = is.some in let most = is.most in omega (arith, least, most) in
-    let acts = is.acts_for (record { 0 = 0 }) some in
-    let each = cpus_have I m c.self.inside.cpus.items is.each (λ part fits. law.stands part m fits) in
-    let count = length-map c.self.inside.cpus.items (shown_by I) in
-    let first = there_is c.self.inside.cpus.items 0 is.some in
-    let fits = (is.each 0 first.0 first.1).holds.0 in
+    let first = there_is c.self.inside.cpus.items 0 c.self.invariant.some in
+    let fits = (c.self.invariant.each 0 first.0 first.1).holds.0 in
+    let agreed = agree g c in
     subst (λ (s : Shown). StandsOnce s) c.self.view_is
     (once_of
     (shown_in (observed_by I g.I.Owned.owner m) (map (shown_by I) c.self.inside.cpus.items) c.self.inside.room c.self.inside.taken)
-    (length (I.caps m)) (I.wait_lists m) refl (law.lists first.0.part m fits)
-    (λ t home at. let inside = is.within t home at in omega (arith, inside, count)) (law.moves_legal m (record { 0 = 0 }) acts) (λ k p at.
-    (each k p at).stands))
+    (length (I.caps m)) (I.wait_lists m) refl (g.met.I.CallLayer.lists first.0.part m fits) agreed.within agreed.lawful agreed.stands)

@@ -1,24 +1,20 @@
-use Rattle.std.proofs.Common.{◌≡◌, ◌<◌, false, length, None, sym, ◌∙◌, subst, arith}
+use Rattle.std.proofs.Common.{◌≡◌, false, length, None, sym, ◌∙◌, subst}
 use Rattle.std.specs.Prelude.{slice_index_or}
-use Rattle.event_log.specs.{declared.ids.TheConstants.CPUS, Runs.is_closed}
+use Rattle.event_log.specs.Runs.{is_closed}
 use Rattle.cpu.specs.Claims.{Shown}
-use Rattle.cpu.proofs.{ListReads.listed_there, Observers.held_here, Observers.item_at, Observers.up_to, Observers.up_to_end}
+use Rattle.cpu.proofs.{ListReads.listed_there, Observers.acts_first, Observers.held_here, Observers.item_at, Observers.up_to, Observers.up_to_end}
 use Rattle.cpu.proofs.systems.System.is_closed.Goals as goal
 
 pub closed_at_home-requires-clause-acts : goal.closed_at_home-requires-clause-acts
-closed_at_home-requires-clause-acts g c =
-    let is = c.self.invariant in
-    let some : 0 < CPUS = let least = is.some in let most = is.most in omega (arith, least, most) in
-    (record { 0 = 0 }, is.acts_for (record { 0 = 0 }) some)
+closed_at_home-requires-clause-acts g c = (record { 0 = 0 }, acts_first c.self.invariant)
 
 pub returns-in-Some : goal.returns-in-Some
 returns-in-Some g c =
     let I = g.I.CallLayer in
     let m = c.self.inside.machine in
     let is = c.self.invariant in
-    let some : 0 < CPUS = let least = is.some in let most = is.most in omega (arith, least, most) in
     let within = rw (← c.self.view_is) at c.requires in
-    let told = g.met.I.Owned.closed m (record { 0 = 0 }) c.args.buffer (is.acts_for (record { 0 = 0 }) some) within in
+    let told = g.met.I.Owned.closed m (record { 0 = 0 }) c.args.buffer (acts_first is) within in
     subst (λ (s : Shown). c.in-Some.closed ≡ slice_index_or s.closed c.args.buffer.0 false) c.self.view_is
     (told.by_machine c.in-Some.closed (sym c.closed_at_home.ensures ∙ c.in-Some.is)
     ∙ sym (listed_there (is_closed (I.seen m)) (length (I.caps m)) c.args.buffer.0 false within))
@@ -29,9 +25,8 @@ returns-in-Some-closed_in_hands g c =
     let m = c.self.inside.machine in
     let is = c.self.invariant in
     let items = c.self.inside.cpus.items in
-    let some : 0 < CPUS = let least = is.some in let most = is.most in omega (arith, least, most) in
     let within = rw (← c.self.view_is) at c.requires in
-    let told = g.met.I.Owned.closed m (record { 0 = 0 }) c.args.buffer (is.acts_for (record { 0 = 0 }) some) within in
+    let told = g.met.I.Owned.closed m (record { 0 = 0 }) c.args.buffer (acts_first is) within in
     let x = c.at-item.result in
     let at = item_at items c.deref-at-items.result.now c.loop-at.at-index x c.deref-at-items.ensures.value c.loop-at-test.true c.at-item.is in
     subst (λ (s : Shown). c.in-Some-closed_in_hands.closed ≡ slice_index_or s.closed c.args.buffer.0 false) c.self.view_is
@@ -51,8 +46,7 @@ returns g c =
     let m = c.self.inside.machine in
     let is = c.self.invariant in
     let items = c.self.inside.cpus.items in
-    let some : 0 < CPUS = let least = is.some in let most = is.most in omega (arith, least, most) in
-    let told = g.met.I.Owned.closed m (record { 0 = 0 }) c.args.buffer (is.acts_for (record { 0 = 0 }) some) (rw (← c.self.view_is) at c.requires) in
+    let told = g.met.I.Owned.closed m (record { 0 = 0 }) c.args.buffer (acts_first is) (rw (← c.self.view_is) at c.requires) in
     absurd (held_here I m items
     (λ k x at. let e = is.each k x at in (e.number_is, e.holds.0, e.holds.1)) is.holders (λ p. g.I.Owned.closed_here p c.args.buffer)
     (told.somewhere (sym c.closed_at_home.ensures ∙ c.in_default.is))

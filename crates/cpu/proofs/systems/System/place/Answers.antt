@@ -1,6 +1,5 @@
-use Rattle.std.proofs.Common.{◌<◌, map, ◌∙◌, arith}
-use Rattle.event_log.specs.declared.ids.TheConstants.{CPUS}
-use Rattle.cpu.proofs.{ListReads.shows_at, ListReads.there_is, Observers.item_at, Observers.own_place, Observers.wait_channel_here, Observers.up_to}
+use Rattle.std.proofs.Common.{map, ◌∙◌}
+use Rattle.cpu.proofs.{ListReads.shows_at, ListReads.there_is, Observers.acts_first, Observers.item_at, Observers.own_place, Observers.wait_channel_here, Observers.up_to}
 use Rattle.cpu.proofs.{Observers.up_to_end, LayeredSteps.shown_by}
 use Rattle.cpu.proofs.systems.System.place.Goals as goal
 
@@ -28,11 +27,10 @@ returns g c =
     let m = c.self.inside.machine in
     let is = c.self.invariant in
     let items = c.self.inside.cpus.items in
-    let some : 0 < CPUS = let least = is.some in let most = is.most in omega (arith, least, most) in
     let first = there_is items 0 is.some in
     let observed = g.met.I.Owned.place first.0.part m c.args.thread (is.each 0 first.0 first.1).holds.0 (rw (← c.self.view_is) at c.requires) in
     absurd (wait_channel_here I m items
     (λ k x at. let e = is.each k x at in (e.number_is, e.holds.0, e.holds.1)) is.holders (λ p. g.I.Owned.IsSilent p m c.args.thread) (I.homes_of m) (I.moves m)
-    c.args.thread (law.moves_legal m (record { 0 = 0 }) (is.acts_for (record { 0 = 0 }) some)) is.within observed
+    c.args.thread (law.moves_legal m (record { 0 = 0 }) (acts_first is)) is.within observed
     (up_to_end (λ x. g.I.Owned.IsSilent x.part m c.args.thread) items c.deref-at-items.result.now c.loop-at.at-index c.deref-at-items.ensures.value
     c.loop-at-test.false c.loop-at.invariant))
