@@ -1,6 +1,6 @@
 -- What any fair lock's log says, whatever its words are: who took a spot in the line of a lock, tried, and gave the lock on.
 -- A give carries the name of the section that it ends. Newest first, with true numbers.
-use Rattle.std.specs.Prelude.{◌≡◌, ℕ, ◌<◌, Bool, true, false, List, [], ◌∷◌, ◌==◌, map, if◌then◌else◌}
+use Rattle.std.specs.Prelude.{◌≡◌, ℕ, ◌<◌, Bool, false, List, [], ◌∷◌, ◌==◌, map, if◌then◌else◌}
 use Rattle.event_log.specs.{declared.ids.CpuId.CpuId, declared.ids.LockId.LockId, declared.ids.TheConstants.CPUS, declared.events.Event.Event}
 use Rattle.event_log.specs.{declared.events.Event.TheVariants.Draw, declared.events.Event.TheVariants.Look, declared.events.Event.TheVariants.Free}
 use Rattle.event_log.specs.{History.same_cpu, History.same_lock, History.how_many, History.IsLawful}
@@ -34,12 +34,6 @@ abbrev pub is_give : {N : Type 0} → LockId → Action N → Bool
 is_give lock (Take cpu at) = false
 is_give lock (Try cpu at hit) = false
 is_give lock (Give cpu at name) = same_lock lock at
-
--- whether it gives some lock on
-abbrev pub is_any_give : {N : Type 0} → Action N → Bool
-is_any_give (Take cpu lock) = false
-is_any_give (Try cpu lock hit) = false
-is_any_give (Give cpu lock name) = true
 
 -- how many spots in the line of this lock were taken
 abbrev pub takes : {N : Type 0} → LockId → List (Action N) → ℕ

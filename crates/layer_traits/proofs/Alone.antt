@@ -2,13 +2,13 @@
 use Rattle.std.proofs.Common.{◌≡◌, ◌<◌, Bool, true, false, List, [], ◌∷◌, ◌++◌, Option, Some, None, IsSome, option_map, if◌then◌else◌, refl, ap, sym, ◌∙◌}
 use Rattle.std.proofs.Common.{subst, arith}
 use Rattle.std.proofs.lemmas.Bool.{eq-eqb}
-use Rattle.event_log.specs.{declared.ids.CpuId.CpuId, declared.ids.LockId.LockId, declared.ids.TheConstants.CPUS, History.AreForeign, History.IsLawful}
-use Rattle.event_log.specs.{History.same_cpu, History.same_lock, Actions.Action, Actions.Take, Actions.Try, Actions.Give, Actions.Phase, Actions.Rests}
+use Rattle.event_log.specs.{declared.ids.CpuId.CpuId, declared.ids.LockId.LockId, declared.ids.TheConstants.CPUS, History.AreForeign}
+use Rattle.event_log.specs.{History.same_cpu, History.same_lock, Actions.Action, Actions.Take, Actions.Try, Actions.Give, Actions.Rests}
 use Rattle.event_log.specs.{Actions.Waits, Actions.Holds, Actions.cpu_of_action, Actions.phase, Actions.takes, Actions.gives, Actions.spot_of, Actions.AreLegal}
-use Rattle.event_log.specs.{Actions.next_action, Actions.action_in, Sections.Section, Sections.cpu_of_section, Sections.sections_in, Sections.block_after}
-use Rattle.event_log.proofs.{Exclusion.is_at, Exclusion.line_at, Exclusion.phase_own, Exclusion.phase_other, Foreign.cpu_of_action_known, Line.crowd}
+use Rattle.event_log.specs.{Actions.next_action, Actions.action_in, Sections.Section, Sections.sections_in, Sections.block_after}
+use Rattle.event_log.proofs.{Exclusion.is_at, Exclusion.line_at, Exclusion.phase_own, Foreign.cpu_of_action_known, Line.crowd}
 use Rattle.event_log.proofs.{Line.crowd_same, Line.crowd_none, Same.same_cpu_self}
-use Rattle.layer_traits.specs.{Plans.Table, Plans.Left, Plans.Acting, Plans.at_give, Plans.reply, Protocol.IsKnown}
+use Rattle.layer_traits.specs.{Plans.Table, Plans.Left, Plans.Acting, Plans.at_give, Plans.reply}
 
 -- no action is foreign to a holder that acts for every CPU
 pub no_foreign_acts : {N : Type 0} (ActsFor : CpuId → Type 0) → ((c : CpuId) → c.0 < CPUS → ActsFor c) → (others old : List (Action N))
@@ -18,15 +18,6 @@ no_foreign_acts ActsFor all (a ∷ others) old legal foreign =
     let other : same_cpu (cpu_of_action a) (cpu_of_action a) ≡ false = (foreign (cpu_of_action a) (all (cpu_of_action a) (cpu_of_action_known a
     (others ++ old) legal.0 legal.1))).0 in
     let itself : same_cpu (cpu_of_action a) (cpu_of_action a) ≡ true = same_cpu_self (cpu_of_action a) in
-    absurd (cc (other, itself))
-
--- nor is a section
-pub no_foreign_sections : {E : Type 0} (ActsFor : CpuId → Type 0) → ((c : CpuId) → c.0 < CPUS → ActsFor c) → (others old : List (Section E))
-    → IsLawful IsKnown (others ++ old) → AreForeign ActsFor cpu_of_section others → others ≡ []
-no_foreign_sections ActsFor all [] old known foreign = refl
-no_foreign_sections ActsFor all (s ∷ others) old known foreign =
-    let other : same_cpu s.cpu s.cpu ≡ false = (foreign s.cpu (all s.cpu known.0)).0 in
-    let itself : same_cpu s.cpu s.cpu ≡ true = same_cpu_self s.cpu in
     absurd (cc (other, itself))
 
 -- a lock that opened with a block has one after any sections
@@ -73,30 +64,10 @@ module _ {N : Type 0} (cpu : CpuId) (lock : LockId) (name : N) (past : List (Act
   pub third_action : next_action cpu lock name (Try cpu lock true ∷ Take cpu lock ∷ past) ≡ Give cpu lock name
   third_action = ap (action_in cpu lock name (Try cpu lock true ∷ Take cpu lock ∷ past)) holds
 
-  -- of which the third answers
-  pub first_reply : {B R : Type 0} (table : Table N B R) (opening : LockId → Option B) → reply table opening cpu lock name past ≡ None
-  first_reply table opening = ap (λ p. at_give p (option_map (table.answer name) (block_after table.edited opening lock (sections_in past)))) (rests cpu)
-
-  pub second_reply : {B R : Type 0} (table : Table N B R) (opening : LockId → Option B) → reply table opening cpu lock name (Take cpu lock ∷ past) ≡ None
-  second_reply table opening = ap (λ p. at_give p (option_map (table.answer name) (block_after table.edited opening lock (sections_in past)))) waits
-
   pub third_reply : {B R : Type 0} (table : Table N B R) (opening : LockId → Option B)
       → reply table opening cpu lock name (Try cpu lock true ∷ Take cpu lock ∷ past)
       ≡ option_map (table.answer name) (block_after table.edited opening lock (sections_in past))
   third_reply table opening = ap (λ p. at_give p (option_map (table.answer name) (block_after table.edited opening lock (sections_in past)))) holds
-
-  -- and then every CPU rests again
-  pub rest_again : (c : CpuId) → phase c (Give cpu lock name ∷ Try cpu lock true ∷ Take cpu lock ∷ past) ≡ Rests
-  rest_again c = go (same_cpu cpu c) refl
-    where
-      after : Bool → Phase
-      after b = if b then Rests else (if b then Holds lock else (if b then Waits lock else phase c past))
-
-      go : (b : Bool) → same_cpu cpu c ≡ b → phase c (Give cpu lock name ∷ Try cpu lock true ∷ Take cpu lock ∷ past) ≡ Rests
-      go true same = ap (λ b. if b then Rests else phase c (Try cpu lock true ∷ Take cpu lock ∷ past)) same
-      go false other =
-          phase_other (Give cpu lock name) (Try cpu lock true ∷ Take cpu lock ∷ past) c other
-          ∙ (phase_other {N = N} (Try cpu lock true) (Take cpu lock ∷ past) c other ∙ (phase_other {N = N} (Take cpu lock) past c other ∙ rests c))
 
 -- where the holder acts for every CPU, a planned action is exactly the one that is due
 pub acts_alone : {N B R S A : Type 0} (ActsFor : CpuId → Type 0) (table : Table N B R) (opening : LockId → Option B) (cpu : CpuId) (lock : LockId)

@@ -11,7 +11,7 @@ use Rattle.layer_traits.specs.{MoveRules.section_moves, MoveRules.slept_at, Move
 use Rattle.layer_traits.specs.{Passes.pass_steps, Plans.Act, Plans.Follows, Plans.Left, Plans.Now, Plans.Plan, Plans.Table, Plans.raised, Queues.CallAllowed}
 use Rattle.layer_traits.specs.{Queues.Kernel, Queues.QueueAllowed, Queues.buffer_sections, Queues.call_move, Queues.event, Queues.cpu_of_queue_event}
 use Rattle.layer_traits.specs.{Queues.moves_in, Queues.out_at, Scheds.SchedPolled, Scheds.events_of, Scheds.pass_call}
-use Rattle.layer_traits.specs.declared.passes.Pass.{Pass, TheVariants.Switch, TheVariants.YieldNow, TheVariants.Drain, TheVariants.MakeReady, TheVariants.End}
+use Rattle.layer_traits.specs.declared.passes.Pass.{Pass, TheVariants.Switch}
 use Rattle.layer_traits.specs.Places.{AreMoves, Asleep, Hand, Home, MayMove, Move, Moved, Pend, WaitChannel, Pushed, Step, Still, Threads, Took, Where, home_of}
 use Rattle.layer_traits.specs.Places.{is_asleep, is_cpu, is_wait_channel, is_thread, pending_by, wait_channel_of, step, cpu_of_step, where_after, where_is}
 use Rattle.layer_traits.specs.Places.{where_slept, where_taken, where_woken}
@@ -153,10 +153,7 @@ module _ {E B O : Type 0} (k : Kernel E B O) where
   pass_moves : (c : CpuId) (p : Pass) (past : List (QueueEvent E))
       → moves_in k (events_of c (pass_call k.homes c p) ++ past) ≡ pass_steps k.homes c p ++ moves_in k past
   pass_moves c Switch past = refl
-  pass_moves c YieldNow past = refl
-  pass_moves c Drain past = refl
-  pass_moves c (MakeReady t) past = refl
-  pass_moves c End past = refl
+  pass_moves c other past = refl
 
   -- a poll of a pass, in moves alone
   pub pass_polled : (ActsFor : CpuId → Type 0) (c : CpuId) (p : Pass) (result : Option (SchedAnswer O)) (old new : List (QueueEvent E)) (own own' : Threads)
@@ -176,8 +173,7 @@ module _ {E B O : Type 0} (k : Kernel E B O) where
 
 -- a poll that followed a plan followed the plan raised, with what is made of what it left
 pub follows_raised : {N B R S T A Q : Type 0} (ActsFor : CpuId → Type 0) (table : Table N B R) (opening : LockId → Option B) (cpu : CpuId)
-    (f : Left S A → Left T Q)
-    (plan : Plan N R S A) (old new : List (Action N)) (got : Left S A) → Follows ActsFor table opening cpu plan old new got
+    (f : Left S A → Left T Q) (plan : Plan N R S A) (old new : List (Action N)) (got : Left S A) → Follows ActsFor table opening cpu plan old new got
     → Follows ActsFor table opening cpu (raised f plan) old new (f got)
 follows_raised ActsFor table opening cpu f (Now left) old new got follows = (follows.0, ap f follows.1)
 follows_raised ActsFor table opening cpu f (Act lock name react) old new got follows =

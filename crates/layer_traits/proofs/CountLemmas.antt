@@ -59,14 +59,6 @@ pub count_front : (t : Tid) (q : List Tid) → one_if (is_thread t (first q)) + 
 count_front t [] = refl
 count_front t (x ∷ q) = ap (λ b. one_if b + count_in t q) (same_tid_sym x t)
 
-pub one_if_true : (b : Bool) → one_if b ≡ 1 → b ≡ true
-one_if_true true one = refl
-one_if_true false one = absurd (omega (arith, one))
-
-pub one_if_false : (b : Bool) → one_if b ≡ 0 → b ≡ false
-one_if_false true one = absurd (omega (arith, one))
-one_if_false false one = refl
-
 pub one_if_most : (b : Bool) → one_if b < 2
 one_if_most true = omega arith
 one_if_most false = omega arith

@@ -1,7 +1,7 @@
 -- A call that leaves the machine as it was leaves all that is framed.
-use Rattle.std.proofs.Common.{◌≡◌, ℕ, ◌+◌, ◌≤◌, List, Option, ap, arith, refl}
+use Rattle.std.proofs.Common.{ℕ, ◌+◌, ◌≤◌, List, Option, ap, arith, refl}
 use Rattle.event_log.specs.declared.ids.{CpuId.CpuId, LockId.LockId}
-use Rattle.layer_traits.specs.Framed.{Framed, Stays}
+use Rattle.layer_traits.specs.Framed.{Stays}
 
 one_less : (n : ℕ) → n ≤ n + 1
 one_less n = omega arith
@@ -9,17 +9,6 @@ one_less n = omega arith
 pub untouched : {M B : Type 0} (opening_of : M → LockId → Option B) (site_of : M → List ℕ) (room_of : M → ℕ) (ActsFor : M → CpuId → Type 0) (m : M)
     → Stays opening_of site_of room_of ActsFor m m
 untouched opening_of site_of room_of ActsFor m = record { opening = refl; site = refl; room = one_less (room_of m); acts = λ c acts. acts }
-
-pub nothing_done : {P M B : Type 0} (Fits : P → M → Type 0) (cpu_of : P → CpuId) (opening_of : M → LockId → Option B) (site_of : M → List ℕ)
-    (room_of : M → ℕ) (ActsFor MayHold : M → CpuId → Type 0) (old new : P) (m : M)
-    → Fits new m → cpu_of new ≡ cpu_of old → Framed Fits cpu_of opening_of site_of room_of ActsFor MayHold old new m m
-nothing_done Fits cpu_of opening_of site_of room_of ActsFor MayHold old new m fits same = record {
-  fits = fits;
-  cpu = same;
-  stays = untouched opening_of site_of room_of ActsFor m;
-  others = λ p other fits. fits;
-  holders = λ c other acts held. held;
-}
 
 -- what stays beneath stays under another view of the blocks
 pub viewed_stays : {M B C : Type 0} (view : (LockId → Option B) → LockId → Option C) {opening_of : M → LockId → Option B} {site_of : M → List ℕ}

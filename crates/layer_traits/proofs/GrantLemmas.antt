@@ -68,8 +68,7 @@ pub hits_as_grants : {E B : Type 0} (edited : E → B → B) (opening : LockId �
     → (cpu : CpuId) (lock : LockId) (ticket : ℕ) (found : Option B)
     → MatchOption found (lock_phase cpu log ≡ Waiting lock ticket)
     (λ block. (lock_phase cpu log ≡ Holding lock ticket) × (block_after edited opening lock (sections log) ≡ Some block))
-    → MatchOption found (grant_lock_phase cpu (as_grants log) ≡ Waiting lock ticket)
-    (λ block. (grant_lock_phase cpu (as_grants log) ≡ Holding lock ticket)
+    → MatchOption found (grant_lock_phase cpu (as_grants log) ≡ Waiting lock ticket) (λ block. (grant_lock_phase cpu (as_grants log) ≡ Holding lock ticket)
     × (block_after edited opening lock (grant_sections (as_grants log)) ≡ Some block))
 hits_as_grants edited opening log legal cpu lock ticket None waits = stands_as_grants log legal cpu ∙ waits
 hits_as_grants edited opening log legal cpu lock ticket (Some block) hit = (

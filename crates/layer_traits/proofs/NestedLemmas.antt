@@ -267,8 +267,7 @@ module _ {E B O : Type 0} (rules : Rules E B O) (mv : MoveRules E O) (opening : 
 
       -- a poll of a section is a poll of its call
       pub polled_event : (ActsFor Acts : CpuId → Type 0) → ((d : CpuId) → Acts d → ActsFor d)
-          → (c : CpuId) (call : QueueCall E) (result : Option (QueueAnswer O))
-          (old new : List (Section (QueueEdit E))) → Lawful new
+          → (c : CpuId) (call : QueueCall E) (result : Option (QueueAnswer O)) (old new : List (Section (QueueEdit E))) → Lawful new
           → Polled (queue_rules rules mv) opening ActsFor (section c (lock_of call) (edit_of call)) result old new
           → QueuePolled beneath Acts (event c call) result (map event_of old) (map event_of new)
       polled_event ActsFor Acts weakens c call result old new lawful polled = record {

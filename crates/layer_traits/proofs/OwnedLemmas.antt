@@ -12,8 +12,7 @@ same_shown Fits cpu_of IsInside here home truth other same shown = subst (λ o. 
 
 -- a block in the hands of a part beneath is in those of the part that stands on it
 held_under : {P Q A : Type 0} (below : Q → P) (FitsP : P → Type 0) (FitsQ : Q → Type 0) (cpu_below : P → CpuId) (cpu_of : Q → CpuId)
-    (InsideP InsideQ : CpuId → Type 0)
-    (here : P → Option A) → ((q : Q) → FitsQ q → FitsP (below q)) → ((q : Q) → FitsQ q → cpu_below (below q) ≡ cpu_of q)
+    (InsideP InsideQ : CpuId → Type 0) (here : P → Option A) → ((q : Q) → FitsQ q → FitsP (below q)) → ((q : Q) → FitsQ q → cpu_below (below q) ≡ cpu_of q)
     → ((c : CpuId) → InsideP c → InsideQ c)
     → IsHeld FitsP cpu_below InsideP here → IsHeld FitsQ cpu_of InsideQ (λ q. here (below q))
 held_under below FitsP FitsQ cpu_below cpu_of InsideP InsideQ here fits cpus inside is = record {

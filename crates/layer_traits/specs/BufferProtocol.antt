@@ -1,14 +1,14 @@
 -- Which section of a buffer which CPU may do after which sections: whoever enters stands in no line of the buffer, whoever tries
 -- stands in the line of its side, and whoever waits tried in vain in its section before; whoever owns the lock may close.
 use Rattle.std.specs.Prelude.{◌≡◌, Bool, true, false, not, ◌&&◌, List, [], ◌∷◌, Option, Some, None, if◌then◌else◌}
-use Rattle.event_log.specs.{declared.ids.CpuId.CpuId, declared.ids.LockId.LockId, declared.ids.Tid.Tid, History.same_lock, Sections.Section}
+use Rattle.event_log.specs.{declared.ids.LockId.LockId, declared.ids.Tid.Tid, History.same_lock, Sections.Section}
 use Rattle.layer_traits.specs.declared.{locked.QEdit.TheVariants.Acquire, locked.QEdit.TheVariants.Inside, locked.QEdit.TheVariants.Release, locked.Side.Side}
 use Rattle.layer_traits.specs.declared.{locked.Side.TheVariants.Receivers, locked.Side.TheVariants.Senders, conditions.CvEdit.TheVariants.Edit}
 use Rattle.layer_traits.specs.declared.{conditions.CvEdit.TheVariants.SignalFront, conditions.CvLeave.CvLeave, conditions.CvLeave.TheVariants.Leave}
 use Rattle.layer_traits.specs.declared.{conditions.CvLeave.TheVariants.Wait, conditions.CvEdit.CvEdit, conditions.CvOut.CvOut, buffer_edits.BufferOut.BufferOut}
 use Rattle.layer_traits.specs.declared.buffer_edits.BufferEdit.{BufferEdit, TheVariants.Enter, TheVariants.TryPut, TheVariants.TryTake, TheVariants.Shut}
-use Rattle.layer_traits.specs.{Conditions.CvCall, Conditions.MonitorRules, Conditions.cv_rules, Locking.LockRules, Locking.LockState, Locking.IsOwners}
-use Rattle.layer_traits.specs.{Locking.lock_after, Locking.lock_caller, Locking.owner_in, BufferBlocks.BufferState, BufferBlocks.buffer_answer}
+use Rattle.layer_traits.specs.{Conditions.CvCall, Conditions.MonitorRules, Conditions.cv_rules, Locking.LockRules, Locking.LockState}
+use Rattle.layer_traits.specs.{Locking.lock_after, Locking.lock_caller, BufferBlocks.BufferState, BufferBlocks.buffer_answer}
 use Rattle.layer_traits.specs.{BufferBlocks.buffer_edited, BufferBlocks.thread_of_edit, BufferBlocks.front_ready, BufferBlocks.is_next, BufferBlocks.line_of}
 use Rattle.thread_blocks.specs.Queues.{same_tid, is_in}
 
@@ -95,9 +95,3 @@ buffer_monitor_rules = record {
   ready = front_ready;
   allowed = buffer_allowed;
 }
-
--- a section may be done: by a CPU at which its caller is at home; by the lock's owner, or for an Acquire by one who is not; and it is due
-pub record MaySection (home : Tid → Option CpuId) (opening : LockId → Option BufferLock) (past : List BufferSection) (s : BufferSection) : Type 0 where
-  pub at : home (lock_caller buffer_rules s.edit) ≡ Some s.cpu
-  pub owner : IsOwners buffer_rules s.edit (owner_in (buffer_at opening past s.lock))
-  pub above : buffer_allowed opening past s

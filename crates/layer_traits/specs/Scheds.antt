@@ -53,10 +53,6 @@ abbrev pub IsLocal : {E : Type 0} → SchedCall E → Type 0
 IsLocal (call.Pass p) = IsLocalPass p
 IsLocal (call.OnBuffer b e) = ⊥
 
--- a call that touches something shared
-abbrev pub IsShared : {E : Type 0} → SchedCall E → Type 0
-IsShared s = IsLocal s → ⊥
-
 -- the buffer of a call is there
 abbrev pub BufferIsThere : {E B : Type 0} → (LockId → Option B) → SchedCall E → Type 0
 BufferIsThere opening (call.Pass p) = Unit {0}

@@ -1,4 +1,4 @@
-//! The layer of buffers.
+//! The layer of buffers. No call takes memory or waits.
 
 ghost use Rattle.std.specs.Prelude.{◌<◌, length};
 ghost use Rattle.layer_traits.specs.BufferLaw.{buffer_of, fifo_plan};

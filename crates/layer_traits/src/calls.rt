@@ -1,4 +1,5 @@
-//! Message calls, what they answer, what they leave behind, and where a thread stands.
+//! Message calls, what they answer, what they leave behind, and where a thread stands. No call
+//! takes memory or waits.
 
 use event_log::{BufId, CpuId, Kind, Msg};
 

@@ -1,4 +1,4 @@
-//! The layer of message calls.
+//! The layer of message calls. No call takes memory or waits.
 
 ghost use Rattle.std.specs.Prelude.{◌≡◌, length};
 ghost use Rattle.layer_traits.specs.IpcLaw.{ipc_plan};

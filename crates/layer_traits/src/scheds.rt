@@ -1,4 +1,4 @@
-//! The layer of schedulers.
+//! The layer of schedulers. No call takes memory or waits.
 
 ghost use Rattle.std.specs.Prelude.{◌≡◌, ◌≢◌, ◌≤◌, true, false, length, [], IsSome, map};
 ghost use Rattle.layer_traits.specs.{Places.at_boot, Places.pending_by, Places.Stands, Payloads.sched_meant, Payloads.sched_told, Plans.table_of};

@@ -42,7 +42,6 @@ asleep_away other asleep = absurd cc
 -- Which call it is.
 
 module _ {E : Type 0} (homes : List CpuId) (c : CpuId) where
-
   -- and one that is none touches nothing shared
   pub is_local : (s : SchedCall E) → queue_call homes c s ≡ None → IsLocal s
   is_local (call.Pass Switch) is = tt
@@ -228,7 +227,6 @@ module _ {E B O : Type 0} (rules : Rules E B O) (mv : MoveRules E O) (opening : 
     -- A call that is one at the shared queues.
 
     module _ (q : QueueCall E) (is : queue_call H c s ≡ Some q) where
-
       pub waiting_fits : (ActsFor : CpuId → Type 0) → ActsFor c → (new : List (QueueEvent E)) → QueuePolled K ActsFor (event below q) None past new → Lawful new
           → (below' : CpuId) (under' : Option (QueueEvent E)) → below' ≡ below → under' ≡ Some (event below q)
           → PartFits rules mv opening c below' table under' new own

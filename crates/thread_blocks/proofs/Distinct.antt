@@ -170,10 +170,6 @@ unfolding IsDistinct
 parts t [] zs distinct = (refl, apart_is t zs distinct.0)
 parts t (y ∷ ys) zs distinct = let later = parts t ys zs distinct.1 in (or_from _ _ (parts_step t y ys zs distinct.0) later.0, later.1)
 
--- the front is taken out as any other thread
-pub without_front : (t : Tid) (queue : List Tid) → is_in t queue ≡ false → without t (t ∷ queue) ≡ queue
-without_front t queue absent = without_parted t [] queue refl absent
-
 -- where a thread stands in a list
 pub record Parted (t : Tid) (queue : List Tid) : Type 0 where
   pub before : List Tid

@@ -1,7 +1,7 @@
 -- What each step on the tables makes of the queue that they hold.
-use Rattle.std.proofs.Common.{◌≡◌, ℕ, ◌+◌, ◌-◌, ◌<◌, ◌≤◌, Bool, true, false, List, [], ◌∷◌, ◌++◌, length, refl, sym, ap, ◌∙◌, subst, arith, Option, Some, None}
+use Rattle.std.proofs.Common.{◌≡◌, ℕ, ◌+◌, ◌-◌, ◌<◌, Bool, true, false, List, [], ◌∷◌, ◌++◌, length, refl, sym, ap, ◌∙◌, subst, arith, Option, Some, None}
 use Rattle.std.proofs.Common.{IfSome, slice_index_or, slice_set, ◌⊎◌, inl, inr, ◌||◌, length-append, length-set}
-use Rattle.std.proofs.lemmas.{Bool.cases_Bool, Bool.eqb-false, Bool.false_from_ne_true, Grind.get_or-set_at, List.get_or-set_other, List.get_or_default}
+use Rattle.std.proofs.lemmas.{Bool.cases_Bool, Bool.eqb-false, Grind.get_or-set_at, List.get_or-set_other}
 use Rattle.event_log.specs.declared.ids.{Tid.Tid, TheConstants.THREADS}
 use Rattle.thread_blocks.specs.{declared.links.Links.Links, Queues.same_tid, Queues.is_in, Queues.first, Queues.without, Queues.IsQueue, Links.to, Links.walk}
 use Rattle.thread_blocks.specs.{Links.Relinked, Links.Hold}
@@ -54,9 +54,6 @@ not_last_in u t queue other = either (is_in u queue) (same_tid u t) other
     either true b is = refl
     either false b is = ap (λ c. c || false) is
 
-beyond : (t : Tid) → THREADS ≤ t.0 → t.0 < THREADS → ⊥
-beyond t past below = omega arith
-
 -- the table of members after one thread came or went
 members_after : (members : List Bool) (i : ℕ) (b : Bool) (t : Tid) (old new : List Tid) → length members ≡ THREADS → t.0 < THREADS → i ≡ t.0
     → ((u : Tid) → u.0 < THREADS → slice_index_or members u.0 false ≡ is_in u old) → is_in t new ≡ b
@@ -95,17 +92,6 @@ module _ {nexts prevs : Links} {members : List Bool} {count : ℕ} where
   -- a queue that lacks a thread is not full
   pub room_there : (queue : List Tid) (t : Tid) → Hold nexts prevs members count queue → t.0 < THREADS → is_in t queue ≡ false → count < THREADS
   room_there queue t hold known new = subst (λ n. n < THREADS) hold.counted (has_room queue t hold.queue_is known new)
-
-  -- whoever is a member stands in the queue
-  pub member_is : (queue : List Tid) (t : Tid) → Hold nexts prevs members count queue → t.0 < THREADS
-      → (found : Bool) → found ≡ slice_index_or members t.0 found
-      → found ≡ is_in t queue
-  member_is queue t hold known found is =
-      is ∙ get_or_default members t.0 found false (subst (λ n. t.0 < n) (sym hold.member_length) known) ∙ hold.members_are t known
-
-  -- who has no place in the tables stands in no queue
-  pub no_member : (queue : List Tid) (t : Tid) → Hold nexts prevs members count queue → THREADS ≤ t.0 → is_in t queue ≡ false
-  no_member queue t hold past = false_from_ne_true (is_in t queue) (λ found. beyond t past (hold.queue_is.1 t found))
 
   -- the queue begins with the thread that the end leads to
   pub fronted : (queue : List Tid) → Hold nexts prevs members count queue → nexts.end ≡ first queue

@@ -56,6 +56,8 @@ impl ThreadList {
     }
 
     /// Puts `t`, which is not there, behind the others.
+    ///
+    /// Requires: `t` is one of the threads that there may be, and is not there.
     #[inline(always)]
     pub(crate) fn push(&mut self, t: Tid)
         requires known { t.0 < THREADS }

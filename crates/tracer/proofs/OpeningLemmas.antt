@@ -182,7 +182,12 @@ pub record CapacityTaken (v : Version) (count : ℕ) (caps : List ℕ) (ps : Lis
 
 capacity_found : (v : Version) (count : ℕ) (caps : List ℕ) (ps : List (List ℕ)) (digits : List ℕ) (capacity : ℕ) (after : Progress)
     → ps ≡ codes "cap" ∷ decimal (length (map fresh caps)) ∷ digits ∷ [] → IsInRange CAPACITY digits capacity → 0 < capacity
-    → record { at = behind_cap (length (map fresh caps) + 1) count; version = v; lowest = One; buffers = map fresh caps ++ fresh capacity ∷ []; entries = 0;
+    → record {
+      at = behind_cap (length (map fresh caps) + 1) count;
+      version = v;
+      lowest = One;
+      buffers = map fresh caps ++ fresh capacity ∷ [];
+      entries = 0;
     } ≡ after
     → CapacityTaken v count caps ps after capacity
 capacity_found v count caps ps digits capacity after shape range some is = record {

@@ -272,8 +272,12 @@ holds_of values (Some seen) e = (seen, refl, e)
 left_found : (v : Version) (at : NextLine) (b : ℕ) (caps : List ℕ) (earlier : List Entry) (contents : List (List Message)) (ps values : List (List ℕ))
     (after : Progress) (seen : Seen) → ps ≡ codes "left" ∷ decimal b ∷ values → list_all (spells_message v) values ≡ true
     → slice_get (known_from earlier contents 0 caps) b ≡ Some seen → are_values values seen.items ≡ true
-    → record { at = cond (nat_lt (b + 1) (length (known_from earlier contents 0 caps))) (wants.Contents (b + 1)) wants.End; version = v;
-      lowest = version_of earlier; buffers = known_from earlier contents 0 caps; entries = length earlier;
+    → record {
+      at = cond (nat_lt (b + 1) (length (known_from earlier contents 0 caps))) (wants.Contents (b + 1)) wants.End;
+      version = v;
+      lowest = version_of earlier;
+      buffers = known_from earlier contents 0 caps;
+      entries = length earlier;
     } ≡ after → LeftTaken v b caps earlier contents ps after
 left_found v at b caps earlier contents ps values after seen shape spells found holds is =
     let inside : b < length caps = omega (arith, slice_get_within (known_from earlier contents 0 caps) b seen found, length-known_from earlier contents 0 caps)
