@@ -1,4 +1,5 @@
-//! Callers: native threads that send to buffers and receive from them, each at a CPU of its own.
+//! Callers: native threads that send to buffers and receive from them, each at a CPU of its own. No
+//! call takes memory. `send`, `recv` and `close` wait for other CPUs.
 
 ghost use Rattle.std.specs.Prelude.{◌≡◌, ◌<◌, ◌≤◌, false, [], MatchOption, if◌then◌else◌, is_ok, length};
 ghost use Rattle.event_log.specs.declared.entries.Kind.TheVariants as kind;

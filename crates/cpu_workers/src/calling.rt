@@ -1,4 +1,5 @@
-//! One message call of a native thread, polled until it answers.
+//! One message call of a native thread, polled until it answers. It takes no memory, and waits for
+//! other CPUs.
 
 ghost use Rattle.std.specs.Prelude.{◌≡◌, ◌<◌, None, Some, IfOk, IfErr, length};
 ghost use Rattle.layer_traits.specs.{declared.call_states.Stage.TheVariants.Idle, BufferLaw.Calling, BufferLaw.MayGoOn, BufferLaw.MayPollCall};

@@ -1,5 +1,6 @@
-//! Counting in threads: each of several CPUs adds 1 to one number, in critical sections at one table of
-//! shared words.
+//! Counting in threads: each of several CPUs adds 1 to one number, in critical sections at one
+//! table of shared words. `count_table` and `count_or_leave` take memory, start threads and wait
+//! for them. `number_left` does none of it.
 
 ghost use Rattle.std.specs.Prelude.{◌≡◌};
 ghost use Rattle.cpu_workers.specs.Counts.{counting};

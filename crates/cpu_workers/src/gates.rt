@@ -1,4 +1,5 @@
-//! Gates: what may hold a CPU between two of its turns.
+//! Gates: what may hold a CPU between two of its turns. `OpenGate` takes no memory and does not
+//! wait.
 
 ghost use Rattle.std.specs.Prelude.{◌≡◌, ℕ};
 

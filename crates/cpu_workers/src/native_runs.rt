@@ -1,4 +1,5 @@
-//! Natives at one table of shared words.
+//! Natives at one table of shared words. `run_native` takes memory, starts threads and waits for
+//! them.
 
 ghost use Rattle.std.specs.Prelude.{◌≡◌, ◌<◌, ◌≤◌, [], All, IfOk, length, map, vec_capacity};
 ghost use Rattle.event_log.specs.{declared.ids.TheConstants.BUFFERS, declared.ids.TheConstants.CPUS, declared.ids.TheConstants.THREADS, Buffers.IsCapacity};

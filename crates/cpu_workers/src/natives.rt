@@ -1,4 +1,4 @@
-//! Natives: what runs in a thread of its own and calls the tower.
+//! Natives: what runs in a thread of its own and calls the tower. A native may wait while it runs.
 
 ghost use Rattle.std.specs.Prelude.{◌≡◌, List, [], ℕ};
 

@@ -1,4 +1,4 @@
-//! What the workers of a plan leave behind.
+//! What the workers of a plan leave behind. No call takes memory or waits.
 
 ghost use Rattle.std.specs.Prelude.{◌≡◌, Some};
 ghost use Rattle.layer_traits.specs.OneLock.{opened};

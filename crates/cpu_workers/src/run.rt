@@ -1,4 +1,5 @@
-//! The workers of a plan at one table of shared words.
+//! The workers of a plan at one table of shared words. `run_workers` takes memory, starts threads
+//! and waits for them.
 
 ghost use Rattle.std.specs.Prelude.{◌≡◌, ◌≤◌, [], IfOk, All, length, map, vec_capacity};
 ghost use Rattle.layer_traits.specs.OneLock.{AreDistinct, opened};

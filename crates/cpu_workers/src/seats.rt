@@ -1,4 +1,4 @@
-//! The seat of a CPU at the table of the tower's locks.
+//! The seat of a CPU at the table of the tower's locks. No call takes memory or waits.
 
 ghost use Rattle.std.specs.Prelude.{◌≡◌};
 ghost use Rattle.table_machine.specs.SeatViews.{IsOf};

@@ -1,4 +1,4 @@
-//! A thread for each worker.
+//! A thread for each worker. `work_all` takes memory, starts the threads and waits for them.
 
 ghost use Rattle.std.specs.Prelude.{◌≡◌, ◌≤◌, [], All, IfOk, MatchOption, length, vec_capacity};
 ghost use Rattle.cpu_workers.specs.{Reports.Both, Reports.HasRun, declared.starting.WorkerError.TheVariants.NoMemory as LacksMemory};

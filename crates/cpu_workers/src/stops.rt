@@ -1,4 +1,4 @@
-//! Why a worker stopped.
+//! Why a worker stopped. There is nothing to run.
 
 /// Why a worker stopped, between two sections of its CPU.
 #[derive(Clone, Copy, Debug, PartialEq, Eq)]

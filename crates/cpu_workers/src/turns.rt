@@ -1,4 +1,4 @@
-//! The turns of one worker.
+//! The turns of one worker. `work` takes no memory, and waits for other CPUs.
 
 ghost use Rattle.std.specs.Prelude.{◌≡◌, ◌≢◌, ◌<◌, ◌⊎◌, true, false, [], None, Some, MatchOption};
 ghost use Rattle.layer_traits.specs.declared.steps.Reason.TheVariants.{StepsUsed};

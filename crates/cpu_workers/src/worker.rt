@@ -1,4 +1,4 @@
-//! A worker: one CPU with its machine.
+//! A worker: one CPU with its machine. Only `at_boot` takes memory. No call waits.
 
 ghost use Rattle.std.specs.Prelude.{◌≡◌, ◌≢◌, ◌<◌, ◌≤◌, Some, None, IfOk, [], length, vec_capacity};
 

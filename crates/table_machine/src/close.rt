@@ -1,4 +1,4 @@
-//! How a table is closed.
+//! How a table is closed. It takes no memory and does not wait.
 
 ghost use Rattle.std.specs.Prelude.{◌≡◌, ℕ, ◌<◌, ◌≤◌, [], ◌∷◌, ◌++◌, Some, IsSome, All, List, length, vec_capacity};
 ghost use Rattle.std.specs.Mem.Slots.{slots_items, slots_len, IsFull};

@@ -1,4 +1,4 @@
-//! The key of a CPU: what lies in it is what the CPU has seen.
+//! The key of a CPU: what lies in it is what the CPU has seen. No call takes memory or waits.
 
 ghost use Rattle.std.specs.Prelude.{◌≡◌, ℕ, List, [], IsSome, Some, MatchOption, option_map};
 ghost use Rattle.event_log.specs.{declared.events.Event.TheVariants.Draw, declared.events.Event.TheVariants.Look, declared.events.Event.TheVariants.Free};

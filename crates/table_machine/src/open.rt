@@ -1,4 +1,4 @@
-//! How a table is made, and its keys dealt.
+//! How a table is made, and its keys dealt. `open` takes memory. It does not wait.
 
 ghost use Rattle.std.specs.Prelude.{◌≡◌, ◌+◌, ◌-◌, ◌<◌, ◌≤◌, ◌^◌, [], length, map, replicate, vec_len, vec_capacity, IfOk};
 ghost use Rattle.event_log.specs.declared.ids.{LockId.LockId, TheConstants.CPUS, TheConstants.LOCKS};

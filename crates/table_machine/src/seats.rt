@@ -1,4 +1,4 @@
-//! The seat of a CPU at a shared table.
+//! The seat of a CPU at a shared table. No call takes memory or waits.
 
 ghost use Rattle.std.specs.Prelude.{◌≡◌, List, IsSome, Some, MatchOption, option_map};
 ghost use Rattle.event_log.specs.{declared.ids.CpuId.CpuId, History.Grows, History.IsLawful, WordsLog.cpu_of_event};

@@ -1,4 +1,4 @@
-//! The table that the seats of all CPUs stand at.
+//! The table that the seats of all CPUs stand at. No call takes memory or waits.
 
 ghost use Rattle.std.specs.Prelude.{◌≡◌, ◌<◌, ◌≤◌, ◌^◌, IsSome, length};
 ghost use Rattle.event_log.specs.declared.ids.TheConstants.{CPUS};

@@ -1,4 +1,4 @@
-//! The words of one lock in a table, by which CPUs stand in line.
+//! The words of one lock in a table, by which CPUs stand in line. No call takes memory or waits.
 
 ghost use Rattle.std.specs.Prelude.{◌≡◌};
 

@@ -1,4 +1,5 @@
-//! The table of a count: opened with its number, counted at, and closed.
+//! The table of a count: opened with its number, counted at, and closed. To open it takes memory;
+//! to count waits for the workers.
 
 ghost use Rattle.std.specs.Prelude.{◌≡◌, ◌*◌, ◌<◌, ◌≤◌, ◌^◌, [], ◌∷◌, IsErr, IfOk, IfErr, OnErr};
 ghost use Rattle.table_machine.specs.SeatViews.{new_seat_views};
