@@ -218,7 +218,7 @@ class Trial:
             weak = ", but only since a proof file names what it took away: change a value and keep the shape" if body.is_weak else ""
             body.end(f"refused{weak}: {said[:160]}")
         elif alone:
-            body.end("NOT REFUSED: the function is still proved" if said == "proved" else f"no verdict: {said[:160]}", True)
+            body.end("NOT REFUSED: the function is still proved" if said.startswith("proved") else f"no verdict: {said[:160]}", True)
 
     def is_weak(self, body, lines):
         """Returns whether all that stands against the function is a proof file that no longer reads."""

@@ -38,6 +38,7 @@ calls_so Kept caps c n first last after new done acts site before same fresh ran
     record {
       caller = done;
       cpu_is = cpu;
+      thread_is = ap (λ t. t.0) ran.same.thread ∙ fresh.thread_is;
       caps_are = caps_is;
       kept = subst (λ x. Kept x after done) before (subst (λ x. Kept first x done) (sym same) ran.kept);
       few = left.few;

@@ -106,6 +106,7 @@ module _ {N : Type 0} (Kept : N → N → CallerView → Type 0) (caps : List �
               one.1,
               record {
                 cpu_is = subst (λ (v : CallerView). v.cpu ≡ cpu_at k) stands.is stands.left.calls.cpu_is;
+                thread_is = subst (λ (v : CallerView). v.thread.0 ≡ k) stands.is stands.left.calls.thread_is;
                 caps_are = subst (λ (v : CallerView). v.caps ≡ caps) stands.is stands.left.calls.caps_are;
                 kept = subst (λ (v : CallerView). Kept native stands.last v) stands.is stands.left.calls.kept;
               },

@@ -16,9 +16,10 @@ pub record HasKept {N : Type 0} (Kept : N → N → CallerView → Type 0) (nati
   pub kept : Kept native after last
   pub same : IsSameCaller caller last
 
--- the caller of a CPU before its first call
+-- the caller of a CPU before its first call, of the thread of the same number
 pub record IsNewCaller (caps : List ℕ) (c : CpuId) (caller : CallerView) : Type 0 where
   pub cpu_is : caller.cpu ≡ c
+  pub thread_is : caller.thread.0 ≡ c.0
   pub caps_are : caller.caps ≡ caps
   pub fresh : caller.calls ≡ []
 
@@ -30,12 +31,13 @@ pub record HasLeftMachine (caller : CallerView) (acts : List (Action TowerName))
   pub trace : IsTraceOf caller.cpu caller.caps acts caller.calls
   pub rests : is_in_section (phase caller.cpu acts) ≡ false
 
--- the native of a CPU has run with a machine that has seen these actions: it has kept what it promises of itself and of its calls, which are, once
--- and in their order, the CPU's effects in those actions, and not too many; and no section of the CPU is under way
+-- the native of a CPU has run, as the thread of the same number, with a machine that has seen these actions: it has kept what it promises of itself
+-- and of its calls, which are, once and in their order, the CPU's effects in those actions, and not too many; and no section of the CPU is under way
 pub record HasLeftCalls {N : Type 0} (Kept : N → N → CallerView → Type 0) (caps : List ℕ) (c : CpuId) (native after : N) (acts : List (Action TowerName))
     : Type 0 where
   pub caller : CallerView
   pub cpu_is : caller.cpu ≡ c
+  pub thread_is : caller.thread.0 ≡ c.0
   pub caps_are : caller.caps ≡ caps
   pub kept : Kept native after caller
   pub few : length caller.calls ≤ MOST_CALLS
@@ -54,15 +56,16 @@ pub record OpensWith (cpus : ℕ) (caps : List ℕ) (homes : List CpuId) (openin
 abbrev pub left_of : ℕ → List (LockId × Block) → List (List Message)
 left_of n blocks = listed (λ b. held_at (blocks_read blocks) (buffer_at b)) 0 n
 
--- what one native has done, where they stood in these lists
+-- what one native has done, where they stood in these lists, at the CPU and as the thread of its number
 pub record HasRunNative {N : Type 0} (Kept : N → N → CallerView → Type 0) (caps : List ℕ) (k : ℕ) (native after : N) (caller : CallerView) : Type 0 where
   pub cpu_is : caller.cpu ≡ cpu_at k
+  pub thread_is : caller.thread.0 ≡ k
   pub caps_are : caller.caps ≡ caps
   pub kept : Kept native after caller
 
--- natives have run, each at a CPU of its own, and have left this in the buffers: each has kept what it promises of itself and of its calls; the
--- calls of all have one order, which keeps each one's own, is a run of first-in first-out buffers and ends in what is left. So what was put into a
--- buffer is what was taken from it, in that order, and then what is left there
+-- natives have run, each at the CPU and as the thread of its number, and have left this in the buffers: each has kept what it promises of itself and of
+-- its calls; the calls of all have one order, which keeps each one's own, is a run of first-in first-out buffers and ends in what is left. So what was
+-- put into a buffer is what was taken from it, in that order, and then what is left there
 pub record HaveRun {N : Type 0} (Kept : N → N → CallerView → Type 0) (caps : List ℕ) (natives after : List N) (left : List (List Message)) : Type 0 where
   pub callers : List CallerView
   pub each : (k : ℕ) (native : N) → slice_get natives k ≡ Some native → (last : N) × (caller : CallerView) × (slice_get after k ≡ Some last)

@@ -163,9 +163,10 @@ fn closed<K: TableWords, N: Drop>(
 /// a buffer of each of these capacities, and gives them back, in their order, with what is left in the
 /// buffers. The locks of the table are ticket locks.
 ///
-/// Each native keeps what it promises of itself and of its calls. The calls of all have one order that
-/// keeps each native's own, is a run of first-in first-out buffers and ends in what is left. So what was
-/// put into a buffer is what was taken from it, in that order, and then what is left in it.
+/// Each native calls as the thread of its CPU's number, and keeps what it promises of itself and of its
+/// calls. The calls of all have one order that keeps each native's own, is a run of first-in first-out
+/// buffers and ends in what is left. So what was put into a buffer is what was taken from it, in that
+/// order, and then what is left in it.
 ///
 /// It waits for its natives, so it need not return. All memory is taken and all threads are known to have
 /// started before any call is made.

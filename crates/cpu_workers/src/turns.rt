@@ -4,7 +4,8 @@ ghost use Rattle.std.specs.Prelude.{◌≡◌, ◌≢◌, ◌<◌, ◌⊎◌, tr
 ghost use Rattle.layer_traits.specs.declared.steps.Reason.TheVariants.{StepsUsed};
 ghost use Rattle.cpu.specs.Table.{Setups.Setup, Steps.halted_at};
 ghost use Rattle.cpu_workers.specs.{Working.IsPlanned, Working.MayStep, Working.is_inside, declared.gates.Go.TheVariants.Limit};
-ghost use Rattle.cpu_workers.specs.{declared.gates.Go.TheVariants.Pass, Reports.HasRun, Reports.IsTrueStop, Reports.counted_on};
+ghost use Rattle.cpu_workers.specs.{declared.gates.Go.TheVariants.Pass, declared.stops.Stop.TheVariants.TurnsUsed};
+ghost use Rattle.cpu_workers.specs.Reports.{HasRun, IsTrueStop, counted_on};
 
 use crate::gates::{Gate, Go};
 use crate::stops::Stop;
@@ -56,8 +57,10 @@ fn one_more(taken: u64) -> u64
 // Why a worker whose CPU has no section under way stops, if it does.
 fn ending(halted: Option<Reason>, held: bool, taken: u64, turns: u64) -> Option<Stop>
     requires { halted ≢ Some StepsUsed }
-    ensures { MatchOption result ((halted ≡ None) × (held ≡ false) × (taken < turns))
+    ensures stops { MatchOption result ((halted ≡ None) × (held ≡ false) × (taken < turns))
         (λ stop. IsTrueStop halted (λ turn. held ≡ true) turns taken stop) }
+    // Where the gate has answered `Limit` too, that is why.
+    ensures used { result ≡ Some TurnsUsed → held ≡ false }
 {
     match halted {
         Some(Reason::AllEnded) => Some(Stop::AllEnded),
@@ -106,6 +109,7 @@ where
     ensures rests { (stop : _) → result ≡ Some stop → is_inside worker.now ≡ false }
     ensures stops { (stop : _) → result ≡ Some stop → (setup : Setup) → IsPlanned setup worker.now.plan
         → IsTrueStop (halted_at setup worker.now.cpu worker.now.private) (λ turn. held.new ≡ true) turns taken stop }
+    ensures used { result ≡ Some TurnsUsed → held.new ≡ false }
 {
     if worker.is_busy() {
         *held = ask(gate, worker, taken, *held);

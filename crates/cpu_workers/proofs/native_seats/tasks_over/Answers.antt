@@ -107,7 +107,7 @@ loop-number-preserved g c =
           × ((m : g.row.I-Machine.Denot) → slice_get machines j ≡ Some m → y.caller.site ≡ I.site m))
           c.loop-number.tasks.items t inv.each
           (rw inv.so_many (
-            record { cpu_is = e.cpu; caps_are = e.caps ∙ caps; fresh = e.calls },
+            record { cpu_is = e.cpu; thread_is = ap (λ t. t.0) e.thread; caps_are = e.caps ∙ caps; fresh = e.calls },
             there,
             λ m at_m. let same : c.remove-machine.result ≡ m = cc (here, at_m) in e.site ∙ ap (λ x. I.site x) same,
           ))
