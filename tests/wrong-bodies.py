@@ -16,8 +16,8 @@ then fails by name. So does an edit that cannot be applied, names no function, o
 
 tests/wrong-bodies.sums tells what was refused: for each body a sum of the kit's logic, of the crate's text, of the contracts and definitions of all beneath it,
 and of the body itself. Comments do not count, nor how imports are laid out, nor the bodies of other files' functions: a proof reads the contract of what it
-calls. A body whose sum stands there is not tried again; --all tries it all the same. This script alone writes the sums. --after-ci takes the libraries as `rt ci` left them, and takes the crates as proved; without it
-the libraries are built first, and each function has to be proved as it stands. The last line is 'N passed, M failed'.
+calls. A body whose sum stands there is not tried again; --all tries it all the same. This script alone writes the sums. --after-ci takes the libraries as
+`rt ci` left them, and takes the crates as proved; without it the libraries are built first, and each function has to be proved as it stands. The last line is 'N passed, M failed'.
 """
 import argparse
 import dataclasses
