@@ -8,7 +8,6 @@ what breaks; --help names them. Nothing here is proved: it is the program to pla
 Without --wrong it prints what `mctower run` prints, and tests/book.py holds the two against one another.
 """
 import argparse
-import copy
 import re
 import sys
 import tomllib
@@ -75,6 +74,14 @@ class Buffer:
         self.sleepers, self.waiting, self.line = deque(), (deque(), deque()), (deque(), deque())
         self.positions, self.closed, self.closes = [0, 0], False, 0
 
+    def copy(self):
+        """A copy that an edit of this one does not change."""
+        twin = Buffer(self.capacity)
+        twin.owner, twin.items, twin.effects = self.owner, deque(self.items), self.effects
+        twin.sleepers, twin.waiting, twin.line = deque(self.sleepers), tuple(map(deque, self.waiting)), tuple(map(deque, self.line))
+        twin.positions, twin.closed, twin.closes = list(self.positions), self.closed, self.closes
+        return twin
+
     def may_go(self, side):
         return self.closed or (len(self.items) < self.capacity if side == SENDERS else bool(self.items))
 
@@ -100,15 +107,16 @@ class Kernel:
             self.cpus[guest.home].ready.append(number)
 
     def step(self, c):
-        """Takes one step of a CPU, and tells its section and its part of it: '' where there is none."""
+        """Takes one step of a CPU, and tells its section and the part of it: it draws a ticket, misses its turn, enters, or ends. A step
+        without a lock stands alone. Both are '' where there is no step."""
         self.entry, cpu = None, self.cpus[c]
         if cpu.section is None:
             return self.begin(c, cpu)
         name, lock = cpu.section
         if cpu.block is None:
             if self.wrong != "look-always-hits" and self.words[lock][1] != cpu.ticket:
-                return name, "waits"
-            cpu.block = copy.deepcopy(self.blocks[lock])
+                return name, "misses"
+            cpu.block = self.blocks[lock].copy()
             return name, "enters"
         cpu.section, block, cpu.block = None, cpu.block, None
         self.edit(c, cpu, name, block)
@@ -119,7 +127,7 @@ class Kernel:
     def draw(self, cpu, name, lock):
         cpu.section, cpu.ticket = (name, lock), self.words[lock][0]
         self.words[lock][0] += 1
-        return name, "waits"
+        return name, "draws"
 
     def halted(self, c):
         """Why a CPU takes no step between its sections, or None."""
@@ -140,17 +148,23 @@ class Kernel:
             if not cpu.ready:
                 return self.draw(cpu, "Drain", ("pending", c))
             cpu.current = cpu.ready.popleft()
-            self.guests[cpu.current].place = f"Running({c})"
+            self.move(cpu.current, f"Running({c})")
             return "switch", "alone"
         guest = self.guests[cpu.current]
         call = guest.call()
         if call is None:
             if guest.instruction()[0] == "yield":
                 return self.draw(cpu, "Yield", ("pending", c))
-            return self.compute(cpu, guest)
+            return self.compute(cpu, cpu.current)
         if guest.stage is None:
             guest.stage, cpu.begun = "AcqQ", cpu.begun + 1
         return self.draw(cpu, f"{self.name_of(guest.stage, call[1])} {call[0]}", ("buffer", call[0]))
+
+    def move(self, t, place, queue=None):
+        """Moves a thread to a place, and to the end of the queue that is this place, if it is one."""
+        self.guests[t].place = place
+        if queue is not None:
+            queue.append(t)
 
     @staticmethod
     def name_of(stage, side):
@@ -158,8 +172,8 @@ class Kernel:
         names = {"Again": "AcqQ", "Try": ("TryTake", "TryPut")[side], "Other": signals[1 - side], "Own": signals[side]}
         return names.get(stage, stage)
 
-    @staticmethod
-    def compute(cpu, guest):
+    def compute(self, cpu, t):
+        guest = self.guests[t]
         word, registers = guest.instruction(), guest.registers
         number = [int(piece.removeprefix("r")) for piece in word[1:]]
         guest.line += 1
@@ -171,7 +185,7 @@ class Kernel:
         elif word[0] == "jnz":
             guest.line = number[1] if registers[number[0]] else guest.line
         else:
-            guest.place, cpu.current = "Ended", None
+            self.leave(cpu, t, "Ended")
         return word[0], "alone"
 
     def edit(self, c, cpu, name, block):
@@ -185,8 +199,7 @@ class Kernel:
             self.drain(c, cpu, block)
             if name == "Yield":
                 self.guests[t].line += 1
-                self.guests[t].place, cpu.current = f"Ready({c})", None
-                cpu.ready.append(t)
+                self.leave(cpu, t, f"Ready({c})", cpu.ready)
         else:
             self.edit_buffer(c, cpu, t, block)
 
@@ -194,13 +207,11 @@ class Kernel:
         s = cpu.hand
         if self.wrong != "pend-keeps-the-hand" or s in pending:
             cpu.hand = None
-        self.guests[s].place = f"Pending({self.guests[s].home})"
-        pending.append(s)
+        self.move(s, f"Pending({self.guests[s].home})", pending)
 
     def drain(self, c, cpu, pending):
         for t in pending:
-            self.guests[t].place = f"Ready({c})"
-        cpu.ready.extend(pending)
+            self.move(t, f"Ready({c})", cpu.ready)
         pending.clear()
 
     def edit_buffer(self, c, cpu, t, buffer):
@@ -212,8 +223,7 @@ class Kernel:
             if buffer.owner is None:
                 buffer.owner = t
             else:
-                buffer.sleepers.append(t)
-                self.sleep(cpu, guest, f"LockSleeper({b})")
+                self.leave(cpu, t, f"LockSleeper({b})", buffer.sleepers)
         elif stage == "Enter":
             guest.stage, guest.position = "Try", buffer.positions[side]
             buffer.positions[side] += 1
@@ -226,9 +236,8 @@ class Kernel:
             guest.stage = "Join"
             self.release(c, cpu, buffer)
         elif stage in ("Wait", "Join"):
-            buffer.waiting[side].append(t)
             guest.stage = "Again"
-            self.sleep(cpu, guest, f"{('WaitRecv', 'WaitSend')[side]}({b})")
+            self.leave(cpu, t, f"{('WaitRecv', 'WaitSend')[side]}({b})", buffer.waiting[side])
             if stage == "Wait":
                 self.release(c, cpu, buffer)
         elif stage in ("Other", "Own"):
@@ -272,17 +281,17 @@ class Kernel:
         guest.stage, guest.effect, cpu.begun = "Other", (kind, message), cpu.begun - 1
         cpu.trace.append(self.entry)
 
-    @staticmethod
-    def sleep(cpu, guest, place):
-        guest.place, cpu.current = place, None
+    def leave(self, cpu, t, place, queue=None):
+        """The thread that a CPU runs leaves it for another place."""
+        self.move(t, place, queue)
+        cpu.current = None
 
     def wake(self, c, cpu, t):
-        guest = self.guests[t]
-        if guest.home == c or self.wrong == "wakes-where-it-is":
-            guest.place = f"Ready({c})"
-            cpu.ready.append(t)
+        if self.guests[t].home == c or self.wrong == "wakes-where-it-is":
+            self.move(t, f"Ready({c})", cpu.ready)
         else:
-            guest.place, cpu.hand = f"Hand({c})", t
+            self.move(t, f"Hand({c})")
+            cpu.hand = t
 
     def release(self, c, cpu, buffer):
         first = buffer.sleepers.popleft() if buffer.sleepers else None

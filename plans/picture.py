@@ -116,7 +116,7 @@ class Picture:
 
     def cpu_lane(self, c, y):
         self.text(6, y + 16, f"CPU {c}", 11)
-        shades = {"waits": "#ffffff", "enters": "#bbbbbb", "ends": "#777777", "alone": "#eeeeee"}
+        shades = {"draws": "#ffffff", "misses": "#ffffff", "enters": "#bbbbbb", "ends": "#777777", "alone": "#eeeeee"}
         own, parts = [(i, s) for i, s in enumerate(self.sections) if s[0] == c and s[1]], []
         for i, (_, name, part, _) in own:
             self.box(self.at(i), y, self.wide, self.LANE - 12, shades[part], f"{name}: {part}, step {i + 1}")
