@@ -138,11 +138,19 @@ function partInWords(seen, {cpu, word, part, entry}) {
   return {first: EDITS[word](seen), small: edits};
 }
 
+// A step of which only the places and the entry are known.
+function thinInWords(run, at, {entry}) {
+  if (entry) return {first: EFFECTS[entry[2]](entry[1], entry[3], entry[4]), small: "takes effect", effect: true};
+  const moved = counted(run.record.threads.length).filter(t => run.changed(`t${t}.place`, at)).map(t => `thread ${t}: ${placed(run, run.place(t, at)).meaning}`);
+  return {first: moved.join("; ") || "goes on", small: moved.length ? "" : "no thread changes its place"};
+}
+
 // The words of step `at`: who acts, one sentence on what was done, the mechanics in small, and whether a call took effect.
 function wordsOf(run, at) {
   if (at === 0) return {who: "", first: "Before the first step", small: "each thread is ready at its home CPU"};
-  const step = run.step(at), who = `CPU ${step.cpu}` + (step.part === "" || step.part === "alone" ? "" : ` ${step.word}`);
+  const step = run.step(at), who = `CPU ${step.cpu}` + (["", "alone", "thin"].includes(step.part) ? "" : ` ${step.word}`);
   if (step.part === "") return {who, first: "takes no step", small: run.cell(`c${step.cpu}.state`, at)};
+  if (step.part === "thin") return {who, effect: false, ...thinInWords(run, at, step)};
   const seen = scene(run, at);
   return {who, effect: false, ...(step.part === "alone" ? aloneInWords(seen, step) : partInWords(seen, step))};
 }
@@ -198,7 +206,7 @@ function threadLane(run, t, y, {from, to, each, x}) {
   return svgText(0, y + 16, `thread ${t}`, 14, 'class="bold"') + bars.join("");
 }
 
-const PARTS = {draws: ["+", "takes a ticket"], misses: ["…", "looks in vain"], enters: ["", "enters"], ends: ["", "edits and leaves"], alone: ["", "a step alone"]};
+const PARTS = {draws: ["+", "takes a ticket"], misses: ["…", "looks in vain"], enters: ["", "enters"], ends: ["", "edits and leaves"], alone: ["", "a step alone"], thin: ["", "a step"]};
 function cpuLane(run, c, y, {from, to, each, x}) {
   const own = counted(to - from).map(i => from + i + 1).filter(at => run.step(at).cpu === c && run.step(at).part !== "");
   const boxes = own.map(at => {
@@ -286,7 +294,7 @@ function cpuCard(run, at, c, buttons) {
   const does = section ? `<b>${escaped(section)}</b>&nbsp;${cell("doing") === "inside" ? "inside" : "waits for its turn"}`
     : cell("state") !== "live" ? `<b>${cell("state")}</b>` : section === undefined ? "live" : '<span class="none">between sections</span>';
   const slots = slot(run, at, "runs", `c${c}.current`, "Running") + slot(run, at, "ready", `c${c}.ready`, "Ready") + slot(run, at, "hand", `c${c}.hand`, "Hand")
-    + slot(run, at, "pending", `c${c}.pending`, "Pending") + (cell("ended").length ? slot(run, at, "ended", `c${c}.ended`, "Ended") : "");
+    + slot(run, at, "pending", `c${c}.pending`, "Pending") + ((cell("ended") || []).length ? slot(run, at, "ended", `c${c}.ended`, "Ended") : "");
   const busy = run.lock("pending" + c, at).line.length || isNew(run, at, "pending" + c);
   return `<div class="card${acts ? " acts" : ""}"><h3>CPU ${c} <small>${proved(run)}</small>${buttons(c)}</h3>`
     + `<div class="slots"><span class="${isNew(run, at, `c${c}.section`, `c${c}.doing`, `c${c}.state`)}">${does}</span></div><div class="slots">${slots}</div>`
@@ -305,10 +313,9 @@ function boxesOf(items, capacity) {
 // One side of a buffer: who stands in its line, and who waits.
 function sideRows(run, at, b, side, queue, place) {
   const line = run.cell(`b${b}.${side}`, at), waiters = run.cell(`b${b}.${queue}`, at), words = {receive: "wait to receive", send: "wait to send"}[side];
-  if (line === undefined) return "";
   const fresh = isNew(run, at, `b${b}.${side}`), also = isNew(run, at, `b${b}.${queue}`);
-  return (line.length || fresh || run.record.capacities.length < 2 ? row(`${side} line`, line.map(([t, position]) => mention(t, position)).join(""), fresh) : "")
-    + (waiters.length || also ? row(words, chips(run, waiters, place), also) : "");
+  return (line && (line.length || fresh || run.record.capacities.length < 2) ? row(`${side} line`, line.map(([t, position]) => mention(t, position)).join(""), fresh) : "")
+    + (waiters && (waiters.length || also) ? row(words, chips(run, waiters, place), also) : "");
 }
 function bufferCard(run, at, b) {
   const cell = name => run.cell(`b${b}.${name}`, at), fresh = name => isNew(run, at, `b${b}.${name}`), lock = "buffer" + b;
