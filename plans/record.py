@@ -32,6 +32,12 @@ PLACES = {
 }
 
 
+def placed(place):
+    """The name and the number of a place such as `WaitRecv(0)`, and what it means in words."""
+    name, _, number = place.rstrip(")").partition("(")
+    return name, number, PLACES[name][3].replace("N", number)
+
+
 def place_style():
     """The colours of the places as rules of a style sheet: a class for each."""
     return "\n".join(f".{name} {{ background: {colour}; fill: {colour}; color: {ink}; }} .on{name} {{ fill: {ink}; }}"
@@ -199,7 +205,20 @@ def told_apart(plan, plan_text, steps):
     return difference((system.text(), system.states()), proved_prints(plan_text, spelling(steps)))
 
 
-def compared(plan, plan_text, steps, printed, wrong):
+def places_in(told):
+    """Where each thread stands in a record: by step, from none on."""
+    where = {told["names"].index(f"t{t}.place"): t for t in range(len(told["threads"]))}
+    now = [told["boot"][number] for number in where]
+    places = [list(now)]
+    for *_, changed in told["steps"]:
+        for number, value in zip(changed[::2], changed[1::2]):
+            if number in where:
+                now[where[number]] = value
+        places.append(list(now))
+    return places
+
+
+def compared(plan, plan_text, steps, printed, wrong=None):
     """After how many steps the proved program first prints something else, or None. Of the whole kernel a difference is a RuntimeError."""
     differs = first_difference(plan_text, steps, printed)
     if differs is not None and not wrong:
