@@ -19,8 +19,9 @@ from pathlib import Path
 
 from asking import GRAMMAR, asked_for
 from kernel import WRONG, Kernel, schedule_in, steps_of
-from record import BREAKDOWNS, cells, changes, compared, frame, place_style, program_is_there, read_plan, record, spelling
-from states import EACH_STEP, LAWS, MOST_STATES, States, compare, endings, none_of, report
+from record import cells, changes, compared, frame, place_style, program_is_there, read_plan, record, spelling
+from laws import LAWS
+from states import EACH_STEP, MOST_STATES, Breakdown, States, compare, endings, none_of, report
 
 HERE = Path(__file__).resolve().parent
 MOST_STEPS = 20_000
@@ -59,8 +60,7 @@ def move_from(states, c, before):
     pieces = states.pieces
     try:
         state = pieces.after(c)
-    except BREAKDOWNS:
-        pieces.forget()
+    except Breakdown:
         return -1, None
     if state is None:
         return -1, None

@@ -96,9 +96,20 @@ def cells(system):
 # --- a run as a record --------------------------------------------------------------------------------------------------------------
 
 
+def change(old, new):
+    """A new value, or of a long queue what it lost in front and got behind."""
+    if not (isinstance(new, list) and len(new) > 4):
+        return new
+    for lost in (0, 1):
+        kept = len(old) - lost
+        if old[lost:] == new[:kept]:
+            return {"lost": lost, "got": new[kept:]}
+    return new
+
+
 def changes(old, new):
-    """The cells that changed, as the number of each and its new value, one behind the other."""
-    return [item for number, (name, value) in enumerate(new.items()) if value != old[name] for item in (number, value)]
+    """The cells that changed, as the number of each and its change, one behind the other."""
+    return [item for number, (name, value) in enumerate(new.items()) if value != old[name] for item in (number, change(old[name], value))]
 
 
 def steps_record(system, steps, each=lambda: None):

@@ -27,6 +27,10 @@ EACH_STEP = "each step can be taken"  # by a kernel with a rule left out, which 
 MOST_STATES = 1_000_000
 
 
+class Breakdown(Exception):
+    """A kernel with a rule left out cannot take a step: it takes from a list that is empty."""
+
+
 class Pieces:
     """The states of one kernel as tuples of small numbers.
 
@@ -133,7 +137,8 @@ class Pieces:
     # --- steps
 
     def after(self, c):
-        """The state after a step of a CPU from the loaded one, or None if the step would change nothing: the CPU is halted, or looks in vain."""
+        """The state after a step of a CPU from the loaded one, or None if the step would change nothing: the CPU is halted, or looks in vain. After a
+        Breakdown no state is loaded."""
         system, cpu = self.system, self.system.cpus[c]
         if cpu.section is None:
             if system.halted(c):
@@ -141,8 +146,13 @@ class Pieces:
         elif cpu.block is None and system.wrong != "look-always-hits" and system.words[cpu.section[1]][1] != cpu.ticket:
             return None
         lock = cpu.section and cpu.section[1]
-        name, part = system.step(c)
-        self.did = name, part
+        try:
+            self.did = system.step(c)
+        except BREAKDOWNS:
+            if not system.wrong:
+                raise
+            self.now[:] = [None] * len(self.now)
+            raise Breakdown from None
         lock = lock or (cpu.section and cpu.section[1])
         now = self.now
         for place in (c, *range(self.guests_at, self.locks_at)):
@@ -159,10 +169,6 @@ class Pieces:
         while state is not None and self.system.cpus[c].section is not None:
             state, taken = self.after(c), taken + 1
         return state, taken
-
-    def forget(self):
-        """The kernel broke down within a step: what it has now is no state."""
-        self.now[:] = [None] * len(self.now)
 
     # --- the laws
 
@@ -222,10 +228,7 @@ class States:
             self.pieces.load(state)
             try:
                 new, taken = self.pieces.after_section(c) if self.by_sections else (self.pieces.after(c), 1)
-            except BREAKDOWNS:
-                if not self.pieces.system.wrong:
-                    raise
-                self.pieces.forget()
+            except Breakdown:
                 self.broken.setdefault(EACH_STEP, origin)
                 continue
             self.moves += new is not None
@@ -276,7 +279,10 @@ class States:
         state = next(iter(self.number))
         for c in (c for c, times in runs for _ in range(times)):
             self.pieces.load(state)
-            state = self.pieces.after(c)
+            try:
+                state = self.pieces.after(c)
+            except Breakdown:
+                return None
             if state is None:
                 return None
         return self.number.get(state)
