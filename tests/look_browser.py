@@ -190,7 +190,7 @@ def chosen_links(checks):
     """Links with a schedule, and breaking a rule by hand."""
     browser = checks.browser
     checks.open("all", "#schedule=0*13,1*24&step=30")
-    checks.holds("a link with a schedule", [checks.at(), checks.said()[:53]], [[30, 37], "CPU 1 Pend thread 0 goes home: it is pending at CPU 0 edits the"])
+    checks.holds("a link with a schedule", [checks.at(), checks.said()[:53]], [[30, 37], "CPU 1 Pend thread 0 goes home: it is pending at CPU 0"])
     checks.open("all", "#schedule=0*13,7*24&step=30")
     checks.holds("a link with a CPU that is none", [checks.at(), browser.read("element('told').textContent")], [[13, 13], "the schedule names a CPU that the plan has not"])
     checks.open("lock", "#schedule=")
