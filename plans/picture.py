@@ -12,11 +12,12 @@ import os
 import re
 import subprocess
 import sys
-import tomllib
 from html import escape
 from pathlib import Path
 
-from kernel import Kernel, schedule_in, steps_of
+from kernel import Kernel
+from reading import Refusal, bytes_at
+from schedules import chosen, read_run, schedule_of, steps_of
 
 ROOT = Path(__file__).resolve().parent.parent
 PROGRAM = os.environ.get("MCTOWER", str(ROOT / "crates/mctower/out/mctower"))
@@ -36,7 +37,7 @@ PLACES = {
 
 def told(plan, steps):
     """What the program tells after these steps: each thread's place, and the entries as a sorted list."""
-    words = [PROGRAM, "run"] + (["--schedule", ",".join(map(str, steps))] if steps else [])
+    words = [PROGRAM, "run"] + (["--schedule", schedule_of(steps)] if steps else [])
     ran = subprocess.run(words, input=plan, capture_output=True, text=True, check=False)
     if ran.returncode:
         sys.exit(f"picture: {PROGRAM} ended with status {ran.returncode}: {ran.stderr.strip()}")
@@ -44,11 +45,9 @@ def told(plan, steps):
     return places, sorted(line for line in ran.stdout.splitlines() if line.startswith("e "))
 
 
-def observed(plan, steps):
-    """By step, from none on: the places that the program tells; and each step's section, part and entry."""
-    told(plan, steps)  # a plan or a schedule that the program refuses ends here
+def observed(plan, kernel, steps):
+    """By step of a plan's text, from none on: the places that the program tells; and each step's section, part and entry."""
     places, sections, entries = [told(plan, [])[0]], [], []
-    kernel = Kernel(tomllib.loads(plan))
     for number, c in enumerate(steps, 1):
         name, part = kernel.step(c)
         if kernel.entry:
@@ -156,35 +155,28 @@ class Picture:
         return "\n".join([head, *self.parts, "</svg>"]) + "\n"
 
 
-def plan_at(path):
-    """The text of a plan."""
-    if not path.is_file():
-        sys.exit(f"picture: there is no plan at {path}: name one that is there, as plans/one-send.toml")
-    try:
-        return path.read_text(encoding="utf-8")
-    except (OSError, UnicodeDecodeError) as fault:
-        sys.exit(f"picture: {path} cannot be read: {fault}")
-
-
-def steps_in(schedule):
-    """The steps of a schedule."""
-    try:
-        return steps_of(schedule)
-    except ValueError:
-        sys.exit(f"picture: {schedule} is no schedule: write it as in docs/spec/command-line.md, such as 0*13,1*40")
-
-
 def main(words):
+    if words in (["--help"], ["-h"]):
+        print(__doc__)
+        return 0
     if not 1 <= len(words) <= 2:
         sys.exit("usage: plans/picture.py PLAN [SCHEDULE] > picture.svg")
-    plan = plan_at(Path(words[0]))
-    schedule = words[1] if len(words) == 2 else schedule_in(plan)
-    steps = steps_in(schedule)
+    path, schedule = words[0], words[1] if len(words) == 2 else None
+    if not Path(path).exists():
+        sys.exit(f"picture: there is no plan at {path}: name one that is there, as plans/one-send.toml")
+    try:
+        raw = bytes_at(path)
+        schedule = chosen(raw, schedule)
+        plan, _ = read_run(raw, schedule)
+    except Refusal as refusal:
+        sys.stderr.write(refusal.told(path))
+        return refusal.status
     if not (os.path.isfile(PROGRAM) and os.access(PROGRAM, os.X_OK)):
         sys.exit(f"picture: there is no program at {PROGRAM}: build it with bench/prove-all.py, or name one by MCTOWER")
-    places, sections = observed(plan, steps)
-    sys.stdout.write(Picture(f"{Path(words[0]).name}, schedule {schedule or '(none)'}", places, sections).svg())
+    places, sections = observed(raw.decode("utf-8"), Kernel(plan), steps_of(schedule or ""))
+    sys.stdout.write(Picture(f"{Path(path).name}, schedule {schedule or '(none)'}", places, sections).svg())
+    return 0
 
 
 if __name__ == "__main__":
-    main(sys.argv[1:])
+    sys.exit(main(sys.argv[1:]))
