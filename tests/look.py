@@ -16,7 +16,6 @@ import shutil
 import subprocess
 import sys
 import tempfile
-import tomllib
 from pathlib import Path
 
 ROOT = Path(__file__).resolve().parent.parent
@@ -29,8 +28,9 @@ sys.path.insert(0, str(ROOT / "plans"))
 import explore  # noqa: E402
 import record  # noqa: E402
 import states  # noqa: E402
-from kernel import WRONG, Kernel, schedule_in, steps_of  # noqa: E402
+from kernel import WRONG, Kernel  # noqa: E402
 from laws import broken_in  # noqa: E402
+from schedules import schedule_in, schedule_of, steps_of  # noqa: E402
 
 PLANS, ROWS = sorted((ROOT / "plans").glob("*.toml")), sorted((ROOT / "tests/rows").glob("*.toml"))
 # Plans whose states are few, and how many of them the proved program runs to: all, where nothing is said.
@@ -131,9 +131,9 @@ def rules(tally):
     for rule in WRONG:
         plan = record.read_plan(ROOT / f"{BREAKS[rule]}.toml")[1]
         steps, laws = states.shortest_broken(plan, rule, states.MOST_STATES)
-        lines.append(f"{rule} on {BREAKS[rule]}.toml: {len(steps)} steps, '{record.spelling(steps)}': {', '.join(laws)}")
+        lines.append(f"{rule} on {BREAKS[rule]}.toml: {len(steps)} steps, '{schedule_of(steps)}': {', '.join(laws)}")
         tally.holds(broken_after(plan, steps[:-1], rule) == [] and broken_after(plan, steps, rule) == laws, f"{rule}: kernel.py does not break {laws} in step {len(steps)}")
-        tally.holds(broken_after(plan, steps, None) == [], f"{rule}: the whole kernel breaks a law after {record.spelling(steps)}")
+        tally.holds(broken_after(plan, steps, None) == [], f"{rule}: the whole kernel breaks a law after {schedule_of(steps)}")
     tally.keeps(KEPT / "rules.txt", "\n".join(lines) + "\n")
 
 
@@ -160,10 +160,7 @@ def walks_alike(plain, pieces, choose, steps=150):
         c = choose.randrange(len(plain.cpus))
         pieces.load(choose.choice(seen))
         pieces.load(state)
-        try:
-            plain.step(c)
-        except record.BREAKDOWNS:
-            return plain.wrong is not None
+        plain.step(c)
         state = pieces.after(c) or state
         seen.append(state)
         pieces.load(state)
@@ -193,7 +190,7 @@ def threads(tally):
         ran = subprocess.run([PROGRAM, "threads", "--turns", "1000000000"], input=path.read_text(), capture_output=True, text=True, check=True)
         text, plan = record.read_plan(path)
         steps, _ = states.like.schedule_like(plan, ran.stdout, states.Pieces, states.MOST_STATES)
-        is_same = steps is not None and record.proved_prints(text, record.spelling(steps))[0] == ran.stdout
+        is_same = steps is not None and record.proved_prints(text, schedule_of(steps))[0] == ran.stdout
         tally.holds(is_same, f"{name}: no schedule gives what threads printed:\n{ran.stdout}")
 
 
@@ -238,7 +235,7 @@ def words(tally, told):
 
 def ends_alike(run, cells, locks):
     """Whether a page's last state, with the words of its locks, is kernel.py's."""
-    system = Kernel(tomllib.loads(run["source"]), run["wrong"])
+    system = Kernel(record.plan_of(run["source"].encode()), run["wrong"])
     for c, *_ in run["steps"]:
         system.step(c)
     kept = [[f"{lock[0]}{lock[1]}", *numbers] for lock, numbers in system.words.items()]
