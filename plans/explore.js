@@ -130,11 +130,11 @@ function takeStep(c) {
   return true;
 }
 function extend(cpus, from = at) {
-  tell("");
   cut(from);
   if (!cpus.every(takeStep)) tell(`this page has no states more than ${graph.depth} steps away`);
 }
 function halted(c) {
+  tell("");
   const state = run.cell(`c${c}.state`, at);
   if (state !== "live") tell(`CPU ${c} is halted: ${state}`);
   return state !== "live";
@@ -160,6 +160,7 @@ function shuffled(list) {
 }
 // Random steps in which each CPU comes in each of four rounds.
 function goFair() {
+  tell("");
   const times = () => 1 + Math.floor(Math.random() * [1, 3, 12, 24][Math.floor(Math.random() * 4)]);
   extend(counted(4).flatMap(() => shuffled(counted(record.cpus)).flatMap(c => Array(times()).fill(c))));
   settle();
@@ -169,10 +170,12 @@ function settle(step = run.length) {
   go(step);
 }
 function undo() {
+  tell("");
   cut(run.length - 1);
   settle();
 }
 function load(schedule, step) {
+  tell("");
   extend(stepsOf(schedule), 0);
   settle(step);
 }

@@ -18,9 +18,12 @@ import sys
 from pathlib import Path
 
 from asking import GRAMMAR, asked_for
-from kernel import WRONG, Kernel, schedule_in, steps_of
-from record import BREAKDOWNS, cells, changes, compared, frame, place_style, program_is_there, read_plan, record, spelling
-from states import EACH_STEP, LAWS, MOST_STATES, States, compare, endings, none_of, report
+from kernel import WRONG, Kernel
+from laws import LAWS
+from reading import Refusal, bytes_at
+from record import cells, changes, compared, frame, place_style, program_is_there, record
+from schedules import chosen, read_run, schedule_of, steps_of
+from states import MOST_STATES, States, compare, endings, none_of, report
 
 HERE = Path(__file__).resolve().parent
 MOST_STEPS = 20_000
@@ -33,10 +36,8 @@ MARK = re.compile(r"/\*(STYLE|RUN|SCRIPT)\*/|POLICY")
 def run_of(name, text, plan, steps, wrong=None, note=None):
     """The record of a run as a page reads it, held beside the proved program after each step."""
     told, printed = record(plan, steps, wrong)
-    if len(told["steps"]) < len(steps):
-        note = f"The kernel without the rule breaks down in step {len(printed)}: it takes from an empty list."
     is_there = program_is_there()
-    differs = compared(plan, text, steps[:len(told["steps"])], printed, wrong) if is_there else None
+    differs = compared(plan, text, steps, printed, wrong) if is_there else None
     return {"plan": name, "source": text, "checked": is_there, "differs": differs, "note": note, "graph": None, **told}
 
 
@@ -55,13 +56,9 @@ def moves_of(states):
 
 
 def move_from(states, c, before):
-    """The state behind a CPU's step from the loaded one, and the step as a text; -1 and None where it changes nothing or the kernel breaks down."""
+    """The state behind a CPU's step from the loaded one, and the step as a text; -1 and None where it changes nothing."""
     pieces = states.pieces
-    try:
-        state = pieces.after(c)
-    except BREAKDOWNS:
-        pieces.forget()
-        return -1, None
+    state = pieces.after(c)
     if state is None:
         return -1, None
     entry = list(pieces.system.entry) if pieces.system.entry else None
@@ -78,9 +75,9 @@ def all_of(name, text, plan, steps, most, wrong=None):
     if is_compared:
         compare(text, states)
     records, edges = moves_of(states)
-    broken = [(f"BROKEN: {law}", states.broken[law]) for law in (*LAWS, EACH_STEP) if law in states.broken]
+    broken = [(f"BROKEN: {law}", states.broken[law]) for law in LAWS if law in states.broken]
     ends = [[words, states.schedule_to(number)] for words, number in broken + [(f"quiet: {words}", number) for words, number in endings(states).items()]]
-    told = frame(plan, Kernel(plan, wrong)) | {"wrong": wrong, "rule": WRONG.get(wrong), "schedule": spelling(steps), "steps": []}
+    told = frame(plan, Kernel(plan, wrong)) | {"wrong": wrong, "rule": WRONG.get(wrong), "schedule": schedule_of(steps), "steps": []}
     graph = {"records": records, "edges": edges, "depth": states.depth, "ends": ends}
     return {"plan": name, "source": text, "checked": is_compared, "differs": None, "note": "\n".join(report(name, states)), "graph": graph, **told}
 
@@ -118,26 +115,16 @@ def page(run):
     return MARK.sub(lambda mark: pieces[mark.group()], (HERE / "explore.html").read_text(encoding="utf-8"))
 
 
-def steps_in(schedule, plan):
-    """The steps of a schedule."""
-    try:
-        steps = steps_of(schedule)
-    except ValueError:
-        raise ValueError(f"{schedule} is no schedule: write it as in docs/spec/command-line.md, such as 0*13,1*40") from None
-    if len(steps) > MOST_STEPS:
-        raise ValueError(f"a page has room for {MOST_STEPS} steps, and these are {len(steps)}")
-    if not all(0 <= c < plan["cpus"] for c in steps):
-        raise ValueError("BadCpu(4): the schedule names a CPU that the plan has not")
-    return steps
-
-
 def shown(asked):
     """What is to be shown, as a page reads it."""
-    text, plan = read_plan(asked.plan)
-    name = asked.plan.name
+    raw = bytes_at(asked.plan)
+    schedule = chosen(raw, asked.schedule)
+    plan, _ = read_run(raw, schedule)
+    name, text, steps = asked.plan.name, raw.decode("utf-8"), steps_of(schedule or "")
     if asked.find is not None:
         return found_run(name, text, plan, asked.find, asked.most, asked.wrong)
-    steps = steps_in(schedule_in(text) if asked.schedule is None else asked.schedule, plan)
+    if len(steps) > MOST_STEPS:
+        raise ValueError(f"a page has room for {MOST_STEPS} steps, and these are {len(steps)}")
     if asked.all:
         return all_of(name, text, plan, steps, asked.most, asked.wrong)
     return run_of(name, text, plan, steps, asked.wrong)
@@ -153,12 +140,18 @@ def main():
     parser.add_argument("--most", type=int, default=MOST_STATES, metavar="K", help="stop at so many states")
     parser.add_argument("--record", action="store_true", help="print what the page reads, as JSON, in place of the page")
     asked = parser.parse_args()
+    if not asked.plan.exists():
+        parser.exit(2, f"explore: there is no plan at {asked.plan}: name one that is there, as plans/one-send.toml\n")
     try:
         run = shown(asked)
+    except Refusal as refusal:
+        sys.stderr.write(refusal.told(asked.plan))
+        return refusal.status
     except (OSError, ValueError, RuntimeError) as fault:
         sys.exit(f"explore: {fault}")
     sys.stdout.write(json.dumps(run, separators=(",", ":")) + "\n" if asked.record else page(run))
+    return 0
 
 
 if __name__ == "__main__":
-    main()
+    sys.exit(main())

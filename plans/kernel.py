@@ -2,17 +2,20 @@
 """The step table as a small plain program, for lessons: it runs a plan under a schedule and prints what `mctower run` prints.
 
     plans/kernel.py [--wrong RULE] PLAN [SCHEDULE]
+    plans/kernel.py [--wrong RULE] --rounds [--each STEPS] PLAN
 
 Without a schedule it takes the one in the first lines of the plan. With --wrong one rule of the table is left out, to see
-what breaks; --help names them. Nothing here is proved: it is the program to play with. It needs Python alone, no built program.
-Without --wrong it prints what `mctower run` prints, and tests/book.py holds the two against one another.
+what breaks; --help names them. With --rounds it prints a schedule: so many steps of each CPU in turn, until none has anything to do.
+Nothing here is proved: it is the program to play with. It needs Python alone, 3.9 or later, no built program. Without --wrong it prints
+what `mctower run` prints, and refuses what that refuses; tests/book.py and tests/explain.py hold the two against one another.
 """
 import argparse
-import re
 import sys
-import tomllib
 from collections import deque
 from pathlib import Path
+
+from reading import Refusal, bytes_at
+from schedules import chosen, read_run, rounds, schedule_in, schedule_of, steps_of  # noqa: F401 (two of them for who draws and compares runs)
 
 RECEIVERS, SENDERS = 0, 1
 SIDES = {"send": SENDERS, "sendm": SENDERS, "recv": RECEIVERS, "recvm": RECEIVERS, "close": SENDERS}
@@ -251,11 +254,12 @@ class Kernel:
 
     def attempt(self, c, cpu, guest, t, buffer):
         side = guest.call()[1]
-        in_turn = buffer.line[side][0] == t or (self.wrong == "take-skips-the-turn" and side == RECEIVERS)
+        line = buffer.line[side]  # a lock that is none may have lost it
+        in_turn = (line and line[0] == t) or (self.wrong == "take-skips-the-turn" and side == RECEIVERS)
         if not in_turn or not buffer.may_go(side):
             guest.stage = "Wait"
             return
-        buffer.line[side].remove(t)
+        line.remove(t)
         if side == SENDERS:
             kind, message = "sendc" if buffer.closed else "send", guest.message()
             kept = message[:1] if self.wrong == "first-word-alone" else message
@@ -350,39 +354,53 @@ def spelled(message):
     return ",".join(map(str, message)) or "-"
 
 
-def steps_of(schedule):
-    """The CPUs of a schedule's steps, in order."""
-    steps = []
-    for item in filter(None, schedule.split(",")):
-        cpu, _, times = item.partition("*")
-        steps += [int(cpu)] * int(times or 1)
-    return steps
+class Once(argparse.Action):
+    """An option that may stand once."""
+
+    def __call__(self, parser, asked, value, option=None):
+        if getattr(asked, self.dest) is not self.default:
+            parser.error(f"{option} stands twice")
+        setattr(asked, self.dest, value)
 
 
-def schedule_in(plan):
-    """The schedule in the first lines of a plan, or none."""
-    kept = re.search(r"^# *mctower run --schedule '(.*)' <", plan, re.M)
-    return kept.group(1) if kept else ""
-
-
-def main():
+def asked_of(words):
+    """What a command line asks for."""
     rules = "\n".join(f"  {name:24}{what}" for name, what in WRONG.items())
-    parser = argparse.ArgumentParser(description=__doc__.splitlines()[0], epilog=f"rules:\n{rules}",
+    parser = argparse.ArgumentParser(prog="kernel.py", description=__doc__.splitlines()[0], epilog=f"rules:\n{rules}", allow_abbrev=False,
                                      formatter_class=argparse.RawDescriptionHelpFormatter)
-    parser.add_argument("--wrong", choices=WRONG, metavar="RULE", help="leave out this rule")
-    parser.add_argument("plan", type=Path)
+    parser.add_argument("--wrong", choices=WRONG, metavar="RULE", action=Once, help="leave out this rule")
+    parser.add_argument("--rounds", action="store_true", help="print a schedule in rounds that ends when no CPU has anything to do")
+    parser.add_argument("--each", type=int, default=60, metavar="STEPS", help="steps of a CPU in its turn of a round (60)")
+    parser.add_argument("plan")
     parser.add_argument("schedule", nargs="?")
-    asked = parser.parse_args()
-    if not asked.plan.is_file():
+    asked = parser.parse_args(words)
+    if asked.each < 1 or asked.rounds and asked.schedule is not None:
+        parser.error("--each is at least 1, and with --rounds no schedule is wanted")
+    if asked.plan != "-" and not Path(asked.plan).exists():
         parser.exit(2, f"kernel: there is no plan at {asked.plan}; this program needs a plan and no built mctower\n")
-    plan = asked.plan.read_text()
-    kernel = Kernel(tomllib.loads(plan), asked.wrong)
-    for c in steps_of(schedule_in(plan) if asked.schedule is None else asked.schedule):
-        kernel.step(c)
+    return asked
+
+
+def main(words):
+    asked = asked_of(words)
+    try:
+        raw = bytes_at(asked.plan)
+        plan, items = read_run(raw, None if asked.rounds else chosen(raw, asked.schedule))
+    except Refusal as refusal:
+        sys.stderr.write(refusal.told(asked.plan))
+        return refusal.status
+    kernel = Kernel(plan, asked.wrong)
+    if asked.rounds:
+        print(schedule_of(rounds(kernel, asked.each)))
+        return 0
+    for c, times in items:
+        for _ in range(times):
+            kernel.step(c)
     sys.stdout.write(kernel.text())
     sys.stdout.flush()
     sys.stderr.write(kernel.states())
+    return 0
 
 
 if __name__ == "__main__":
-    main()
+    sys.exit(main(sys.argv[1:]))

@@ -35,7 +35,8 @@ class Run {
   grow(step) {
     const last = this.states[this.length], [cpu, , part, entry, changes] = step, changed = new Set(), cells = last.cells.slice();
     for (let i = 0; i < changes.length; i += 2) {
-      cells[changes[i]] = changes[i + 1];
+      const value = changes[i + 1]; // of a long queue, what it lost in front and got behind
+      cells[changes[i]] = value?.got ? [...cells[changes[i]].slice(value.lost), ...value.got] : value;
       changed.add(this.record.names[changes[i]]);
     }
     this.steps.push(step);
@@ -294,10 +295,10 @@ function cpuCard(run, at, c, buttons) {
   const does = section ? `<b>${escaped(section)}</b>&nbsp;${cell("doing") === "inside" ? "inside" : "waits for its turn"}`
     : cell("state") !== "live" ? `<b>${cell("state")}</b>` : section === undefined ? "live" : '<span class="none">between sections</span>';
   const slots = slot(run, at, "runs", `c${c}.current`, "Running") + slot(run, at, "ready", `c${c}.ready`, "Ready") + slot(run, at, "hand", `c${c}.hand`, "Hand")
-    + slot(run, at, "pending", `c${c}.pending`, "Pending") + ((cell("ended") || []).length ? slot(run, at, "ended", `c${c}.ended`, "Ended") : "");
+    + slot(run, at, "pending", `c${c}.pending`, "Pending"), ended = (cell("ended") || []).length ? slot(run, at, "ended", `c${c}.ended`, "Ended") : "";
   const busy = run.lock("pending" + c, at).line.length || isNew(run, at, "pending" + c);
   return `<div class="card${acts ? " acts" : ""}"><h3>CPU ${c} <small>${proved(run)}</small>${buttons(c)}</h3>`
-    + `<div class="slots"><span class="${isNew(run, at, `c${c}.section`, `c${c}.doing`, `c${c}.state`)}">${does}</span></div><div class="slots">${slots}</div>`
+    + `<div class="slots"><span class="${isNew(run, at, `c${c}.section`, `c${c}.doing`, `c${c}.state`)}">${does}</span>${ended}</div><div class="slots">${slots}</div>`
     + (busy ? `<dl>${lockRow(run, at, "pending" + c)}</dl>` : "") + "</div>";
 }
 // `buttons` answers what stands in the head of a CPU's card, as buttons that step it.

@@ -11,8 +11,9 @@ import sys
 from html import escape
 from pathlib import Path
 
-from kernel import schedule_in, steps_of
-from record import PLACES, PROGRAM, compared, placed, places_in, program_is_there, read_plan, record
+from reading import Refusal, bytes_at
+from record import PLACES, PROGRAM, compared, placed, places_in, program_is_there, record
+from schedules import chosen, read_run, steps_of
 
 # A part of a section, in a CPU's lane: its shade, its mark, and what it means.
 PARTS = {
@@ -127,29 +128,33 @@ class Picture:
         return "\n".join([head, *self.parts, "</svg>"]) + "\n"
 
 
-def steps_in(schedule):
-    """The steps of a schedule."""
-    try:
-        return steps_of(schedule)
-    except ValueError:
-        sys.exit(f"picture: {schedule} is no schedule: write it as in docs/spec/command-line.md, such as 0*13,1*40")
-
-
 def main(words):
+    if words in (["--help"], ["-h"]):
+        print(__doc__)
+        return 0
     if not 1 <= len(words) <= 2:
         sys.exit("usage: plans/picture.py PLAN [SCHEDULE] > picture.svg")
+    path, schedule = words[0], words[1] if len(words) == 2 else None
+    if not Path(path).exists():
+        sys.exit(f"picture: there is no plan at {path}: name one that is there, as plans/one-send.toml")
     try:
-        text, plan = read_plan(Path(words[0]))
-        schedule = words[1] if len(words) == 2 else schedule_in(text)
-        steps = steps_in(schedule)
-        if not program_is_there():
-            sys.exit(f"picture: there is no program at {PROGRAM}: build it with bench/prove-all.py, or name one by MCTOWER")
-        told, printed = record(plan, steps)
-        compared(plan, text, steps, printed)
-    except (OSError, ValueError, RuntimeError) as fault:
+        raw = bytes_at(path)
+        schedule = chosen(raw, schedule)
+        plan, _ = read_run(raw, schedule)
+    except Refusal as refusal:
+        sys.stderr.write(refusal.told(path))
+        return refusal.status
+    if not program_is_there():
+        sys.exit(f"picture: there is no program at {PROGRAM}: build it with bench/prove-all.py, or name one by MCTOWER")
+    steps = steps_of(schedule or "")
+    told, printed = record(plan, steps)
+    try:
+        compared(plan, raw.decode("utf-8"), steps, printed)
+    except RuntimeError as fault:
         sys.exit(f"picture: {fault}")
-    sys.stdout.write(Picture(f"{Path(words[0]).name}, schedule {schedule or '(none)'}", told).svg())
+    sys.stdout.write(Picture(f"{Path(path).name}, schedule {schedule or '(none)'}", told).svg())
+    return 0
 
 
 if __name__ == "__main__":
-    main(sys.argv[1:])
+    sys.exit(main(sys.argv[1:]))

@@ -6,18 +6,17 @@ kernel.py prints. MCTOWER names the program.
 """
 import os
 import subprocess
-import tomllib
 from concurrent.futures import ThreadPoolExecutor
-from itertools import groupby
 from pathlib import Path
 
 from kernel import RECEIVERS, SENDERS, WRONG, Kernel, spelled
 from laws import LAWS, broken_in, is_quiet
+from reading import bytes_at
+from reading import read_plan as plan_of
+from schedules import schedule_of
 
 PROGRAM = os.environ.get("MCTOWER", str(Path(__file__).resolve().parent.parent / "crates/mctower/out/mctower"))
 WORKERS = 2
-# What a kernel with a rule left out may run into: it takes from a list that is empty.
-BREAKDOWNS = (IndexError, KeyError, ValueError)
 
 # Each place of a thread: its letter, its colour, the colour of a text on it, and what it means; N stands for the number in the place.
 PLACES = {
@@ -45,11 +44,9 @@ def place_style():
 
 
 def read_plan(path):
-    """The text of a plan's file, and the plan."""
-    if not path.is_file():
-        raise ValueError(f"there is no plan at {path}: name one that is there, as plans/one-send.toml")
-    text = path.read_text(encoding="utf-8")
-    return text, tomllib.loads(text)
+    """The text of a plan's file, and the plan. What `mctower` refuses is a Refusal."""
+    raw = bytes_at(path)
+    return raw.decode("utf-8"), plan_of(raw)
 
 
 # --- a state as named cells ---------------------------------------------------------------------------------------------------------
@@ -96,22 +93,28 @@ def cells(system):
 # --- a run as a record --------------------------------------------------------------------------------------------------------------
 
 
+def change(old, new):
+    """A new value, or of a long queue what it lost in front and got behind."""
+    if not (isinstance(new, list) and len(new) > 4):
+        return new
+    for lost in (0, 1):
+        kept = len(old) - lost
+        if old[lost:] == new[:kept]:
+            return {"lost": lost, "got": new[kept:]}
+    return new
+
+
 def changes(old, new):
-    """The cells that changed, as the number of each and its new value, one behind the other."""
-    return [item for number, (name, value) in enumerate(new.items()) if value != old[name] for item in (number, value)]
+    """The cells that changed, as the number of each and its change, one behind the other."""
+    return [item for number, (name, value) in enumerate(new.items()) if value != old[name] for item in (number, change(old[name], value))]
 
 
 def steps_record(system, steps, each=lambda: None):
-    """Takes steps, and tells of each: CPU, section, part, entry, changes. It ends early where a kernel with a rule left out breaks down."""
+    """Takes steps, and tells of each: CPU, section, part, entry, changes."""
     now, told = cells(system), []
     each()
     for c in steps:
-        try:
-            name, part = system.step(c)
-        except BREAKDOWNS:
-            if not system.wrong:
-                raise
-            break
+        name, part = system.step(c)
         new = cells(system)
         told.append([c, name, part, list(system.entry) if system.entry else None, changes(now, new)])
         each()
@@ -132,20 +135,10 @@ def record(plan, steps, wrong=None):
     system, printed = Kernel(plan, wrong), []
     told = frame(plan, system) | {"wrong": wrong, "rule": WRONG.get(wrong)}
     taken = steps_record(system, steps, lambda: printed.append(hash((system.text(), system.states()))))
-    return told | {"schedule": spelling(steps[:len(taken)]), "steps": taken}, printed
+    return told | {"schedule": schedule_of(steps), "steps": taken}, printed
 
 
-# --- schedules as texts -------------------------------------------------------------------------------------------------------------
-
-
-def item(c, times):
-    """So many steps of a CPU as the item of a schedule."""
-    return f"{c}*{times}" if times > 1 else str(c)
-
-
-def spelling(steps):
-    """Steps as the text of a schedule."""
-    return ",".join(item(c, len(list(same))) for c, same in groupby(steps))
+# --- the proved program -------------------------------------------------------------------------------------------------------------
 
 
 def beginnings(steps):
@@ -153,13 +146,11 @@ def beginnings(steps):
     behind, last, times = "", None, 0
     yield ""
     for c in steps:
-        if c != last:
-            behind, last, times = behind + (f"{item(last, times)}," if times else ""), c, 0
-        times += 1
-        yield behind + item(last, times)
-
-
-# --- the proved program -------------------------------------------------------------------------------------------------------------
+        if c != last and times:
+            behind += f"{last}*{times},"
+            times = 0
+        last, times = c, times + 1
+        yield f"{behind}{c}*{times}"
 
 
 def program_is_there():
@@ -202,7 +193,7 @@ def told_apart(plan, plan_text, steps):
     system = Kernel(plan)
     for c in steps:
         system.step(c)
-    return difference((system.text(), system.states()), proved_prints(plan_text, spelling(steps)))
+    return difference((system.text(), system.states()), proved_prints(plan_text, schedule_of(steps)))
 
 
 def places_in(told):

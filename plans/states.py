@@ -21,9 +21,10 @@ from asking import GRAMMAR, asked_for
 from kernel import WRONG, Buffer, Kernel, spelled
 from laws import (FIRST_IN_FIRST_OUT, LAWS, QUIET_IS_STILL, broken_by, is_played, is_quiet, is_stillness_false, part_of_block, part_of_cpu,
                   part_of_thread)
-from record import BREAKDOWNS, difference, program_is_there, proved_prints_each, read_plan, spelling
+from reading import Refusal
+from record import difference, program_is_there, proved_prints_each, read_plan
+from schedules import schedule_of
 
-EACH_STEP = "each step can be taken"  # by a kernel with a rule left out, which may take from a list that is empty
 MOST_STATES = 1_000_000
 
 
@@ -141,8 +142,7 @@ class Pieces:
         elif cpu.block is None and system.wrong != "look-always-hits" and system.words[cpu.section[1]][1] != cpu.ticket:
             return None
         lock = cpu.section and cpu.section[1]
-        name, part = system.step(c)
-        self.did = name, part
+        self.did = system.step(c)
         lock = lock or (cpu.section and cpu.section[1])
         now = self.now
         for place in (c, *range(self.guests_at, self.locks_at)):
@@ -159,10 +159,6 @@ class Pieces:
         while state is not None and self.system.cpus[c].section is not None:
             state, taken = self.after(c), taken + 1
         return state, taken
-
-    def forget(self):
-        """The kernel broke down within a step: what it has now is no state."""
-        self.now[:] = [None] * len(self.now)
 
     # --- the laws
 
@@ -220,14 +216,7 @@ class States:
         origin = self.number[state]
         for c in self.pieces.cpus:
             self.pieces.load(state)
-            try:
-                new, taken = self.pieces.after_section(c) if self.by_sections else (self.pieces.after(c), 1)
-            except BREAKDOWNS:
-                if not self.pieces.system.wrong:
-                    raise
-                self.pieces.forget()
-                self.broken.setdefault(EACH_STEP, origin)
-                continue
+            new, taken = self.pieces.after_section(c) if self.by_sections else (self.pieces.after(c), 1)
             self.moves += new is not None
             if new is None or new in self.number:
                 continue
@@ -260,7 +249,7 @@ class States:
         return back[::-1]
 
     def schedule_to(self, number):
-        return spelling(self.calm_steps_to(number))
+        return schedule_of(self.calm_steps_to(number))
 
     def calm_steps_to(self, number):
         """As many steps to the same state, with fewer changes of the CPU where moving a CPU's steps together leads there too."""
@@ -324,8 +313,7 @@ def reach(states):
 
 
 def law_lines(states):
-    laws = [*LAWS, EACH_STEP] if states.pieces.system.wrong else LAWS
-    return [f"BROKEN: {law}, after --schedule '{states.schedule_to(states.broken[law])}'" if law in states.broken else f"in each state: {law}" for law in laws]
+    return [f"BROKEN: {law}, after --schedule '{states.schedule_to(states.broken[law])}'" if law in states.broken else f"in each state: {law}" for law in LAWS]
 
 
 def report(name, states):
@@ -340,11 +328,11 @@ def compare(plan_text, states, many=None):
     count = len(states)
     chosen = range(count) if not many or many >= count else [i * count // many for i in range(many)]
     keys = list(states.number)
-    for number, proved in zip(chosen, proved_prints_each(plan_text, (spelling(states.steps_to(number)) for number in chosen))):
+    for number, proved in zip(chosen, proved_prints_each(plan_text, (schedule_of(states.steps_to(number)) for number in chosen))):
         states.pieces.load(keys[number])
         ours = states.pieces.system.text(), states.pieces.system.states()
         if ours != proved:
-            raise RuntimeError(f"after {spelling(states.steps_to(number))}: {difference(ours, proved)}")
+            raise RuntimeError(f"after {schedule_of(states.steps_to(number))}: {difference(ours, proved)}")
     return len(chosen)
 
 
@@ -369,7 +357,7 @@ def find(asked, plan):
         print(f"{asked.find}: {none_of(states)}")
     else:
         steps = states.calm_steps_to(number)
-        print(f"{asked.find}: after --schedule '{spelling(steps)}' ({len(steps)} steps; {len(states)} states were looked at)")
+        print(f"{asked.find}: after --schedule '{schedule_of(steps)}' ({len(steps)} steps; {len(states)} states were looked at)")
     return number is not None
 
 
@@ -395,13 +383,13 @@ def search(plan, rules, most=60_000):
     """Prints, for each rule that may be left out, the shortest schedule that breaks a law."""
     for rule in rules:
         steps, found = shortest_broken(plan, rule, most)
-        print(f"{rule:24}{found}" if steps is None else f"{rule:24}{len(steps)} steps, '{spelling(steps)}': {', '.join(found)}", flush=True)
+        print(f"{rule:24}{found}" if steps is None else f"{rule:24}{len(steps)} steps, '{schedule_of(steps)}': {', '.join(found)}", flush=True)
 
 
 def show_like(asked, plan):
     """Prints a schedule that gives a trace text; returns whether one was found."""
     found, count = like.schedule_like(plan, asked.like.read_text(encoding="utf-8"), Pieces, asked.most)
-    print(f"none found among {count} states" if found is None else spelling(found))
+    print(f"none found among {count} states" if found is None else schedule_of(found))
     return found is not None
 
 
@@ -418,6 +406,8 @@ def main():
     parser.add_argument("--time", action="store_true", help="tell what it took")
     asked = parser.parse_args()
     signal.signal(signal.SIGPIPE, signal.SIG_DFL)  # a reader as `head` may leave early
+    if not asked.plan.exists():
+        parser.exit(2, f"states: there is no plan at {asked.plan}: name one that is there, as plans/one-send.toml\n")
     if asked.compare is not None and (asked.wrong or not program_is_there()):
         parser.exit(2, "states: --compare needs the built program, and the whole kernel\n")
     try:
@@ -426,10 +416,13 @@ def main():
             is_well = show_like(asked, plan)
         else:
             is_well = find(asked, plan) if asked.find is not None else whole_report(asked, text, plan)
+    except Refusal as refusal:
+        sys.stderr.write(refusal.told(asked.plan))
+        return refusal.status
     except (OSError, ValueError, RuntimeError) as fault:
         sys.exit(f"states: {fault}")
-    sys.exit(0 if is_well else 1)
+    return 0 if is_well else 1
 
 
 if __name__ == "__main__":
-    main()
+    sys.exit(main())
