@@ -93,22 +93,28 @@ class Body:
 
     def lowered(self):
         while self.code.has_more():
-            start = self.code.at
-            before, after = self.around(self.code.byte())
-            self.out += before + self.code.data[start:self.code.at] + after
+            start, instruction = self.code.at, self.code.byte()
+            if instruction in LOADS or instruction in STORES:
+                self.out += self.at_address(instruction)
+            else:
+                before, after = self.around(instruction)
+                self.out += before + self.code.data[start:self.code.at] + after
         own = [b"\x01" + bytes([kind]) for kind, _ in self.locals]
         return vector(self.groups + own) + bytes(self.out)
 
+    def at_address(self, instruction):
+        """A load or a store. Its offset is spelled anew, since the linker spells it with more digits than a 32-bit one may have."""
+        spelled = bytes([instruction]) + number(self.code.number()) + number(self.code.number())
+        if instruction in LOADS:
+            return WRAP + spelled
+        value = self.local(STORED.get(instruction, I64))
+        return SET + value + WRAP + GET + value + spelled
+
     def around(self, instruction):
-        """Reads the rest of an instruction. Returns what comes before it, and what behind it."""
+        """Reads the rest of another instruction. Returns what comes before it, and what behind it."""
         read = self.code
         if instruction in WITH_A_NUMBER:
             read.spelled()
-        elif instruction in LOADS:
-            return WRAP, self.skipped(2)
-        elif instruction in STORES:
-            value = self.local(STORED.get(instruction, I64))
-            return SET + value + WRAP + GET + value, self.skipped(2)
         elif instruction == CALL_INDIRECT:
             return WRAP, self.skipped(2)
         elif instruction == MEMORY_SIZE:

@@ -35,7 +35,7 @@ const trace = (from, to, verdict, shown, says) => ({ text: edited(TRACE, from, t
 export const refusals = {
   plans: [
     plan('trace = 4', 'trace 4', 'BadToml(20)', 2, '4', '"=" is wanted'),
-    plan('[1]', '[1', 'BadToml(20)', 5, '[[thread]]', 'a value is wanted'),
+    plan('[1]', '[1', 'BadToml(20)', 5, '[[thread]]', '"]" is wanted'),
     plan('"recv 0 r0"', '"recv 0 r0', 'BadToml(20)', 7, '"recv 0 r0]', 'no closing'),
     plan('cpus = 2', 'cpus = 2\ncpus = 3', 'BadToml(20)', 2, 'cpus = 3', 'there already'),
     plan('cpus = 2', 'cpus = 18446744073709551616', 'BadToml(20)', 1, '18446744073709551616', '64 bits'),
@@ -46,8 +46,9 @@ export const refusals = {
     plan('[1]', '[33]', 'OutOfRange(22) buffers', 3, 'buffers', '1 to 32'),
     plan('cpus = 2', 'cpus = 2\nlock = "tiket"', 'OutOfRange(22) lock', 2, 'lock', '"ticket" or "grant"'),
     plan('cpu = 1', 'cpu = 2', 'OutOfRange(22) thread 1 cpu', 10, 'cpu', 'home'),
-    plan('cpu = 1', 'CPU = 1', 'MissingKey(21) thread 1 cpu', 10, 'CPU', 'is near it and is ignored'),
-    plan('program = ["recv 0 r0"]', 'program = []', 'Guest(23) thread 0 line 0 Empty(15)', 7, undefined, '1 to 256'),
+    plan('cpu = 1', 'cpuu = 1', 'MissingKey(21) thread 1 cpu', 10, 'cpuu', 'is near it and is ignored'),
+    plan('cpu = 1', '', 'MissingKey(21) thread 1 cpu', 9, '[[thread]]', 'thread 1 has no key cpu'),
+    plan('program = ["recv 0 r0"]', 'program = []', 'Guest(23) thread 0 line 0 Empty(15)', 7, 'program', '1 to 256'),
     plan('send 0 r0', 'sned 0 r0', 'Guest(23) thread 1 line 1 UnknownWord(10)', 13, 'sned', 'near it: send'),
     plan('send 0 r0', 'send 0', 'Guest(23) thread 1 line 1 UnknownWord(10)', 13, 'send 0', 'send b rS [k]'),
     plan('send 0 r0', 'send 0 r8', 'Guest(23) thread 1 line 1 BadRegister(11)', 13, 'r8', 'r0 to r7'),

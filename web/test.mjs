@@ -26,7 +26,6 @@ function is(name, holds) {
 }
 
 const read = path => readFileSync(join(ROOT, path), 'utf8');
-const lines = text => text.split('\n').length;
 
 // What the native program answers: its status, standard output and standard error.
 function native(words, input) {
@@ -37,6 +36,12 @@ function native(words, input) {
 
 const isSame = (x, y) => x.status === y.status && x.output === y.output && x.errors === y.errors;
 const withLock = (plan, lock) => (lock ? `lock = "${lock}"\n${plan}` : plan);
+
+// The lines that plans/explain.py names beside a refusal.
+function linesExplained(plan, schedule) {
+  const told = spawnSync('python3', [join(ROOT, 'plans/explain.py'), '-', schedule], { input: plan, encoding: 'utf8' });
+  return [...told.stdout.matchAll(/:(\d+):|on line (\d+)/g)].map(found => Number(found[1] ?? found[2]));
+}
 
 // A page that is held against the tree.
 class Held {
@@ -97,17 +102,19 @@ class Held {
   }
 
   explains(name, beside, plan, schedule) {
-    const refusal = beside(this.program, plan, schedule), { line = 1, text = '', piece = '' } = refusal?.where ?? {};
-    is(`what stands beside the refusal of ${name}`, refusal === null || (line <= lines(plan) && (text === schedule || text === '' || plan.includes(text)) && typeof piece === 'string'));
+    const refusal = beside(this.program, plan, schedule), { line, text = '', from = 0, piece = '' } = refusal?.where ?? {};
+    const stands = line === undefined ? text === '' || text === schedule : plan.split('\n')[line - 1] === text;
+    is(`what stands beside the refusal of ${name}`, refusal === null || (stands && text.slice(from, from + piece.length) === piece));
   }
 
-  // Refusals of each kind have the right place beside them.
+  // Refusals of each kind have the right place beside them, and it is that of plans/explain.py.
   places() {
     const beside = this.evaluate('refusalOf'), inTrace = this.evaluate('whereInTrace');
-    for (const { plan, schedule, error, line, piece, says } of refusals.plans) {
-      const got = beside(this.program, plan, schedule ?? '0');
-      const isRight = got?.line === `error: ${error}` && got.where.line === line && got.where.piece === piece && (got.where.says ?? '').includes(says ?? '');
-      is(`the place of ${error}: ${JSON.stringify(got)}`, isRight);
+    for (const { plan, schedule = '0', error, line, piece, says } of refusals.plans) {
+      const got = beside(this.program, plan, schedule), { from, text, ...where } = got?.where ?? {};
+      const isRight = got?.line === `error: ${error}` && where.line === line && where.piece === piece && (where.says ?? '').includes(says);
+      is(`the place of ${error}: ${JSON.stringify(got)}`, isRight && (from === undefined || text.slice(from, from + piece.length) === piece));
+      is(`the line of ${error}, which plans/explain.py does not name`, line === undefined || linesExplained(plan, schedule).includes(line));
     }
     for (const { text, verdict, shown, says } of refusals.texts) {
       const got = this.program.run(['check'], text).output.trimEnd(), where = inTrace(text, got);
@@ -139,19 +146,24 @@ class Held {
   }
 }
 
-// The model in web/page/ tells the same cells as plans/kernel.py, with each rule and without it.
+// Says what of a run the model in web/page/ tells otherwise than a record of plans/record.py, or undefined. It is run beside the page's scripts.
+function firstOther(text, told, scripts) {
+  const { RunRecord, Run, planOf, stepsOf, readSchedule } = scripts, same = (x, y) => JSON.stringify(x) === JSON.stringify(y);
+  const record = new RunRecord(planOf(text), told.wrong, { places: told.places, rules: { [told.wrong]: told.rule } }), theirs = new Run(told), mine = new Run(record.frame);
+  for (const c of stepsOf(readSchedule(told.schedule).items)) mine.grow(record.step(c));
+  const other = ['cpus', 'lock', 'capacities', 'threads', 'laws', 'names', 'boot'].find(key => !same(told[key], record.frame[key]));
+  const step = theirs.states.findIndex(({ cells, changed }, at) => !same(cells, mine.states[at].cells) || !same([...changed].sort(), [...mine.states[at].changed].sort())
+    || !same(theirs.steps[at]?.slice(0, 4), mine.steps[at]?.slice(0, 4)));
+  return other ?? (step < 0 ? undefined : `step ${step}`);
+}
+
+// The model tells the same cells as plans/kernel.py, with each rule and without it.
 function modelCells() {
-  const evaluate = sources(ROOT), told = spawnSync('python3', [join(ROOT, 'web/records.py')], { encoding: 'utf8', maxBuffer: 1 << 29 });
+  const scripts = sources(ROOT)('({ RunRecord, Run, planOf, stepsOf, readSchedule })'), told = spawnSync('python3', [join(ROOT, 'web/records.py')], { encoding: 'utf8', maxBuffer: 1 << 29 });
   if (told.status !== 0) throw new Error(`web/records.py: ${told.stderr}`);
-  const mine = evaluate(`(plan, schedule, wrong, facts) => {
-    const record = new RunRecord(planOf(plan), wrong, facts);
-    for (const c of stepsOf(readSchedule(schedule).items)) record.frame.steps.push(record.step(c));
-    return JSON.stringify(record.frame);
-  }`);
   for (const line of told.stdout.trimEnd().split('\n')) {
-    const [name, plan, record] = JSON.parse(line), got = JSON.parse(mine(plan, record.schedule, record.wrong, { places: record.places, rules: { [record.wrong]: record.rule } }));
-    const different = Object.keys(got).find(key => JSON.stringify(got[key]) !== JSON.stringify(record[key]));
-    is(`the cells of ${name} without ${record.wrong}: ${different}`, different === undefined);
+    const [name, text, record] = JSON.parse(line), other = firstOther(text, record, scripts);
+    is(`the cells of ${name} without ${record.wrong}: ${other}`, other === undefined);
   }
 }
 

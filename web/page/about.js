@@ -3,7 +3,7 @@
 
 const COMPARED = html`<p>✓ <b>Said by the proved program too</b>, here in this page, after this step: each thread's place, which CPUs are halted, quiet, each call that took effect with its op and
   pos, what is left in each buffer. <b>Told by the page's own model alone</b>, which is not proved: sections, lines of programs, registers, owners, orders in queues and lines,
-  words of locks.</p>`;
+  words of locks, and whether a law holds.</p>`;
 
 const LANES = html`<p>A CPU's lane: <b>+</b> takes a ticket, <b>…</b> looks in vain, light grey enters, dark grey edits and leaves. ● a call takes effect.</p>`;
 

@@ -2,7 +2,7 @@
 // The page: it shows a session, and hands on what the reader does.
 
 const OWN_PLAN = "your own", FIRST_PLAN = "woken-from-afar";
-const COMPARE_FOR = 8, COMPARE_PAUSE = 30, LINK_PAUSE = 150; // milliseconds
+const COMPARE_FOR = 8, COMPARE_PAUSE = 12, LINK_PAUSE = 150; // milliseconds
 const MOST_LINK = 8000; // letters of a plan in a link
 
 const readData = id => JSON.parse(byId(id).textContent);
@@ -45,10 +45,9 @@ class Page {
   }
 
   refuse({ line, where }, id) {
-    const place = where.line ? html`line ${where.line}: ` : "";
-    const parts = where.text?.includes(where.piece) ? [where.text.slice(0, where.text.indexOf(where.piece)), html`<mark class="piece">${where.piece}</mark>`,
-      where.text.slice(where.text.indexOf(where.piece) + where.piece.length)] : where.text ?? "";
-    fill(id, html`<div class="said">${line}</div>${where.text === undefined ? "" : html`<div class="faulty">${place}${parts}</div>`}<div>${where.says ?? ""}</div>`);
+    const { text, from, piece, says } = where, place = where.line ? `line ${where.line}: ` : "";
+    const parts = from === undefined ? text : [text.slice(0, from), html`<mark class="piece">${piece}</mark>`, text.slice(from + piece.length)];
+    fill(id, html`<div class="said">${line}</div>${text === undefined ? "" : html`<div class="faulty">${place}${parts}</div>`}<div>${says}</div>`);
     return false;
   }
 
@@ -61,7 +60,7 @@ class Page {
     if (lesson) this.loadStored(lesson.plan, lesson.rule, lesson.schedule);
     else if (this.plans[value]) this.loadStored(value);
     else this.openPanel("planPanel");
-    byId("plan").blur();
+    this.leave("plan");
   }
 
   // The link of what is shown; fromLink is its way back.
@@ -204,6 +203,7 @@ class Page {
 
   change(act) {
     this.player.stop();
+    fill("refused", "");
     act(this.session);
     this.show();
   }
@@ -236,22 +236,29 @@ class Page {
   handsOn() {
     const on = (id, name, act) => byId(id).addEventListener(name, act);
     on("plan", "change", event => this.choosePlan(event.target.value));
-    on("rule", "change", event => { this.change(session => session.leaveOut(event.target.value || null)); event.target.blur(); });
+    on("rule", "change", event => { this.change(session => session.leaveOut(event.target.value || null)); this.leave("rule"); });
     on("schedule", "change", () => this.typeSchedule());
     on("undo", "click", () => this.change(session => session.undo()));
     on("fair", "click", () => this.change(session => session.random()));
     on("runPlan", "click", () => this.runPlan());
     on("judge", "click", () => this.judge());
     on("takeTrace", "click", () => this.takeTrace());
+    document.addEventListener("pointerdown", () => { this.isByMouse = true; }, true);
+    document.addEventListener("keydown", () => { this.isByMouse = false; }, true);
     document.addEventListener("click", event => this.clicked(event));
     document.addEventListener("keydown", event => this.pressed(event));
     window.addEventListener("hashchange", () => this.fromLink());
     window.addEventListener("resize", () => this.show());
   }
 
-  clicked({ target, detail }) {
+  // What was used by the mouse keeps no focus, so that keys are the page's again.
+  leave(id) {
+    if (this.isByMouse) byId(id).blur();
+  }
+
+  clicked({ target }) {
     const button = target.closest("button");
-    if (detail > 0 && target.closest("button, input[type=radio], input[type=range]")) document.activeElement?.blur(); // so keys are the page's again
+    if (this.isByMouse && target.closest("button, input[type=radio], input[type=range]")) document.activeElement?.blur();
     if (!button) return;
     const { choose, runOn, panel, close } = button.dataset;
     if (choose !== undefined) this.change(session => session.choose(Number(choose)));

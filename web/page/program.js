@@ -20,14 +20,18 @@ class Program {
     return new Program(await WebAssembly.compile(await new Response(stream).arrayBuffer()));
   }
 
-  // `mctower WORDS.. < input`: its exit status, standard output and standard error.
+  // `mctower WORDS.. < input`: its exit status, standard output and standard error. Status -1 is none of the program's: the browser stopped it.
   run(words, input) {
     const end = status => { throw new Ended(status); };
     const exports = new WebAssembly.Instance(this.module, { page: { exit: end } }).exports;
     Program.give(exports, exports.page_words, ["mctower", ...words].map(word => `${word}\n`).join(""));
     Program.give(exports, exports.page_input, input);
-    const status = Program.statusOf(exports);
-    return { status, output: Program.kept(exports, 1), errors: Program.kept(exports, 2) };
+    try {
+      const status = Program.statusOf(exports);
+      return { status, output: Program.kept(exports, 1), errors: Program.kept(exports, 2) };
+    } catch (fault) {
+      return { status: -1, output: "", errors: `the browser stopped the program: ${fault.message}\n` };
+    }
   }
 
   // `mctower run` on a plan, for a schedule; an empty one is none.

@@ -14,15 +14,15 @@ function readItem(item) {
   return { cpu: Number(cpu), times: Number(times) };
 }
 
-// The items of a schedule, or the first fault: which item (from 1 on), its text, and what is allowed there. An empty text has no items.
+// The items of a schedule, or the first fault: which item (from 1 on), and what is allowed there. An empty text has no items.
 function readSchedule(text) {
   const items = [];
   let total = 0;
   for (const [index, piece] of (text === "" ? [] : text.split(",")).entries()) {
     const item = readItem(piece);
-    if (item.fault) return { fault: item.fault, index: index + 1, piece };
+    if (item.fault) return { fault: item.fault, index: index + 1 };
     total += item.times;
-    if (total > MOST_SCHEDULED) return { fault: `all items together have at most ${MOST_SCHEDULED} steps`, index: index + 1, piece };
+    if (total > MOST_SCHEDULED) return { fault: `all items together have at most ${MOST_SCHEDULED} steps`, index: index + 1 };
     items.push(item);
   }
   return { items, total };

@@ -1,6 +1,7 @@
 "use strict";
 // What is wrong with a plan, a schedule or a trace text, and where: beside the line of the proved program, which alone decides. Each answer is
-// {line, text, piece, says}: the line from 1 on and what stands in it, the piece that is wrong, and what is allowed there; what isn't known is left out.
+// {line, text, from, piece, says}: the line from 1 on and what stands in it, the piece that is wrong and from where in the line it stands, and what is
+// allowed there. What isn't known is left out.
 
 const PLAN_KEYS = {
   cpus: "an integer from 1 to 16: how many CPUs there are", trace: "an integer from 1 to 65536: how many entries each CPU may trace",
@@ -33,15 +34,17 @@ const OTHER_REASONS = {
   ReadFault: "the input could not be read", WriteFault: "the output could not be written",
 };
 
-// How many letters have to be changed, put in or left out to make one word of the other.
+// How many letters have to be changed, put in, left out or swapped with their neighbour to make one word of the other.
 function distance(from, to) {
-  let row = Array.from({ length: to.length + 1 }, (_, i) => i);
-  for (const [i, letter] of [...from].entries()) {
-    const above = row;
-    row = [i + 1];
-    for (const [j, other] of [...to].entries()) row.push(Math.min(above[j + 1] + 1, row[j] + 1, above[j] + (letter === other ? 0 : 1)));
+  const rows = [Array.from({ length: to.length + 1 }, (_, j) => j)];
+  for (let i = 1; i <= from.length; i++) {
+    rows.push([i]);
+    for (let j = 1; j <= to.length; j++) {
+      const same = from[i - 1] === to[j - 1] ? 0 : 1, isSwap = i > 1 && j > 1 && from[i - 1] === to[j - 2] && from[i - 2] === to[j - 1];
+      rows[i].push(Math.min(rows[i - 1][j] + 1, rows[i][j - 1] + 1, rows[i - 1][j - 1] + same, isSwap ? rows[i - 2][j - 2] + 1 : Infinity));
+    }
   }
-  return row.at(-1);
+  return rows[from.length][to.length];
 }
 
 // The words that are nearest to a word, if any is near.
@@ -63,14 +66,14 @@ function pieceFault(shape, piece, lines) {
   return BigInt(piece) >= low && BigInt(piece) <= high ? null : PIECES[kind];
 }
 
-// The first fault of an instruction: the piece, and what is allowed there.
+// The first fault of an instruction: the piece, from where in it it stands, and what is allowed there.
 function instructionFault(line, lines) {
-  const [word, ...pieces] = line.split(" "), shape = Object.hasOwn(INSTRUCTIONS, word) ? INSTRUCTIONS[word] : null;
-  if (shape === null) return { piece: word, says: `an instruction begins with one of ${Object.keys(INSTRUCTIONS).join(", ")}${nearSaid(word, Object.keys(INSTRUCTIONS))}` };
+  const [word, ...pieces] = line.split(" "), shape = Object.hasOwn(INSTRUCTIONS, word) ? INSTRUCTIONS[word] : null, words = Object.keys(INSTRUCTIONS);
+  if (shape === null) return { from: 0, piece: word, says: `an instruction begins with one of ${words.join(", ")}${nearSaid(word, words)}` };
   const least = shape.filter(piece => !piece.endsWith("?")).length;
-  if (pieces.length < least || pieces.length > shape.length) return { piece: line, says: `it is written ${shapeOf(word)}, with one space between its pieces` };
+  if (pieces.length < least || pieces.length > shape.length) return { from: 0, piece: line, says: `it is written ${shapeOf(word)}, with one space between its pieces` };
   const at = pieces.findIndex((piece, i) => pieceFault(shape[i], piece, lines));
-  return at < 0 ? null : { piece: pieces[at], says: `${pieceFault(shape[at], pieces[at], lines)} (${shapeOf(word)})` };
+  return at < 0 ? null : { from: [word, ...pieces.slice(0, at), ""].join(" ").length, piece: pieces[at], says: `${pieceFault(shape[at], pieces[at], lines)} (${shapeOf(word)})` };
 }
 
 class PlanPlaces {
@@ -79,9 +82,9 @@ class PlanPlaces {
     this.top = readToml(text).value;
   }
 
-  at(position) {
-    const { number, text } = lineOf(this.text, position);
-    return { line: number, text };
+  at(position, piece) {
+    const { number, column, text } = lineOf(this.text, position);
+    return { line: number, text, from: column - 1, piece };
   }
 
   thread(t) {
@@ -91,24 +94,30 @@ class PlanPlaces {
   // A key that is missing, of another kind, or out of its range.
   key(name, t) {
     const table = t === null ? this.top : this.thread(t), allowed = (t === null ? PLAN_KEYS : THREAD_KEYS)[name], node = table.get(name);
-    if (node) return { ...this.at(node.keyAt ?? node.at), piece: name, says: `${name} is ${allowed}` };
-    const strays = [...table.keys()].filter(key => nearWords(key, [name]).length);
-    const near = strays.map(key => ({ ...this.at(table.get(key).keyAt ?? table.get(key).at), piece: key }))[0] ?? {};
-    const where = t === null ? "the plan" : `thread ${t}`;
-    return { ...near, says: `${where} has no key ${name}: ${allowed}${strays.length ? `; ${strays.join(", ")} is near it and is ignored` : ""}` };
+    if (node) return { ...this.at(node.keyAt ?? node.at, name), says: `${name} is ${allowed}` };
+    const strays = [...table.keys()].filter(key => nearWords(key, [name]).length), near = table.get(strays[0]);
+    const ignored = strays.length ? `; ${strays.join(", ")} is near it and is ignored` : "", where = near ? this.at(near.keyAt ?? near.at, strays[0]) : t === null ? {} : this.head(t);
+    return { ...where, says: `${t === null ? "the plan" : `thread ${t}`} has no key ${name}: ${allowed}${ignored}` };
+  }
+
+  // Where a thread's table begins.
+  head(t) {
+    const { at } = this.top.get("thread").value[t];
+    return this.at(at, /^(\[\[.*?\]\]|\{|)/.exec(this.text.slice(at))[0]);
   }
 
   instruction(t, line) {
     const program = this.thread(t).get("program"), item = program.value[line];
-    if (!item) return { ...this.at(program.keyAt), says: `program is ${THREAD_KEYS.program}; this one has ${program.value.length}` };
-    return { ...this.at(item.at), ...instructionFault(item.value, program.value.length) };
+    if (!item) return { ...this.at(program.keyAt, "program"), says: `program is ${THREAD_KEYS.program}; this one has ${program.value.length}` };
+    const fault = instructionFault(item.value, program.value.length);
+    return { ...this.at(item.at + 1 + (fault?.from ?? 0), fault?.piece ?? item.value), says: fault?.says };
   }
 
   // The first call of a thread whose buffer the plan has not.
   strayBuffer(t) {
-    const count = this.top.get("buffers").value.length, calls = /^(send|sendm|recv|recvm|close) ([0-9]+)/;
-    const item = this.thread(t).get("program").value.find(({ value }) => Number(calls.exec(value)?.[2] ?? -1) >= count);
-    return { ...this.at(item.at), piece: calls.exec(item.value)[2], says: `the plan has the buffers 0 to ${count - 1}` };
+    const count = this.top.get("buffers").value.length, called = ({ value }) => /^(send|sendm|recv|recvm|close) ([0-9]+)/.exec(value);
+    const item = this.thread(t).get("program").value.find(one => Number(called(one)?.[2] ?? -1) >= count), [, word, buffer] = called(item);
+    return { ...this.at(item.at + 1 + word.length + 1, buffer), says: `the plan has the buffers 0 to ${count - 1}` };
   }
 }
 
@@ -128,16 +137,15 @@ function whereInPlan(text, refusal) {
 
 function placeOfFault(text, fault) {
   const { number, column, text: line } = lineOf(text, Math.min(fault.at, text.length));
-  return { line: number, text: line, piece: line.slice(column - 1) || "the end of the line" };
+  return { line: number, text: line, from: column - 1, piece: line.slice(column - 1) };
 }
 
 // Beside BadSchedule or BadCpu: the item that is wrong.
 function whereInSchedule(text, refusal, cpus) {
-  const read = readSchedule(text);
-  if (read.fault) return { piece: read.piece, text, says: `item ${read.index}: ${read.fault}` };
-  if (!refusal.includes("BadCpu")) return {};
-  const index = read.items.findIndex(item => item.cpu >= cpus);
-  return { piece: text.split(",")[index], text, says: `item ${index + 1}: the plan has the CPUs 0 to ${cpus - 1}` };
+  const read = readSchedule(text), index = read.fault ? read.index - 1 : refusal.includes("BadCpu") ? read.items.findIndex(item => item.cpu >= cpus) : -1;
+  if (index < 0) return {};
+  const items = text.split(","), from = items.slice(0, index).map(item => `${item},`).join("").length;
+  return { text, from, piece: items[index], says: `item ${index + 1}: ${read.fault ?? `the plan has the CPUs 0 to ${cpus - 1}`}` };
 }
 
 // Beside the judge's no, such as `no 6 EmptyTake(35)`.
