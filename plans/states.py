@@ -361,11 +361,11 @@ def find(asked, plan):
     return number is not None
 
 
-def none_of(states):
+def none_of(states, deed="reaches one"):
     """That no state is one that was asked for, in words."""
     if states.all:
-        return f"no schedule, however long, reaches one (these are all {len(states)} states)"
-    return f"none of {len(states)} states, up to {states.depth} steps away"
+        return f"no schedule, however long, {deed} (these are all {len(states)} states)"
+    return f"none that {deed}, in {len(states)} states up to {states.depth} steps away"
 
 
 def shortest_broken(plan, rule, most):
@@ -373,17 +373,20 @@ def shortest_broken(plan, rule, most):
     states = States(plan, rule)
     number = states.look(most=most, wanted=lambda _: bool(states.pieces.broken()), has_laws=False)
     if number is None:
-        return None, none_of(states)
+        return None, none_of(states, "breaks a law")
     states.pieces.load(list(states.number)[number])
     broken = states.pieces.broken()
     return states.calm_steps_to(number), [law for law in LAWS if law in broken]
 
 
 def search(plan, rules, most=60_000):
-    """Prints, for each rule that may be left out, the shortest schedule that breaks a law."""
+    """Prints, for each rule that may be left out, the shortest schedule that breaks a law; returns 0 if one was found for each, else 1."""
+    is_found = True
     for rule in rules:
         steps, found = shortest_broken(plan, rule, most)
         print(f"{rule:24}{found}" if steps is None else f"{rule:24}{len(steps)} steps, '{schedule_of(steps)}': {', '.join(found)}", flush=True)
+        is_found = is_found and steps is not None
+    return 0 if is_found else 1
 
 
 def show_like(asked, plan):
