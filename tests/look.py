@@ -12,6 +12,7 @@ import itertools
 import json
 import os
 import random
+import re
 import shutil
 import subprocess
 import sys
@@ -142,6 +143,19 @@ def broken_after(plan, steps, wrong):
     for c in steps:
         system.step(c)
     return broken_in(system)
+
+
+LESSON = re.compile(r"`plans/explore.py (\S+)(?: '([^']*)')? --wrong (\S+) > \S+`.*?step (\d+)")
+
+
+def lessons(tally):
+    """The step that a lesson names behind a page of a broken rule: it is the first after which a law does not hold."""
+    for page in sorted((ROOT / "docs/book").glob("*.md")):
+        for plan, schedule, rule, step in LESSON.findall(page.read_text(encoding="utf-8")):
+            text, table = record.read_plan(ROOT / plan)
+            steps = steps_of(schedule or schedule_in(text))[:int(step)]
+            is_so = broken_after(table, steps[:-1], rule) == [] and broken_after(table, steps, rule) != []
+            tally.holds(is_so, f"{page.name}: without {rule} no law is first broken in step {step}")
 
 
 def merged(tally):
@@ -293,7 +307,7 @@ def main():
         sys.exit(f"look: there is no program at {PROGRAM}: build it with bench/prove-all.py, or name one")
     told = pages(tally)
     words(tally, told)
-    for part in (page_size, markup, reports, rules, merged, false_program, threads, colours, browser):
+    for part in (page_size, markup, reports, rules, lessons, merged, false_program, threads, colours, browser):
         part(tally)
     for fault in tally.faults:
         print("look:", fault)
