@@ -56,13 +56,15 @@ const COMPARED = "each thread's place, which CPUs are halted, quiet, each call t
 const TOLD = "sections, lines of programs, registers, owners, the orders in queues and lines, words of locks, and whether a law holds.";
 function proofWords() {
   const told = `<b>Told by plans/kernel.py alone</b>, a program without a proof: ${record.checked && !record.wrong ? TOLD : "all of this page."}`;
-  const compared = record.checked && !record.wrong ? `✓ <b>Said by the proved program too</b>, and compared ${graph ? "in each state, as a shortest schedule reaches it" : "after each step"}: ${COMPARED} ` : "";
+  const where = graph ? "in each state, as a shortest schedule reaches it" : "after each step";
+  const compared = record.checked && !record.wrong ? `✓ <b>Said by the proved program too</b>, and compared ${where}: ${COMPARED} ` : "";
   return `<p><b>Proved</b> ${PROVED} ${compared}${told}</p>`;
 }
 function footOf() {
   const keys = "Keys: ← → on and back, with shift by sections, Page Up and Page Down by effects, Home, End, space plays."
     + (graph ? " A digit steps that CPU, shift and a digit runs it until it blocks, Backspace takes a step back, r goes on at random, c copies." : "");
-  return `<p>${legendOf(run)}</p><p>A CPU's lane: <b>+</b> takes a ticket, <b>…</b> looks in vain, light grey enters, dark grey edits and leaves. ● a call takes effect. ${keys}</p>${proofWords()}`
+  const lane = "A CPU's lane: <b>+</b> takes a ticket, <b>…</b> looks in vain, light grey enters, dark grey edits and leaves. ● a call takes effect.";
+  return `<p>${legendOf(run)}</p><p>${lane} ${keys}</p>${proofWords()}`
     + (graph ? "" : `<p>Schedule: <span class="word">${escaped(record.schedule)}</span></p>`) + (record.note ? `<p>${escaped(record.note).replace(/\n/g, "<br>")}</p>` : "");
 }
 // What does not change with the step.

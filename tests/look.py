@@ -216,14 +216,17 @@ for (const record of runs) {
   const run = new Run(record), steps = counted(run.length + 1), lines = steps.map(at => wordsOf(run, at));
   if (kept.includes(record.plan) && !record.wrong) said[record.plan] = lines.map(({who, first, small}, at) => `${at} ${who}: ${first} (${small})`);
   for (const at of steps) {
-    const cards = cpuCards(run, at, () => "") + bufferCards(run, at), all = cards + threadCards(run, at) + orderTable(run, at) + lawList(run, at) + lanesOf(run, at, 1200, 0).svg + JSON.stringify(lines[at]);
+    const cards = cpuCards(run, at) + bufferCards(run, at);
+    const all = cards + threadCards(run, at) + orderTable(run, at) + lawList(run, at) + lanesOf(run, at, 1200, 0).svg + JSON.stringify(lines[at]);
     const filled = [...cards.matchAll(/class="t [A-Z]\\w+"[^>]*>t(\\d+)</g)].map(found => Number(found[1])).sort((x, y) => x - y);
     const many = record.threads.length, isOnce = filled.join() === counted(many).join();
     if (!record.wrong && many <= 8 && record.cpus <= 6 && !isOnce) faults.push(`${record.plan}, step ${at}: the filled chips are ${filled}`);
     if (/undefined|NaN|\\[object/.test(all) || !lines[at].first) faults.push(`${record.plan}, step ${at}: ${JSON.stringify(lines[at])}`);
   }
 }
-console.log(JSON.stringify({said, faults: faults.slice(0, 5), ends: runs.map(record => new Run(record)).map(run => [run.states[run.length].cells, Object.entries(run.states[run.length].locks).map(([name, lock]) => [name, lock.next, lock.serving])])}));
+const last = runs.map(record => new Run(record)).map(run => run.states[run.length]);
+const ends = last.map(({cells, locks}) => [cells, Object.entries(locks).map(([name, lock]) => [name, lock.next, lock.serving])]);
+console.log(JSON.stringify({said, faults: faults.slice(0, 5), ends}));
 """
 
 
