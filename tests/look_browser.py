@@ -226,6 +226,9 @@ def pictures(checks, folder):
 
 
 def main(folders):
+    if "--help" in folders:
+        print(__doc__)
+        return 0
     program = find_browser()
     if not program:
         print("look_browser: there is no Chromium here, so no page was tried in a browser")
