@@ -3,9 +3,11 @@
 
     plans/kernel.py [--wrong RULE] PLAN [SCHEDULE]
     plans/kernel.py [--wrong RULE] --rounds [--each STEPS] PLAN
+    plans/kernel.py [--wrong RULE] --search PLAN
 
 Without a schedule it takes the one in the first lines of the plan. With --wrong one rule of the table is left out, to see
-what breaks; --help names them. With --rounds it prints a schedule: so many steps of each CPU in turn, until none has anything to do.
+what breaks; --help names them. With --rounds it prints a schedule: so many steps of each CPU in turn, until none has anything to do. With --search it prints
+the shortest schedule by which the plan goes wrong without the rule, or without each of them (plans/states.py).
 Nothing here is proved: it is the program to play with. It needs Python alone, 3.9 or later, no built program. Without --wrong it prints
 what `mctower run` prints, and refuses what that refuses; tests/book.py and tests/explain.py hold the two against one another.
 """
@@ -370,12 +372,13 @@ def asked_of(words):
                                      formatter_class=argparse.RawDescriptionHelpFormatter)
     parser.add_argument("--wrong", choices=WRONG, metavar="RULE", action=Once, help="leave out this rule")
     parser.add_argument("--rounds", action="store_true", help="print a schedule in rounds that ends when no CPU has anything to do")
+    parser.add_argument("--search", action="store_true", help="print the shortest schedule that goes wrong without the rule, or without each")
     parser.add_argument("--each", type=int, default=60, metavar="STEPS", help="steps of a CPU in its turn of a round (60)")
     parser.add_argument("plan")
     parser.add_argument("schedule", nargs="?")
     asked = parser.parse_args(words)
-    if asked.each < 1 or asked.rounds and asked.schedule is not None:
-        parser.error("--each is at least 1, and with --rounds no schedule is wanted")
+    if asked.each < 1 or (asked.rounds or asked.search) and asked.schedule is not None:
+        parser.error("--each is at least 1, and with --rounds or --search no schedule is wanted")
     if asked.plan != "-" and not Path(asked.plan).exists():
         parser.exit(2, f"kernel: there is no plan at {asked.plan}; this program needs a plan and no built mctower\n")
     return asked
@@ -385,10 +388,13 @@ def main(words):
     asked = asked_of(words)
     try:
         raw = bytes_at(asked.plan)
-        plan, items = read_run(raw, None if asked.rounds else chosen(raw, asked.schedule))
+        plan, items = read_run(raw, None if asked.rounds or asked.search else chosen(raw, asked.schedule))
     except Refusal as refusal:
         sys.stderr.write(refusal.told(asked.plan))
         return refusal.status
+    if asked.search:
+        import states  # which takes steps by this module
+        return states.search(plan, [asked.wrong] if asked.wrong else WRONG)
     kernel = Kernel(plan, asked.wrong)
     if asked.rounds:
         print(schedule_of(rounds(kernel, asked.each)))
