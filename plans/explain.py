@@ -19,11 +19,15 @@ import schedules
 
 def plan_told(raw, name, schedule):
     """What is told of a plan and a schedule: the exit status, the first line, and the lines beside it."""
+    schedule = schedules.chosen(raw, schedule)
     try:
-        plan, _ = schedules.read_run(raw, schedules.chosen(raw, schedule))
+        plan, _ = schedules.read_run(raw, schedule)
     except reading.Refusal as refusal:
         return refused(refusal, name)
-    return 0, f"{name}: nothing is refused", [f"{name}:{line}: {note}" for line, note in reading.ignored(plan)]
+    beside = [f"{name}:{line}: {note}" for line, note in reading.ignored(plan)]
+    if schedule is None:
+        beside.append(f"{name}: without a schedule `mctower run` takes no step: plans/kernel.py --rounds writes one")
+    return 0, f"{name}: nothing is refused", beside
 
 
 def text_told(raw, name):

@@ -368,7 +368,7 @@ class Once(argparse.Action):
 def asked_of(words):
     """What a command line asks for."""
     rules = "\n".join(f"  {name:24}{what}" for name, what in WRONG.items())
-    parser = argparse.ArgumentParser(prog="kernel.py", description=__doc__.splitlines()[0], epilog=f"rules:\n{rules}", allow_abbrev=False,
+    parser = argparse.ArgumentParser(prog="kernel.py", description=f"{__doc__.splitlines()[0]} It needs Python alone, 3.9 or later.", epilog=f"rules:\n{rules}", allow_abbrev=False,
                                      formatter_class=argparse.RawDescriptionHelpFormatter)
     parser.add_argument("--wrong", choices=WRONG, metavar="RULE", action=Once, help="leave out this rule")
     parser.add_argument("--rounds", action="store_true", help="print a schedule in rounds that ends when no CPU has anything to do")

@@ -23,7 +23,7 @@ PIECES = {"r": "a register, r0 to r7", "n": f"a number, 0 to {WORD - 1}, in digi
           "w": f"a count of words, 1 to {WORDS}", "t": "a line of the program, counted from 0"}
 
 
-class Refusal(Exception):
+class Refusal(ValueError):
     """What `mctower` refuses: its own words, what is told beside them, and where: the line of the plan, or the schedule."""
 
     def __init__(self, words, why, line=None, in_schedule=False):
