@@ -6,7 +6,7 @@
 set -eu
 cd "$(dirname "$0")"
 . ./measure.sh
-for name in tower check count; do rustc -O -o "$work/plain_$name" "plain_$name.rs"; done
+for plain in ../tests/plain_tower ../tests/plain_check plain_count; do rustc -O -o "$work/${plain##*/}" "$plain.rs"; done
 ./make_plan.sh > "$work/plan"; ./make_plan.sh through > "$work/through"; ./make_schedule.sh > "$work/schedule"; ./make_trace.sh > "$work/trace"; : > "$work/nothing"
 
 schedule=$(cat "$work/schedule")

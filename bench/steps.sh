@@ -9,7 +9,7 @@ set -eu
 cd "$(dirname "$0")"
 . ./measure.sh
 turns=${1:-11}
-rustc -O -o "$work/plain_tower" plain_tower.rs
+rustc -O -o "$work/plain_tower" ../tests/plain_tower.rs
 schedule=$(bash make_schedule.sh)
 per_second() { awk -v median="$(median "$work/$1")" -v name="$1" 'BEGIN { printf "  %s: %d steps a second\n", name, 1048576 * 1000000 / median }'; }
 for kind in misses through; do

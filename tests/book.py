@@ -21,7 +21,7 @@ ROOT = Path(__file__).resolve().parent.parent
 BOOK = ROOT / "docs/book"
 CRATES = [line.split(":")[0] for line in (ROOT / "crates.txt").read_text().splitlines() if ":" in line]
 BLOCK = re.compile(r"(?<=^```console\n)(.*?)(?=^```$)", re.M | re.S)
-FILE = re.compile(r"`((?:crates|plans|docs|tests|bench)/[\w./-]+)`")
+FILE = re.compile(r"`((?:crates|plans|docs|tests|tools|bench|web)/[\w./-]+)`")
 NAME = re.compile(r"(?:clause `(\w+)` of )?`(\w+)((?:::\w+)+)`")
 # Names that docs cite: the text between backticks, a fence left out, and what of it looks like a name of this tree.
 FENCE = re.compile(r"^```.*?^```", re.M | re.S)

@@ -33,7 +33,7 @@ from concurrent.futures import ThreadPoolExecutor
 
 sys.dont_write_bytecode = True
 ROOT = os.path.dirname(os.path.dirname(os.path.realpath(__file__)))
-sys.path.append(f"{ROOT}/bench")
+sys.path.append(f"{ROOT}/tools")
 import kit  # noqa: E402
 SUMS = f"{ROOT}/tests/wrong-bodies.sums"
 PARTS = ("src", "specs", "proofs")

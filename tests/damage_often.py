@@ -1,13 +1,13 @@
 #!/usr/bin/env python3
 """Damaged trace texts, plans and schedules: what the built program answers beside judges of their own, written from the formats alone.
 
-    bench/damage_often.py PROGRAM [HOW_MANY] [SEED] [texts | plans]
+    tests/damage_often.py PROGRAM [HOW_MANY] [SEED] [texts | plans]
 
 A text is a run of first-in first-out buffers, perhaps with closes and with messages of several words, near which it is damaged (entries
 swapped, dropped, turned, counted anew, messages with a word more or less) or near its grammar (a byte, a piece, a number, a comma, a
 line); a plan, with or without the key of its lock, with closes, targets and messages of words among its instructions, and a schedule
 near theirs. The cases are texts and plans by turns, or those that are named alone: PROGRAM may be
-the built bench/plain_check.rs for texts. Prints each case whose answer differs; the last line counts them. TOML is read by Python's own
+the built tests/plain_check.rs for texts. Prints each case whose answer differs; the last line counts them. TOML is read by Python's own
 tomllib.
 """
 import random

@@ -1,7 +1,7 @@
 #!/usr/bin/env python3
 """Lays out the imports of definitions: those of one crate stand together, in lines of at most 160 columns.
 
-usage: bench/imports.py [--apply] [CRATE..]
+usage: tools/imports.py [--apply] [CRATE..]
 
 `use Rattle.event_log.specs.declared.ids.Tid.{Tid}` and `use Rattle.event_log.specs.History.{same_cpu}` become one line,
 `use Rattle.event_log.specs.{declared.ids.Tid.Tid, History.same_cpu}`. It goes through each .antt file, and the `ghost use` lines of each .rt file. A group is

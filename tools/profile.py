@@ -1,7 +1,7 @@
 #!/usr/bin/env python3
 """Prints the dearest functions of a crate's last check from nothing, by the times of the modules that it kept.
 
-   bench/profile.py NAME [N]
+   tools/profile.py NAME [N]
 
 It prints N functions of crates/NAME, 25 if left out: seconds of clock, kilobytes of modules, name. The seconds are exact after ONE check
 from nothing at one job: more jobs share the gaps, and a later check overwrites the times of what it made anew. The kilobytes do not depend

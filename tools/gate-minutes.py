@@ -2,7 +2,7 @@
 """Runs a command, as .ci/run, and tells what the prover took in it for each crate: minutes of processor time for the crate's proof, for its tests, for
 its must-fail edits and for its wrong bodies, and the most memory that one check held. These are the figures of docs/GATE.md.
 
-usage: bench/gate-minutes.py COMMAND..
+usage: tools/gate-minutes.py COMMAND..
 
 It looks at all processes once a second, so that it misses up to a second of each; each check takes many. The table goes to standard error at the end, and
 to the end of the file that MINUTES names, if it names one.

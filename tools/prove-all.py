@@ -1,7 +1,7 @@
 #!/usr/bin/env python3
 """Proves and builds the libraries beneath the program side by side, each once those beneath it stand; then the program, which counts.
 
-usage: bench/prove-all.py [JOBS]
+usage: tools/prove-all.py [JOBS]
 
 `rt lib` in one crate keeps every other `rt` out of the crates beneath it, so that several of them wait for one another. Here one process holds
 all crates, as `rt all` does, but without its first pass over all sources, and gives idle processors to the last, large crates. It takes JOBS
