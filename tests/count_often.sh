@@ -3,6 +3,7 @@
 # beside other work, and a count in which each start of a thread is refused in turn. Prints what was seen.
 #
 #   (cd crates/mctower && rt run -- count --cpus 1 --times 1) && tests/count_often.sh
+if [ "${1:-}" = --help ]; then sed -n '2,/^[^#]/ s/^# \{0,1\}//p' "$0"; exit; fi
 set -eu
 cd "$(dirname "$0")/.."
 program=crates/mctower/out/mctower

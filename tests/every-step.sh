@@ -8,6 +8,7 @@
 #
 # Without a name it runs each build of mctower that `rt ci` or `rt run` left. It wants rustc: where there is none it compares nothing,
 # says so and fails.
+if [ "${1:-}" = --help ]; then sed -n '2,/^[^#]/ s/^# \{0,1\}//p' "$0"; exit; fi
 set -eu
 cd "$(dirname "$0")/.."
 room=$(mktemp -d); trap 'rm -rf "$room"' EXIT

@@ -8,6 +8,7 @@
 #   tests/faults.sh [PROGRAM]
 #
 # It wants the built program, and rustc. The last line is 'faults: N outcomes, M wrong'.
+if [ "${1:-}" = --help ]; then sed -n '2,/^[^#]/ s/^# \{0,1\}//p' "$0"; exit; fi
 set -u
 export LC_ALL=C
 cd "$(dirname "$0")/.."

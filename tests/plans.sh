@@ -7,6 +7,7 @@
 #   tests/plans.sh [PROGRAM..]
 #
 # Without a name it runs each build of mctower that `rt ci` or `rt run` left.
+if [ "${1:-}" = --help ]; then sed -n '2,/^[^#]/ s/^# \{0,1\}//p' "$0"; exit; fi
 set -u
 cd "$(dirname "$0")/.."
 room=$(mktemp -d); trap 'rm -rf "$room"' EXIT
