@@ -181,7 +181,7 @@ def main(words):
     schedule = words[1] if len(words) == 2 else schedule_in(plan)
     steps = steps_in(schedule)
     if not (os.path.isfile(PROGRAM) and os.access(PROGRAM, os.X_OK)):
-        sys.exit(f"picture: there is no program at {PROGRAM}: build it with bench/prove-all.py, or name one by MCTOWER")
+        sys.exit(f"picture: there is no program at {PROGRAM}: build it with tools/prove-all.py, or name one by MCTOWER")
     places, sections = observed(plan, steps)
     sys.stdout.write(Picture(f"{Path(words[0]).name}, schedule {schedule or '(none)'}", places, sections).svg())
 

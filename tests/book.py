@@ -11,6 +11,7 @@ A command is a line `$ ..` of a block marked `console`; the lines beneath it are
 together. Where a page is changed, --write puts what comes into the page and draws the pictures, to be read before it is kept.
 The last line is 'book: N passed, M failed'.
 """
+import argparse
 import os
 import re
 import subprocess
@@ -21,7 +22,7 @@ ROOT = Path(__file__).resolve().parent.parent
 BOOK = ROOT / "docs/book"
 CRATES = [line.split(":")[0] for line in (ROOT / "crates.txt").read_text().splitlines() if ":" in line]
 BLOCK = re.compile(r"(?<=^```console\n)(.*?)(?=^```$)", re.M | re.S)
-FILE = re.compile(r"`((?:crates|plans|docs|tests|bench)/[\w./-]+)`")
+FILE = re.compile(r"`((?:crates|plans|docs|tests|tools|bench|web)/[\w./-]+)`")
 NAME = re.compile(r"(?:clause `(\w+)` of )?`(\w+)((?:::\w+)+)`")
 # Names that docs cite: the text between backticks, a fence left out, and what of it looks like a name of this tree.
 FENCE = re.compile(r"^```.*?^```", re.M | re.S)
@@ -202,13 +203,17 @@ def runs(program, write, faults):
     return count
 
 
-def main(words):
-    named = [word for word in words if not word.startswith("--")]
-    program = Path(named[0] if named else ROOT / "crates/mctower/out/mctower").resolve()
+def main():
+    read = argparse.ArgumentParser(description=__doc__, formatter_class=argparse.RawDescriptionHelpFormatter)
+    read.add_argument("--write", action="store_true")
+    read.add_argument("--names", action="store_true")
+    read.add_argument("program", nargs="?", default=ROOT / "crates/mctower/out/mctower", metavar="PROGRAM")
+    given = read.parse_args()
+    program = Path(given.program).resolve()
     faults = []
     count = names(faults)
-    if "--names" not in words:
-        count += runs(program, "--write" in words, faults)
+    if not given.names:
+        count += runs(program, given.write, faults)
     for fault in faults:
         print("book:", fault)
     print(f"book: {count - len(faults)} passed, {len(faults)} failed")
@@ -216,4 +221,4 @@ def main(words):
 
 
 if __name__ == "__main__":
-    sys.exit(main(sys.argv[1:]))
+    sys.exit(main())

@@ -5,6 +5,7 @@
 #   tests/edge.sh [PROGRAM..]
 #
 # Without a name it runs each build of mctower that `rt ci` or `rt run` left. The last line is 'edge: N passed, M failed'.
+if [ "${1:-}" = --help ]; then sed -n '2,/^[^#]/ s/^# \{0,1\}//p' "$0"; exit; fi
 set -u
 export LC_ALL=C
 cd "$(dirname "$0")/.."
@@ -240,7 +241,7 @@ rows() {
   row 1 '' $'error: WriteFault(8)\n' 'mctower count --cpus 1 --times 1 >&-'
   # the longest schedule where there is memory: eight CPUs, whose messages get through all sixteen buffers
   patience=60 row 0 $'yes\n35264\n' '~cpu 0 live' \
-    "bench/make_plan.sh through | mctower run --schedule \"\$(bench/make_schedule.sh)\" > '$room/long' && mctower check < '$room/long' && grep -c '^e ' '$room/long'"
+    "bench/make.py plan through | mctower run --schedule \"\$(bench/make.py schedule)\" > '$room/long' && mctower check < '$room/long' && grep -c '^e ' '$room/long'"
   # room for one thread's stack, and not for two; no room for the longest schedule
   row 0 $'plain 3\ntable 3\n' '' "$one_stack; mctower count --cpus 1 --times 3"
   row 1 '' $'error: NoThread(5)\n' "$one_stack; mctower count --cpus 2 --times 3"

@@ -8,6 +8,7 @@
 #   tests/faults.sh [PROGRAM]
 #
 # It wants the built program, and rustc. The last line is 'faults: N outcomes, M wrong'.
+if [ "${1:-}" = --help ]; then sed -n '2,/^[^#]/ s/^# \{0,1\}//p' "$0"; exit; fi
 set -u
 export LC_ALL=C
 cd "$(dirname "$0")/.."
@@ -17,7 +18,7 @@ PATH=$PATH:$HOME/.cargo/bin
 command -v rustc > /dev/null || { echo "faults: nothing was refused, since no rustc is here to build what refuses"; exit 1; }
 room=$(mktemp -d)
 trap 'rm -rf "$room"' EXIT
-rustc --edition 2024 -O -C panic=abort --crate-type cdylib -o "$room/librefuse.so" bench/refuse.rs || exit 1
+rustc --edition 2024 -O -C panic=abort --crate-type cdylib -o "$room/librefuse.so" tests/refuse.rs || exit 1
 outcomes=0
 wrong=0
 

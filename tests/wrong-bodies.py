@@ -38,7 +38,7 @@ from concurrent.futures import ThreadPoolExecutor
 
 sys.dont_write_bytecode = True
 ROOT = os.path.dirname(os.path.dirname(os.path.realpath(__file__)))
-sys.path.append(f"{ROOT}/bench")
+sys.path.append(f"{ROOT}/tools")
 import kit  # noqa: E402
 KEPT = f"{os.environ.get('XDG_CACHE_HOME') or os.path.expanduser('~/.cache')}/mctower-wrong-bodies"
 KEPT_DAYS = 60

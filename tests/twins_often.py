@@ -1,13 +1,14 @@
 #!/usr/bin/env python3
-"""Holds two programs of the step table beside one another over random plans: plans/kernel.py and bench/plain_tower.rs, which share
+"""Holds two programs of the step table beside one another over random plans: plans/kernel.py and tests/plain_tower.rs, which share
 neither a line nor a language, and none with the tower.
 
-    bench/twins_often.py PLAIN_TOWER [COUNT] [FIRST] [large]
+    tests/twins_often.py PLAIN_TOWER [COUNT] [FIRST] [large]
 
-PLAIN_TOWER is the built bench/plain_tower.rs; with the word `large` the plans are up to the limits. Compares trace text and state lines at the end of each plan's schedule; the last line
+PLAIN_TOWER is the built tests/plain_tower.rs; with the word `large` the plans are up to the limits. Compares trace text and state lines at the end of each plan's schedule; the last line
 counts the plans, those in which a close took effect, those with a message of several words, and how often each kind of effect came. The
 status is 1 where one differs, or where none had a close, or a message of several words.
 """
+import argparse
 import collections
 import random
 import subprocess
@@ -36,9 +37,13 @@ def by_plain_tower(program, plan, schedule):
 
 
 def main():
-    program = sys.argv[1]
-    is_large = sys.argv[4:] == ["large"]
-    count, first = (int(sys.argv[i]) if len(sys.argv) > i else many for i, many in ((2, 2000), (3, 1)))
+    read = argparse.ArgumentParser(description=__doc__, formatter_class=argparse.RawDescriptionHelpFormatter)
+    read.add_argument("program", metavar="PLAIN_TOWER")
+    read.add_argument("count", nargs="?", type=int, default=2000, metavar="COUNT")
+    read.add_argument("first", nargs="?", type=int, default=1, metavar="FIRST")
+    read.add_argument("large", nargs="?", choices=("large",))
+    given = read.parse_args()
+    program, first, count, is_large = given.program, given.first, given.count, given.large is not None
     kinds, closed, worded, differ = collections.Counter(), 0, 0, 0
     for seed in range(first, first + count):
         plan = random_plan.plan(random.Random(seed), LARGE_STEPS if is_large else STEPS, is_large)

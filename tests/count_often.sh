@@ -2,13 +2,14 @@
 # What a test of the gate can't hold: a hundred counts of eight threads with each lock, which may be slow
 # beside other work, and a count in which each start of a thread is refused in turn. Prints what was seen.
 #
-#   (cd crates/mctower && rt run -- count --cpus 1 --times 1) && bench/count_often.sh
+#   (cd crates/mctower && rt run -- count --cpus 1 --times 1) && tests/count_often.sh
+if [ "${1:-}" = --help ]; then sed -n '2,/^[^#]/ s/^# \{0,1\}//p' "$0"; exit; fi
 set -eu
 cd "$(dirname "$0")/.."
 program=crates/mctower/out/mctower
 room=$(mktemp -d)
 trap 'rm -rf "$room"' EXIT
-rustc --edition 2024 -O -C panic=abort --crate-type cdylib -o "$room/librefuse.so" bench/refuse.rs
+rustc --edition 2024 -O -C panic=abort --crate-type cdylib -o "$room/librefuse.so" tests/refuse.rs
 printf 'plain 8000\ntable 8000\n' > "$room/wanted"
 printf 'refused\nerror: NoThread(5)\n' > "$room/fault"
 for lock in ticket grant; do

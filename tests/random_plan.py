@@ -9,8 +9,8 @@ room, schedules that run a CPU for a while or hand over at every step, and trace
 too short. With the word `large`, systems up to the limits: up to 16 CPUs, 256 threads and 16 buffers,
 of each every third as many as there may be, and longer schedules. In every other plan threads close buffers, some of them twice, and calls have targets; in
 every other one, whichever of these it is, they send and receive messages of several words."""
+import argparse
 import random
-import sys
 
 
 CPUS, THREADS, BUFFERS = 16, 256, 16
@@ -75,12 +75,16 @@ def plan(choose, most, is_large=False):
 
 
 def main():
-    folder, first, count = sys.argv[1], int(sys.argv[2]), int(sys.argv[3])
-    most = int(sys.argv[4]) if len(sys.argv) > 4 else 3000
-    is_large = sys.argv[5:] == ["large"]
-    for seed in range(first, first + count):
-        with open(f"{folder}/{seed}.toml", "w") as file:
-            file.write(plan(random.Random(seed), most, is_large))
+    read = argparse.ArgumentParser(description=__doc__, formatter_class=argparse.RawDescriptionHelpFormatter)
+    read.add_argument("folder", metavar="FOLDER")
+    read.add_argument("first", type=int, metavar="FIRST")
+    read.add_argument("count", type=int, metavar="COUNT")
+    read.add_argument("most", nargs="?", type=int, default=3000, metavar="STEPS")
+    read.add_argument("large", nargs="?", choices=("large",))
+    given = read.parse_args()
+    for seed in range(given.first, given.first + given.count):
+        with open(f"{given.folder}/{seed}.toml", "w") as file:
+            file.write(plan(random.Random(seed), given.most, given.large is not None))
 
 
 if __name__ == "__main__":

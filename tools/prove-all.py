@@ -1,12 +1,13 @@
 #!/usr/bin/env python3
 """Proves and builds the libraries beneath the program side by side, each once those beneath it stand; then the program, which counts.
 
-usage: bench/prove-all.py [JOBS]
+    tools/prove-all.py [JOBS]
 
 `rt lib` in one crate keeps every other `rt` out of the crates beneath it, so that several of them wait for one another. Here one process holds
 all crates, as `rt all` does, but without its first pass over all sources, and gives idle processors to the last, large crates. It takes JOBS
 processors, all where none is named. What it proves is kept, so it can be stopped and started again.
 """
+import argparse
 import os
 import subprocess
 import sys
@@ -52,7 +53,9 @@ def build_all(crates, lanes):
 
 
 def main():
-    lanes = int(sys.argv[1]) if len(sys.argv) > 1 else len(os.sched_getaffinity(0))
+    read = argparse.ArgumentParser(description=__doc__, formatter_class=argparse.RawDescriptionHelpFormatter)
+    read.add_argument("jobs", nargs="?", type=int, default=len(os.sched_getaffinity(0)), metavar="JOBS")
+    lanes = read.parse_args().jobs
     lib = kit.load()
     program = next(it for it in lib.crates_below(ROOT) if it.name == PROGRAM)
     held = lib.lock(program.below())

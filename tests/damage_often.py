@@ -1,15 +1,16 @@
 #!/usr/bin/env python3
 """Damaged trace texts, plans and schedules: what the built program answers beside judges of their own, written from the formats alone.
 
-    bench/damage_often.py PROGRAM [HOW_MANY] [SEED] [texts | plans]
+    tests/damage_often.py PROGRAM [HOW_MANY] [SEED] [texts | plans]
 
 A text is a run of first-in first-out buffers, perhaps with closes and with messages of several words, near which it is damaged (entries
 swapped, dropped, turned, counted anew, messages with a word more or less) or near its grammar (a byte, a piece, a number, a comma, a
 line); a plan, with or without the key of its lock, with closes, targets and messages of words among its instructions, and a schedule
 near theirs. The cases are texts and plans by turns, or those that are named alone: PROGRAM may be
-the built bench/plain_check.rs for texts. Prints each case whose answer differs; the last line counts them. TOML is read by Python's own
+the built tests/plain_check.rs for texts. Prints each case whose answer differs; the last line counts them. TOML is read by Python's own
 tomllib.
 """
+import argparse
 import random
 import subprocess
 import sys
@@ -505,10 +506,14 @@ def plan_case(pick, program_path):
 
 
 def main():
-    program_path = sys.argv[1]
-    many = int(sys.argv[2]) if len(sys.argv) > 2 else 1000
-    pick = random.Random(int(sys.argv[3]) if len(sys.argv) > 3 else 1)
-    cases = {'texts': [text_case], 'plans': [plan_case]}.get(''.join(sys.argv[4:5]), [text_case, plan_case])
+    read = argparse.ArgumentParser(description=__doc__, formatter_class=argparse.RawDescriptionHelpFormatter)
+    read.add_argument('program', metavar='PROGRAM')
+    read.add_argument('many', nargs='?', type=int, default=1000, metavar='HOW_MANY')
+    read.add_argument('seed', nargs='?', type=int, default=1, metavar='SEED')
+    read.add_argument('kind', nargs='?', choices=('texts', 'plans'))
+    given = read.parse_args()
+    program_path, many, pick = given.program, given.many, random.Random(given.seed)
+    cases = {'texts': [text_case], 'plans': [plan_case]}.get(given.kind, [text_case, plan_case])
     answers, wrong = {}, 0
     for number in range(many):
         case, wanted, got, right = cases[number % len(cases)](pick, program_path)

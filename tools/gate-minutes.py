@@ -2,11 +2,12 @@
 """Runs a command, as .ci/run, and tells what the prover took in it for each crate: minutes of processor time for the crate's proof, for its tests, for
 its must-fail edits and for its wrong bodies, and the most memory that one check held. These are the figures of docs/GATE.md.
 
-usage: bench/gate-minutes.py COMMAND..
+    tools/gate-minutes.py COMMAND..
 
 It looks at all processes once a second, so that it misses up to a second of each; each check takes many. The table goes to standard error at the end, and
 to the end of the file that MINUTES names, if it names one.
 """
+import argparse
 import collections
 import os
 import re
@@ -73,6 +74,9 @@ class Tally:
 
 
 def main():
+    read = argparse.ArgumentParser(description=__doc__, formatter_class=argparse.RawDescriptionHelpFormatter)
+    read.add_argument("command", nargs=argparse.REMAINDER)
+    given = read.parse_args()
     tally, ended = Tally(), threading.Event()
 
     def watch():
@@ -81,7 +85,7 @@ def main():
 
     watcher = threading.Thread(target=watch)
     watcher.start()
-    status = subprocess.run(sys.argv[1:]).returncode
+    status = subprocess.run(given.command).returncode
     ended.set()
     watcher.join()
     table = "\n".join(tally.table())

@@ -1,16 +1,16 @@
 #!/usr/bin/env python3
 """Lays out the imports of definitions: those of one crate stand together, in lines of at most 160 columns.
 
-usage: bench/imports.py [--apply] [CRATE..]
+    tools/imports.py [--apply] [CRATE..]
 
 `use Rattle.event_log.specs.declared.ids.Tid.{Tid}` and `use Rattle.event_log.specs.History.{same_cpu}` become one line,
 `use Rattle.event_log.specs.{declared.ids.Tid.Tid, History.same_cpu}`. It goes through each .antt file, and the `ghost use` lines of each .rt file. A group is
 parted where that takes fewer lines. It prints how many lines of imports there are and would be; with --apply it writes them.
 """
+import argparse
 import os
 import re
 import subprocess
-import sys
 
 ROOT = os.path.dirname(os.path.dirname(os.path.realpath(__file__)))
 WIDTH = 160
@@ -113,16 +113,19 @@ def text_of(text, is_code):
 
 
 def main():
-    crates = {it for it in sys.argv[1:] if it != "--apply"}
+    read = argparse.ArgumentParser(description=__doc__, formatter_class=argparse.RawDescriptionHelpFormatter)
+    read.add_argument("--apply", action="store_true")
+    read.add_argument("crates", nargs="*", metavar="CRATE")
+    given = read.parse_args()
     before = after = 0
     for file in subprocess.run(["git", "ls-files", "crates/*.antt", "crates/*.rt"], cwd=ROOT, stdout=subprocess.PIPE, text=True, check=True).stdout.split():
-        if crates and file.split("/")[1] not in crates:
+        if given.crates and file.split("/")[1] not in given.crates:
             continue
         text = open(f"{ROOT}/{file}", encoding="utf-8").read()
         new = text_of(text, file.endswith(".rt"))
         before += sum(bool(LINE.match(it)) for it in text.split("\n"))
         after += sum(bool(LINE.match(it)) for it in new.split("\n"))
-        if new != text and "--apply" in sys.argv:
+        if new != text and given.apply:
             with open(f"{ROOT}/{file}", "w", encoding="utf-8") as it:
                 it.write(new)
     print(f"lines of imports: {before} -> {after}")

@@ -10,6 +10,7 @@ On standard error one line tells of each CPU why its worker stopped: with AllEnd
 thread at home there has ended by its program, followed along its entries; with TraceFull only where
 its trace has as many entries as there is room for, or a thread at home begins a call; never with Held.
 The last line says how many ran and how often each stop came; the status is 1 where one was wrong."""
+import argparse
 import collections
 import random
 import subprocess
@@ -49,7 +50,13 @@ def run(program, words, text):
 
 
 def main():
-    program, first, count, is_large = sys.argv[1], int(sys.argv[2]), int(sys.argv[3]), sys.argv[4:] == ["large"]
+    read = argparse.ArgumentParser(description=__doc__, formatter_class=argparse.RawDescriptionHelpFormatter)
+    read.add_argument("program", metavar="MCTOWER")
+    read.add_argument("first", type=int, metavar="FIRST")
+    read.add_argument("count", type=int, metavar="COUNT")
+    read.add_argument("large", nargs="?", choices=("large",))
+    given = read.parse_args()
+    program, first, count, is_large = given.program, given.first, given.count, given.large is not None
     ran = wrong = 0
     seen = collections.Counter()
     for seed in range(first, first + count):

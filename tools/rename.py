@@ -2,7 +2,7 @@
 """Renames what a table lists: in code, definitions, proofs, edits and docs, and in the names of files and folders, since a folder of proofs bears
 the names of the types and traits that it is of.
 
-usage: bench/rename.py [--apply] TABLE
+    tools/rename.py [--apply] TABLE
 
 A line of the table is `old new`, and # starts a comment. `old` is a whole name, or with a ~ before it one word of names: `~berth` stands in `own_berth` but
 not in `berths`, and `~Berth` in `IsBerth`. A whole name goes before a word of one, and nothing is renamed twice. In comments and docs a name is renamed

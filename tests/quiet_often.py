@@ -9,6 +9,7 @@ Each thread's program is followed along its entries. In a quiet system a thread 
 program has; any other stands at a call that its buffer does not allow, and waits there: a send or a
 receive at a buffer that nobody has closed. The last line says how many were quiet; the status is 1
 where one of them was wrong."""
+import argparse
 import collections
 import itertools
 import random
@@ -131,7 +132,12 @@ def quiet_run(program, plan, steps, cpus):
 
 
 def main():
-    program, first, count = sys.argv[1], int(sys.argv[2]), int(sys.argv[3])
+    read = argparse.ArgumentParser(description=__doc__, formatter_class=argparse.RawDescriptionHelpFormatter)
+    read.add_argument("program", metavar="MCTOWER")
+    read.add_argument("first", type=int, metavar="FIRST")
+    read.add_argument("count", type=int, metavar="COUNT")
+    given = read.parse_args()
+    program, first, count = given.program, given.first, given.count
     quiet = wrong = 0
     for seed in range(first, first + count):
         choose = random.Random(seed)
