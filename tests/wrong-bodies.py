@@ -68,6 +68,17 @@ def say(text):
         print(text, flush=True)
 
 
+def whole(lines):
+    """Returns what a check said with each message in one line: those that follow it, two columns in, belong to it."""
+    found = []
+    for it in lines:
+        if it.startswith("  ") and found:
+            found[-1] += it
+        else:
+            found.append(it)
+    return found
+
+
 @dataclasses.dataclass
 class Body:
     """One wrong body: where it stands, the function that it turns, and its pairs of a file, an old text and a new one."""
@@ -243,13 +254,13 @@ class Trial:
         if OWN_GOAL.search(said[: OF_A_CALLEE.search(said).start()]):
             return True
         folder = f"proofs/{body.function.replace('::', '/')}/"
-        return any(OPEN_GOAL.match(it) and folder in it.split(": ")[0] and not STALE_NAME.match(it) for it in lines)
+        return any(OPEN_GOAL.match(it) and folder in it.split(": ")[0] and not STALE_NAME.match(it) for it in whole(lines))
 
     def is_weak(self, body, lines):
         """Returns whether all that stands against the function is a proof file that no longer reads."""
         end = next(at for at, it in enumerate(lines) if it.startswith(f"fn {self.crate.name}::{body.function}: "))
         start = max((at + 1 for at, it in enumerate(lines[:end]) if re.match(r"(fn|impl|struct|enum|trait) ", it)), default=0)
-        told = [it for it in lines[start:end] if OPEN_GOAL.match(it) or STALE_NAME.match(it)]
+        told = [it for it in whole(lines[start:end]) if OPEN_GOAL.match(it) or STALE_NAME.match(it)]
         return bool(told) and all(STALE_NAME.match(it) for it in told)
 
 
