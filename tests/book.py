@@ -1,7 +1,7 @@
 #!/usr/bin/env python3
 """Tries the book: runs every command of docs/book and compares what comes with what the page says, byte for byte; looks up
 each file, public name and clause that a page names, and each name of the repository in the other pages of docs; holds the plan and the
-output that README.md shows against the files; tries the patches of docs; draws each picture again; holds plans/kernel.py against what each plan is expected to
+output that README.md shows against the files, and its version against that of CHANGELOG.md and of the help; tries the patches of docs; draws each picture again; holds plans/kernel.py against what each plan is expected to
 print. .ci/run calls it; it takes about half a minute.
 
     tests/book.py [--write] [PROGRAM]
@@ -159,6 +159,16 @@ def first_minute(faults):
     return 2
 
 
+def version(faults):
+    """Looks whether README.md, CHANGELOG.md and the help tell one version; tells how many that were."""
+    told = re.findall(r"This is version ([\d.]+\d)", (ROOT / "README.md").read_text())
+    told += re.findall(r"^## ([\d.]+)$", (ROOT / "CHANGELOG.md").read_text(), re.M)[:1]
+    told += re.findall(r'VERSION: &str = "([\d.]+)"', (ROOT / "crates/mctower/src/help.rt").read_text())
+    if len(told) < 2 or len(set(told)) != 1:
+        faults.append(f"README.md, CHANGELOG.md and the help tell the versions {', '.join(told)}")
+    return len(told)
+
+
 def patched(faults):
     """Tries whether each patch of docs goes onto the tree as it stands; tells how many patches that were."""
     patches = sorted(ROOT.glob("docs/*.patch"))
@@ -174,7 +184,7 @@ def names(faults):
     words, files = words_of_tree()
     pages = [*ROOT.glob("*.md"), *ROOT.glob("plans/*.md"), *ROOT.glob("docs/*.md"), *ROOT.glob("docs/spec/*.md"), *ROOT.glob("docs/notes/*.md"), *BOOK.glob("*.md")]
     count = sum(cited(page, words, files, faults) for page in sorted(pages))
-    return count + sum(looked_up(page, faults) for page in sorted(BOOK.glob("*.md"))) + first_minute(faults) + patched(faults)
+    return count + sum(looked_up(page, faults) for page in sorted(BOOK.glob("*.md"))) + first_minute(faults) + version(faults) + patched(faults)
 
 
 def drawn(picture, program, write, faults):
