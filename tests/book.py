@@ -1,7 +1,7 @@
 #!/usr/bin/env python3
 """Tries the book: runs every command of docs/book and compares what comes with what the page says, byte for byte; looks up
 each file, public name and clause that a page names, and each name of the repository in the other pages of docs; holds the plan and the
-output that README.md shows against the files; tries the patch of a third lock; draws each picture again; holds plans/kernel.py against what each plan is expected to
+output that README.md shows against the files, and its version against that of CHANGELOG.md and of the help; tries the patches of docs; draws each picture again; holds plans/kernel.py against what each plan is expected to
 print. .ci/run calls it; it takes about half a minute.
 
     tests/book.py [--write] [PROGRAM]
@@ -105,8 +105,10 @@ def words_of_tree():
         files.append(name)
         path = ROOT / name
         words.update(part.split(".")[0] for part in name.split("/"))
-        if path.suffix in {".rt", ".antt", ".edit", ".py", ".sh", ".rs", ".toml"} and path.is_file():
-            words.update(re.findall(r"\w+", REMARK.sub("", path.read_text())))
+        if path.suffix in {".rt", ".antt", ".edit", ".py", ".sh", ".rs", ".toml", ".patch"} and path.is_file():
+            text = path.read_text()
+            words.update(re.findall(r"\w+", REMARK.sub("", text)))
+            files.extend(re.findall(r"^\+\+\+ b/(.*)$", text, re.M) if path.suffix == ".patch" else [])
     return words, files
 
 
@@ -157,20 +159,32 @@ def first_minute(faults):
     return 2
 
 
+def version(faults):
+    """Looks whether README.md, CHANGELOG.md and the help tell one version; tells how many that were."""
+    told = re.findall(r"This is version ([\d.]+\d)", (ROOT / "README.md").read_text())
+    told += re.findall(r"^## ([\d.]+)$", (ROOT / "CHANGELOG.md").read_text(), re.M)[:1]
+    told += re.findall(r'VERSION: &str = "([\d.]+)"', (ROOT / "crates/mctower/src/help.rt").read_text())
+    if len(told) < 2 or len(set(told)) != 1:
+        faults.append(f"README.md, CHANGELOG.md and the help tell the versions {', '.join(told)}")
+    return len(told)
+
+
 def patched(faults):
-    """Tries whether the patch of a third lock goes onto the tree as it stands; tells how many patches that were."""
-    ran = subprocess.run(["git", "apply", "--check", "docs/third-lock.patch"], cwd=ROOT, stdout=subprocess.PIPE, stderr=subprocess.STDOUT, text=True)
-    if ran.returncode:
-        faults.append(f"docs/third-lock.patch does not go onto the tree: {ran.stdout[:200]}")
-    return 1
+    """Tries whether each patch of docs goes onto the tree as it stands; tells how many patches that were."""
+    patches = sorted(ROOT.glob("docs/*.patch"))
+    for patch in patches:
+        ran = subprocess.run(["git", "apply", "--check", patch], cwd=ROOT, stdout=subprocess.PIPE, stderr=subprocess.STDOUT, text=True)
+        if ran.returncode:
+            faults.append(f"{patch.relative_to(ROOT)} does not go onto the tree: {ran.stdout[:200]}")
+    return len(patches)
 
 
 def names(faults):
     """Looks up what all pages cite, which needs no program; tells how much that was."""
     words, files = words_of_tree()
-    pages = [ROOT / "README.md", *ROOT.glob("plans/*.md"), *ROOT.glob("docs/*.md"), *ROOT.glob("docs/spec/*.md"), *BOOK.glob("*.md")]
+    pages = [*ROOT.glob("*.md"), *ROOT.glob("plans/*.md"), *ROOT.glob("docs/*.md"), *ROOT.glob("docs/spec/*.md"), *ROOT.glob("docs/notes/*.md"), *BOOK.glob("*.md")]
     count = sum(cited(page, words, files, faults) for page in sorted(pages))
-    return count + sum(looked_up(page, faults) for page in sorted(BOOK.glob("*.md"))) + first_minute(faults) + patched(faults)
+    return count + sum(looked_up(page, faults) for page in sorted(BOOK.glob("*.md"))) + first_minute(faults) + version(faults) + patched(faults)
 
 
 def drawn(picture, program, write, faults):
