@@ -50,14 +50,21 @@ function warning() {
   if (record.checked) return "";
   return "Not compared with the proved program, which is not built here: all of this page is told by plans/kernel.py, a model without a proof.";
 }
-const PROVED = "each thread's place, which CPUs are halted, quiet, each call that took effect with its op and pos, what is left in each buffer.";
+const PROVED = "of the program mctower, for every plan and every schedule, and not by this page: the calls that took effect have one order, which is a run of first-in first-out buffers; "
+  + "each thread stands in one place; no wake-up is lost. docs/PROOF.md has it all.";
+const COMPARED = "each thread's place, which CPUs are halted, quiet, each call that took effect with its op and pos, what is left in each buffer.";
 const TOLD = "sections, lines of programs, registers, owners, the orders in queues and lines, words of locks, and whether a law holds.";
+function proofWords() {
+  const told = `<b>Told by plans/kernel.py alone</b>, a program without a proof: ${record.checked && !record.wrong ? TOLD : "all of this page."}`;
+  const where = graph ? "in each state, as a shortest schedule reaches it" : "after each step";
+  const compared = record.checked && !record.wrong ? `✓ <b>Said by the proved program too</b>, and compared ${where}: ${COMPARED} ` : "";
+  return `<p><b>Proved</b> ${PROVED} ${compared}${told}</p>`;
+}
 function footOf() {
   const keys = "Keys: ← → on and back, with shift by sections, Page Up and Page Down by effects, Home, End, space plays."
     + (graph ? " A digit steps that CPU, shift and a digit runs it until it blocks, Backspace takes a step back, r goes on at random, c copies." : "");
-  const compared = record.checked && !record.wrong ? `<p>✓ <b>Said by the proved program too</b>, and compared ${graph ? "in each state, as a shortest schedule reaches it" : "after each step"}: `
-    + `${PROVED} <b>Told by plans/kernel.py alone</b>, a model without a proof: ${TOLD}</p>` : "";
-  return `<p>${legendOf(run)}</p><p>A CPU's lane: <b>+</b> takes a ticket, <b>…</b> looks in vain, light grey enters, dark grey edits and leaves. ● a call takes effect. ${keys}</p>${compared}`
+  const lane = "A CPU's lane: <b>+</b> takes a ticket, <b>…</b> looks in vain, light grey enters, dark grey edits and leaves. ● a call takes effect.";
+  return `<p>${legendOf(run)}</p><p>${lane} ${keys}</p>${proofWords()}`
     + (graph ? "" : `<p>Schedule: <span class="word">${escaped(record.schedule)}</span></p>`) + (record.note ? `<p>${escaped(record.note).replace(/\n/g, "<br>")}</p>` : "");
 }
 // What does not change with the step.

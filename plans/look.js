@@ -263,9 +263,13 @@ const none = '<span class="none">–</span>';
 const chip = (run, t, place) => `<span class="t ${place}" role="img" aria-label="thread ${t}: ${run.record.places[place][3].replace(/ N/, "")}">t${t}</span>`;
 const chips = (run, threads, place) => threads.map(t => chip(run, t, place)).join("");
 // A thread that is only named: it stands elsewhere.
-const mention = (t, more = "") => `<span class="t only" role="img" aria-label="thread ${t}, named${more && `, position ${more}`}">t${t}${more === "" ? "" : ` <small>${more}</small>`}</span>`;
+function mention(t, position) {
+  const [words, small] = position === undefined ? ["", ""] : [`, position ${position}`, ` <small>${position}</small>`];
+  return `<span class="t only" role="img" aria-label="thread ${t}, named${words}">t${t}${small}</span>`;
+}
 const row = (name, inner, fresh) => `<dt>${name}</dt><dd class="${fresh}">${inner || none}</dd>`;
-const proved = run => run.record.checked && !run.record.wrong ? '<span class="ok" role="img" aria-label="said by the proved program too" title="said by the proved program too">✓</span>' : "";
+const SAID_TOO = "said by the proved program too";
+const proved = run => run.record.checked && !run.record.wrong ? `<span class="ok" role="img" aria-label="${SAID_TOO}" title="${SAID_TOO}">✓</span>` : "";
 
 // The word of a grant lock's ring of 16 behind so many grants.
 function grantWord(ticket, serving) {
@@ -324,8 +328,9 @@ function bufferCard(run, at, b) {
   const owner = cell("owner") === undefined ? "" : row("owner", cell("owner") === null ? '<span class="none">free</span>' : mention(cell("owner")), fresh("owner"));
   const asleep = cell("sleepers") && (cell("sleepers").length || fresh("sleepers")) ? row("asleep for it", chips(run, cell("sleepers"), "LockSleeper"), fresh("sleepers")) : "";
   const few = run.record.capacities.length < 3 || run.lock(lock, at).line.length || isNew(run, at, lock);
-  return `<div class="card"><h3>buffer ${b} <small>${proved(run)}</small> ${closed}</h3><dl><dt>holds</dt><dd class="boxes${fresh("items")}">${boxesOf(cell("items"), run.record.capacities[b])}</dd>`
-    + owner + asleep + sideRows(run, at, b, "receive", "receivers", "WaitRecv") + sideRows(run, at, b, "send", "senders", "WaitSend")
+  const holds = `<dt>holds</dt><dd class="boxes${fresh("items")}">${boxesOf(cell("items"), run.record.capacities[b])}</dd>`;
+  return `<div class="card"><h3>buffer ${b} <small>${proved(run)}</small> ${closed}</h3><dl>${holds}` + owner + asleep
+    + sideRows(run, at, b, "receive", "receivers", "WaitRecv") + sideRows(run, at, b, "send", "senders", "WaitSend")
     + (few && owner ? lockRow(run, at, lock) : "") + "</dl></div>";
 }
 function bufferCards(run, at) {
@@ -374,8 +379,9 @@ function orderTable(run, at) {
     return `<tr class="${k > at ? "later" : k === at ? "new" : ""}"><td><button data-go="${k}" aria-label="go to step ${k}: ${words}">${k}</button></td>`
       + `<td>t${t}</td><td><b>${kind}</b></td><td>${b}</td><td>${escaped(message)}</td><td>${operation}</td><td>${position}</td></tr>`;
   });
-  const head = '<tr><th>step</th><th><span class="unseen">thread</span></th><th><span class="unseen">kind</span></th><th title="buffer">buf</th><th title="message">msg</th><th>op</th><th>pos</th></tr>';
-  return `<table><thead>${head}</thead><tbody>${rows.join("")}</tbody></table>${rows.length ? "" : '<p class="none">none</p>'}`;
+  const unseen = ["thread", "kind"].map(word => `<th><span class="unseen">${word}</span></th>`).join("");
+  const head = `<th>step</th>${unseen}<th title="buffer">buf</th><th title="message">msg</th><th>op</th><th>pos</th>`;
+  return `<table><thead><tr>${head}</tr></thead><tbody>${rows.join("")}</tbody></table>${rows.length ? "" : '<p class="none">none</p>'}`;
 }
 function quietLine(run, at) {
   return `<p>${proved(run)} ${run.cell("quiet", at) ? "<b>quiet</b>: nobody goes on" : "not quiet"}</p>`;
@@ -393,5 +399,6 @@ function legendOf(run) {
     const words = meaning.replace(" from buffer N", "").replace(" to buffer N", "").replace("buffer N", "a buffer").replace("CPU N", "another CPU");
     return `<span class="key"><span class="t ${name}">${letter}</span>${words}</span>`;
   });
-  return keys.join("") + '<span class="key"><span class="t only">t0</span>only named: it stands elsewhere</span><span class="key"><span class="new">&nbsp;new&nbsp;</span>changed in this step</span>';
+  return keys.join("") + '<span class="key"><span class="t only">t0</span>only named: it stands elsewhere</span>'
+    + '<span class="key"><span class="new">&nbsp;new&nbsp;</span>changed in this step</span>';
 }

@@ -21,11 +21,11 @@ from asking import GRAMMAR, asked_for
 from kernel import WRONG, Buffer, Kernel, spelled
 from laws import (FIRST_IN_FIRST_OUT, LAWS, QUIET_IS_STILL, broken_by, is_played, is_quiet, is_stillness_false, part_of_block, part_of_cpu,
                   part_of_thread)
-from reading import Refusal
+from reading import Refusal, bytes_at
 from record import difference, program_is_there, proved_prints_each, read_plan
 from schedules import schedule_of
 
-MOST_STATES = 1_000_000
+MOST_STATES = 300_000
 
 
 class Pieces:
@@ -391,7 +391,7 @@ def search(plan, rules, most=60_000):
 
 def show_like(asked, plan):
     """Prints a schedule that gives a trace text; returns whether one was found."""
-    found, count = like.schedule_like(plan, asked.like.read_text(encoding="utf-8"), Pieces, asked.most)
+    found, count = like.schedule_like(plan, bytes_at(asked.like).decode("utf-8"), Pieces, asked.most)
     print(f"none found among {count} states" if found is None else schedule_of(found))
     return found is not None
 
@@ -403,7 +403,7 @@ def main():
     parser.add_argument("--wrong", choices=WRONG, metavar="RULE", help="leave out this rule, as plans/kernel.py does")
     parser.add_argument("--sections", action="store_true", help="a step is a whole section: fewer states, those between sections")
     parser.add_argument("--find", metavar="WHAT", help="a shortest schedule to such a state")
-    parser.add_argument("--like", type=Path, metavar="TRACE", help="a schedule that gives this trace text")
+    parser.add_argument("--like", metavar="TRACE", help="a schedule that gives the trace text in this file, or in standard input if it is -")
     parser.add_argument("--most", type=int, default=MOST_STATES, metavar="K", help="stop at so many states")
     parser.add_argument("--compare", type=int, nargs="?", const=0, metavar="K", help="compare K states with the proved program, or all")
     parser.add_argument("--time", action="store_true", help="tell what it took")
@@ -420,7 +420,7 @@ def main():
         else:
             is_well = find(asked, plan) if asked.find is not None else whole_report(asked, text, plan)
     except Refusal as refusal:
-        sys.stderr.write(refusal.told(asked.plan))
+        sys.stderr.write(refusal.told(asked.like if refusal.words.startswith("ReadFault") and asked.like else asked.plan))
         return refusal.status
     except (OSError, ValueError, RuntimeError) as fault:
         sys.exit(f"states: {fault}")

@@ -12,6 +12,7 @@ import itertools
 import json
 import os
 import random
+import re
 import shutil
 import subprocess
 import sys
@@ -144,6 +145,19 @@ def broken_after(plan, steps, wrong):
     return broken_in(system)
 
 
+LESSON = re.compile(r"`plans/explore.py (\S+)(?: '([^']*)')? --wrong (\S+) > \S+`.*?step (\d+)")
+
+
+def lessons(tally):
+    """The step that a lesson names behind a page of a broken rule: it is the first after which a law does not hold."""
+    for page in sorted((ROOT / "docs/book").glob("*.md")):
+        for plan, schedule, rule, step in LESSON.findall(page.read_text(encoding="utf-8")):
+            text, table = record.read_plan(ROOT / plan)
+            steps = steps_of(schedule or schedule_in(text))[:int(step)]
+            is_so = broken_after(table, steps[:-1], rule) == [] and broken_after(table, steps, rule) != []
+            tally.holds(is_so, f"{page.name}: without {rule} no law is first broken in step {step}")
+
+
 def merged(tally):
     """Merged states beside a plain kernel: along random schedules all cells are the same, with other states loaded in between."""
     choose = random.Random(1)
@@ -202,14 +216,17 @@ for (const record of runs) {
   const run = new Run(record), steps = counted(run.length + 1), lines = steps.map(at => wordsOf(run, at));
   if (kept.includes(record.plan) && !record.wrong) said[record.plan] = lines.map(({who, first, small}, at) => `${at} ${who}: ${first} (${small})`);
   for (const at of steps) {
-    const cards = cpuCards(run, at, () => "") + bufferCards(run, at), all = cards + threadCards(run, at) + orderTable(run, at) + lawList(run, at) + lanesOf(run, at, 1200, 0).svg + JSON.stringify(lines[at]);
+    const cards = cpuCards(run, at) + bufferCards(run, at);
+    const all = cards + threadCards(run, at) + orderTable(run, at) + lawList(run, at) + lanesOf(run, at, 1200, 0).svg + JSON.stringify(lines[at]);
     const filled = [...cards.matchAll(/class="t [A-Z]\\w+"[^>]*>t(\\d+)</g)].map(found => Number(found[1])).sort((x, y) => x - y);
     const many = record.threads.length, isOnce = filled.join() === counted(many).join();
     if (!record.wrong && many <= 8 && record.cpus <= 6 && !isOnce) faults.push(`${record.plan}, step ${at}: the filled chips are ${filled}`);
     if (/undefined|NaN|\\[object/.test(all) || !lines[at].first) faults.push(`${record.plan}, step ${at}: ${JSON.stringify(lines[at])}`);
   }
 }
-console.log(JSON.stringify({said, faults: faults.slice(0, 5), ends: runs.map(record => new Run(record)).map(run => [run.states[run.length].cells, Object.entries(run.states[run.length].locks).map(([name, lock]) => [name, lock.next, lock.serving])])}));
+const last = runs.map(record => new Run(record)).map(run => run.states[run.length]);
+const ends = last.map(({cells, locks}) => [cells, Object.entries(locks).map(([name, lock]) => [name, lock.next, lock.serving])]);
+console.log(JSON.stringify({said, faults: faults.slice(0, 5), ends}));
 """
 
 
@@ -293,7 +310,7 @@ def main():
         sys.exit(f"look: there is no program at {PROGRAM}: build it with bench/prove-all.py, or name one")
     told = pages(tally)
     words(tally, told)
-    for part in (page_size, markup, reports, rules, merged, false_program, threads, colours, browser):
+    for part in (page_size, markup, reports, rules, lessons, merged, false_program, threads, colours, browser):
         part(tally)
     for fault in tally.faults:
         print("look:", fault)
