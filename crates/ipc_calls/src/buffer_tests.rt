@@ -214,9 +214,20 @@ fn holds<B: OwnedBuffers>(m: &B::Machine, message: Option<Msg>) -> bool
     }
 }
 
+/// The message that a call got, if its answer says that it got one.
+fn message_in(reply: Reply) -> Option<Msg> {
+    match reply {
+        Reply::Got(message) => Some(message),
+        _ => None,
+    }
+}
+
 /// Whether a call answered that it got this message.
 fn is_got(reply: Option<Reply>, message: &Msg) -> bool {
-    matches!(reply, Some(Reply::Got(got)) if got == *message)
+    match reply {
+        Some(reply) => message_in(reply) == Some(*message),
+        None => false,
+    }
 }
 
 /// Whether an effect was told, and is this one.
@@ -331,8 +342,10 @@ fn drains<B: OwnedBuffers>(part: &mut B, m: &mut B::Machine) -> bool
     if !holds::<B>(m, Some(Msg::one(7))) {
         return false;
     }
-    let got = takes(part, m, Tid(0), &Call::Recv(BufId(0)), 17);
-    if !is_got(got, &Msg::one(7)) || !holds::<B>(m, None) {
+    let Some(got) = takes(part, m, Tid(0), &Call::Recv(BufId(0)), 17) else {
+        return false;
+    };
+    if message_in(got) != Some(Msg::one(7)) || !holds::<B>(m, None) {
         return false;
     }
     matches!(
