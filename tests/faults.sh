@@ -163,6 +163,9 @@ printf 'mctower-trace 2\nbuffers 1\ncap 0 1\ne 1 1 close 0 - 0 0\ne 0 0 recvc 0 
 
 command no no /dev/null count --cpus 1 --times 5 --lock ticket
 command no no /dev/null count --cpus 2 --times 3
+command no no /dev/null count --cpus 17 --times 3
+command no no /dev/null run --scedule '0*21'
+command no no /dev/null check --help
 command yes no plans/one-send.toml run --schedule '0*21'
 command no no plans/one-send.toml run --schedule '0*'
 command yes no "$room/yes.txt" check
