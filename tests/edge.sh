@@ -72,7 +72,7 @@ usage() {
 }
 # The command line $1 is a bad one: by status 2 it is told that `error: $2` is wrong with it, and how its command $3 is used.
 bad_line() {
-  row 2 '' "error: $2"$'\n'"$(usage "$3")"$'\n' "$1"
+  row 2 '' "error: $2"$'\n'"$(usage "${3-}")"$'\n' "$1"
 }
 # The command line $1 asks for help: that goes to standard output, behind the version, and begins with $2.
 helped() {
