@@ -305,6 +305,9 @@ def browser(tally):
 
 
 def main():
+    if "--help" in sys.argv:
+        print(__doc__)
+        return 0
     tally = Tally("--write" in sys.argv)
     if not record.program_is_there():
         sys.exit(f"look: there is no program at {PROGRAM}: build it with bench/prove-all.py, or name one")

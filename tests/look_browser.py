@@ -5,6 +5,7 @@
 
 It needs a Chromium (tests/browser.py), and says so where none is. The last line is 'look_browser: N passed, M failed'.
 """
+import os
 import subprocess
 import sys
 import tempfile
@@ -59,9 +60,11 @@ class Checks:
 
 
 def make_pages(room):
+    """Makes the pages; that of thousands of states without the program beside it, which takes its time."""
     for name, words in PAGES.items():
+        environment = {**os.environ, "MCTOWER": "/dev/null"} if name == "three" else os.environ
         with open(room / f"{name}.html", "w", encoding="utf-8") as page:
-            subprocess.run([sys.executable, "plans/explore.py", *words], cwd=ROOT, stdout=page, check=True)
+            subprocess.run([sys.executable, "plans/explore.py", *words], cwd=ROOT, env=environment, stdout=page, check=True)
 
 
 def keys(checks):
@@ -226,6 +229,9 @@ def pictures(checks, folder):
 
 
 def main(folders):
+    if "--help" in folders:
+        print(__doc__)
+        return 0
     program = find_browser()
     if not program:
         print("look_browser: there is no Chromium here, so no page was tried in a browser")
