@@ -60,6 +60,17 @@ class Held {
     return schedule === '' ? ['run'] : ['run', `--schedule=${schedule}`];
   }
 
+  // A plan that is looked at, with its schedule.
+  session(text, schedule, rule = null) {
+    return this.evaluate('(program, facts, wanted) => new Session(program, facts, wanted)')(this.program, this.facts, { name: 'a plan', text, rule, schedule });
+  }
+
+  // Whether the model prints what the program prints at the end of a schedule.
+  isModelled(text, schedule) {
+    const { evidence, run } = this.session(text, schedule);
+    return evidence.at(run.length);
+  }
+
   // Every stored plan behind both locks prints what is expected, and the judge takes it.
   storedRuns() {
     for (const path of this.stored) {
@@ -105,6 +116,7 @@ class Held {
     const refusal = beside(this.program, plan, schedule), { line, text = '', from = 0, piece = '' } = refusal?.where ?? {};
     const stands = line === undefined ? text === '' || text === schedule : plan.split('\n')[line - 1] === text;
     is(`what stands beside the refusal of ${name}`, refusal === null || (stands && text.slice(from, from + piece.length) === piece));
+    if (refusal === null && this.evaluate('readSchedule')(schedule).total <= SMALL_STEPS) is(`the model of ${name}`, this.isModelled(plan, schedule));
   }
 
   // Refusals of each kind have the right place beside them, and it is that of plans/explain.py.
@@ -124,10 +136,8 @@ class Held {
 
   // The model in the page prints what the program in it prints, after beginnings of every stored schedule.
   modelRuns() {
-    const session = this.evaluate('(program, facts, wanted) => new Session(program, facts, wanted)');
     for (const path of this.stored.filter(path => !path.startsWith('tests/long'))) {
-      const text = read(path), shown = session(this.program, this.facts, { name: path, text, rule: null, schedule: this.scheduleIn(text) });
-      const stride = Math.ceil(shown.run.length / MODEL_BEGINNINGS);
+      const text = read(path), shown = this.session(text, this.scheduleIn(text)), stride = Math.ceil(shown.run.length / MODEL_BEGINNINGS);
       for (let step = 0; step <= shown.run.length; step += stride) is(`the model of ${path} after ${step} steps`, shown.evidence.at(step));
       is(`the model of ${path} at its end`, shown.evidence.at(shown.run.length));
       is(`every law in every state of ${path}`, shown.firstBroken() === -1);
@@ -136,12 +146,10 @@ class Held {
 
   // In each lesson the rule that is left out breaks the law that the lesson names, and the whole kernel keeps every law.
   lessonRuns() {
-    const session = this.evaluate('(program, facts, wanted) => new Session(program, facts, wanted)');
     for (const { lesson, plan, rule, breaks, schedule } of this.lessons) {
-      const text = read(`plans/${plan}.toml`), wanted = { name: plan, text, rule, schedule: schedule ?? this.scheduleIn(text) };
-      const broken = session(this.program, this.facts, wanted), whole = session(this.program, this.facts, { ...wanted, rule: null }), step = broken.firstBroken();
+      const text = read(`plans/${plan}.toml`), steps = schedule ?? this.scheduleIn(text), broken = this.session(text, steps, rule), step = broken.firstBroken();
       is(`lesson ${lesson} breaks`, step > 0 && broken.run.cell('broken', step).includes(breaks));
-      is(`lesson ${lesson} stands with its rule`, whole.firstBroken() === -1);
+      is(`lesson ${lesson} stands with its rule`, this.session(text, steps).firstBroken() === -1);
     }
   }
 }

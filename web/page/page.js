@@ -32,13 +32,16 @@ class Page {
 
   // Shows a plan under a schedule, or says why the proved program refuses them. Returns whether it is shown.
   load({ name, text, rule = null, schedule }, step = 0, refusedAt = "refused") {
-    const refusal = refusalOf(this.program, text, schedule), total = readSchedule(schedule).total;
+    const refusal = refusalOf(this.program, text, schedule);
     if (refusal) return this.refuse(refusal, refusedAt);
-    if (total > MOST_STEPS) return this.refuse({ line: `this page draws runs of at most ${MOST_STEPS} steps`, where: { says: `the schedule has ${total}` } }, refusedAt);
+    try {
+      this.session = new Session(this.program, this.facts, { name, text, rule, schedule });
+    } catch (fault) {
+      return this.refuse({ line: "the proved program takes this, and this page cannot draw it", where: { says: fault.message } }, refusedAt);
+    }
     this.player.stop();
     fill("refused", "");
     fill("planRefused", "");
-    this.session = new Session(this.program, this.facts, { name, text, rule, schedule });
     fill("foot", footOf(this.facts, this.run));
     this.go(step);
     return true;
@@ -67,7 +70,7 @@ class Page {
   link() {
     const { name, text, rule, steps, at } = this.session, isStored = this.plans[name] === text;
     const parts = { plan: isStored ? name : "", rule: rule ?? "", schedule: spelledSchedule(steps), step: at, text: isStored || text.length > MOST_LINK ? "" : text };
-    const spelled = Object.entries(parts).filter(([, value]) => value !== "").map(([key, value]) => `${key}=${encodeURIComponent(value).replaceAll("%2C", ",")}`);
+    const spelled = Object.entries(parts).filter(([key, value]) => value !== "" || key === "schedule").map(([key, value]) => `${key}=${encodeURIComponent(value).replaceAll("%2C", ",")}`);
     return `#${spelled.join("&")}`;
   }
 

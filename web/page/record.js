@@ -28,7 +28,7 @@ function cellsOf(kernel) {
     ...kernel.buffers().map((buffer, b) => bufferCells(kernel, buffer, b)), { quiet: kernel.isQuiet(), broken: brokenIn(kernel) });
 }
 
-const isSame = (x, y) => x === y || (typeof x === "object" && typeof y === "object" && JSON.stringify(x) === JSON.stringify(y));
+const isSame = (x, y) => x === y || (Array.isArray(x) && Array.isArray(y) && x.length === y.length && x.every((one, i) => isSame(one, y[i])));
 
 class RunRecord {
   // `facts` has what pages say of places and rules.

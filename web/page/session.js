@@ -1,7 +1,7 @@
 "use strict";
 // A plan that is looked at, with its schedule: the record that grows and is cut as the reader chooses, and what the proved program says of it.
 
-const MOST_STEPS = 20000; // of a run that is drawn
+const MOST_STEPS = 20000, MOST_CELLS = 8000000; // of a run that is drawn: its steps, and the cells of all its states
 const MOST_RUN_ON = 150, RANDOM_ROUNDS = 4, RANDOM_STRIDES = [1, 3, 12, 24];
 
 // What the proved program prints after each beginning of a schedule, beside what the twin prints.
@@ -45,7 +45,15 @@ class Session {
     const { name, text, rule, schedule } = wanted;
     Object.assign(this, { program, facts, name, text, rule, past: [], breakdown: null, at: 0 });
     this.plan = planOf(text);
-    this.begin(stepsOf(readSchedule(schedule).items));
+    const { items, total } = readSchedule(schedule), most = this.mostSteps();
+    if (total > most) throw new RangeError(`the schedule has ${total} steps: of this plan at most ${most} are drawn`);
+    this.begin(stepsOf(items));
+  }
+
+  // How long a run of this plan may be.
+  mostSteps() {
+    const cells = Object.keys(cellsOf(new Kernel(this.plan))).length;
+    return Math.min(MOST_STEPS, Math.floor(MOST_CELLS / cells));
   }
 
   begin(steps) {
@@ -99,7 +107,7 @@ class Session {
 
   change(steps) {
     this.past.push({ steps: [...this.steps], at: this.at });
-    this.setSteps(steps);
+    this.setSteps(steps.slice(0, this.mostSteps()));
   }
 
   undo() {
