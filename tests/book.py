@@ -1,8 +1,9 @@
 #!/usr/bin/env python3
-"""Tries the book: runs every command of docs/book and compares what comes with what the page says, byte for byte; looks up
-each file, public name and clause that a page names, and each name of the repository in the other pages of docs; holds the plan and the
-output that README.md shows against the files, and its version against that of CHANGELOG.md and of the help; tries the patches of docs; draws each picture again; holds plans/kernel.py against what each plan is expected to
-print. .ci/run calls it; it takes about half a minute.
+"""Tries the book: runs every command of docs/book and compares what comes with what the page says, byte for byte; looks up each file,
+public name and clause that a page names, and each name of the repository in the other pages of docs; holds the plan and the output that
+README.md shows against the files, and its version against that of CHANGELOG.md and of the help; tries the patches of docs; draws each
+picture again; holds plans/kernel.py against what each plan is expected to print; builds and runs, with no proof, the crates that a page
+writes (`rt try`). .ci/run calls it; it takes two minutes of processor time, most of it to build.
 
     tests/book.py [--write] [PROGRAM]
     tests/book.py --names               looks up and holds, and runs nothing: it needs no program
@@ -14,8 +15,10 @@ The last line is 'book: N passed, M failed'.
 import argparse
 import os
 import re
+import shutil
 import subprocess
 import sys
+import tempfile
 from pathlib import Path
 
 ROOT = Path(__file__).resolve().parent.parent
@@ -23,6 +26,9 @@ BOOK = ROOT / "docs/book"
 CRATES = [line.split(":")[0] for line in (ROOT / "crates.txt").read_text().splitlines() if ":" in line]
 BLOCK = re.compile(r"(?<=^```console\n)(.*?)(?=^```$)", re.M | re.S)
 FILE = re.compile(r"`((?:crates|plans|docs|tests|tools|bench|web)/[\w./-]+)`")
+# A file that a page writes into a copy of the tree, and what a crate that is made so prints.
+WRITTEN = re.compile(r"^```\w+ (crates[\w/.]*)\n(.*?)^```$", re.M | re.S)
+TRIED = re.compile(r"^```try (\w+)\n(.*?)^```$", re.M | re.S)
 NAME = re.compile(r"(?:clause `(\w+)` of )?`(\w+)((?:::\w+)+)`")
 # Names that docs cite: the text between backticks, a fence left out, and what of it looks like a name of this tree.
 FENCE = re.compile(r"^```.*?^```", re.M | re.S)
@@ -187,6 +193,36 @@ def names(faults):
     return count + sum(looked_up(page, faults) for page in sorted(BOOK.glob("*.md"))) + first_minute(faults) + version(faults) + patched(faults)
 
 
+def copied(room, files):
+    """Puts a copy of the tree's crates into a folder, with these files; lines for crates.txt go behind its own."""
+    names = subprocess.run(["git", "ls-files", "-co", "--exclude-standard", "crates", "crates.txt", "HANDLES"], cwd=ROOT, stdout=subprocess.PIPE, text=True, check=True)
+    for name in filter(lambda it: (ROOT / it).is_file(), names.stdout.splitlines()):
+        (room / name).parent.mkdir(parents=True, exist_ok=True)
+        shutil.copy(ROOT / name, room / name)
+    for name, text in files:
+        (room / name).parent.mkdir(parents=True, exist_ok=True)
+        with open(room / name, "a" if name == "crates.txt" else "w") as file:
+            file.write(text)
+
+
+def built(page, faults):
+    """Builds and runs, with no proof, each crate that a page writes; tells how many that were."""
+    text = page.read_text()
+    tries = TRIED.findall(text)
+    for crate, wanted in tries:
+        with tempfile.TemporaryDirectory() as name:
+            room = Path(name)
+            copied(room, WRITTEN.findall(text))
+            cases = room / "cases"
+            cases.mkdir()
+            for end, case in (("", ""), (".args", ""), (".stdout", wanted)):
+                (cases / f"one{end}").write_text(case)
+            ran = subprocess.run(["rt", "try", crate, "--cases", str(cases)], cwd=room / "crates" / crate, stdout=subprocess.PIPE, stderr=subprocess.STDOUT, text=True)
+        if ran.returncode:
+            faults.append(f"{page.name}: the crate {crate} does not print what the page says: {ran.stdout[-600:]}")
+    return len(tries)
+
+
 def drawn(picture, program, write, faults):
     plan = ROOT / "plans" / f"{picture.stem}.toml"
     came = outcome(f"plans/picture.py {plan.relative_to(ROOT)}", program)
@@ -207,7 +243,7 @@ def runs(program, write, faults):
     """What needs the built program: each command of the book, its pictures, and each plan by plans/kernel.py."""
     count = 0
     for page in sorted(BOOK.glob("*.md")):
-        count += tried(page, program, write, faults)
+        count += tried(page, program, write, faults) + built(page, faults)
     for picture in sorted((BOOK / "pictures").glob("*.svg")):
         count += 1
         drawn(picture, program, write, faults)
