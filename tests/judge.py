@@ -180,6 +180,9 @@ def faults_of(program):
 
 
 def main():
+    if "--help" in sys.argv:
+        print(__doc__)
+        return 0
     named = [Path(it).resolve() for it in sys.argv[1:]] or [ROOT / it for it in BUILDS if (ROOT / it).exists()]
     results = [fault for program in named for fault in faults_of(str(program))]
     for fault in filter(None, results):
