@@ -2,18 +2,22 @@
 """The step table as a small plain program, for lessons: it runs a plan under a schedule and prints what `mctower run` prints.
 
     plans/kernel.py [--wrong RULE] PLAN [SCHEDULE]
+    plans/kernel.py [--wrong RULE] --rounds [--each STEPS] PLAN
+    plans/kernel.py [--wrong RULE] --search PLAN
 
 Without a schedule it takes the one in the first lines of the plan. With --wrong one rule of the table is left out, to see
-what breaks; --help names them. Nothing here is proved: it is the program to play with. It needs Python alone, no built program.
-Without --wrong it prints what `mctower run` prints, and tests/book.py holds the two against one another.
+what breaks; --help names them. With --rounds it prints a schedule: so many steps of each CPU in turn, until none has anything to do. With --search it prints
+the shortest schedule by which the plan goes wrong without the rule, or without each of them (plans/states.py).
+Nothing here is proved: it is the program to play with. It needs Python alone, 3.9 or later, no built program. Without --wrong it prints
+what `mctower run` prints, and refuses what that refuses; tests/book.py and tests/explain.py hold the two against one another.
 """
 import argparse
-import copy
-import re
 import sys
-import tomllib
 from collections import deque
 from pathlib import Path
+
+from reading import Refusal, bytes_at
+from schedules import chosen, read_run, rounds, schedule_in, schedule_of, steps_of  # noqa: F401 (two of them for who draws and compares runs)
 
 RECEIVERS, SENDERS = 0, 1
 SIDES = {"send": SENDERS, "sendm": SENDERS, "recv": RECEIVERS, "recvm": RECEIVERS, "close": SENDERS}
@@ -75,6 +79,14 @@ class Buffer:
         self.sleepers, self.waiting, self.line = deque(), (deque(), deque()), (deque(), deque())
         self.positions, self.closed, self.closes = [0, 0], False, 0
 
+    def copy(self):
+        """A copy that an edit of this one does not change."""
+        twin = Buffer(self.capacity)
+        twin.owner, twin.items, twin.effects = self.owner, deque(self.items), self.effects
+        twin.sleepers, twin.waiting, twin.line = deque(self.sleepers), tuple(map(deque, self.waiting)), tuple(map(deque, self.line))
+        twin.positions, twin.closed, twin.closes = list(self.positions), self.closed, self.closes
+        return twin
+
     def may_go(self, side):
         return self.closed or (len(self.items) < self.capacity if side == SENDERS else bool(self.items))
 
@@ -100,15 +112,16 @@ class Kernel:
             self.cpus[guest.home].ready.append(number)
 
     def step(self, c):
-        """Takes one step of a CPU, and tells its section and its part of it: '' where there is none."""
+        """Takes one step of a CPU, and tells its section and the part of it: it draws a ticket, misses its turn, enters, or ends. A step
+        without a lock stands alone. Both are '' where there is no step."""
         self.entry, cpu = None, self.cpus[c]
         if cpu.section is None:
             return self.begin(c, cpu)
         name, lock = cpu.section
         if cpu.block is None:
             if self.wrong != "look-always-hits" and self.words[lock][1] != cpu.ticket:
-                return name, "waits"
-            cpu.block = copy.deepcopy(self.blocks[lock])
+                return name, "misses"
+            cpu.block = self.blocks[lock].copy()
             return name, "enters"
         cpu.section, block, cpu.block = None, cpu.block, None
         self.edit(c, cpu, name, block)
@@ -119,7 +132,7 @@ class Kernel:
     def draw(self, cpu, name, lock):
         cpu.section, cpu.ticket = (name, lock), self.words[lock][0]
         self.words[lock][0] += 1
-        return name, "waits"
+        return name, "draws"
 
     def halted(self, c):
         """Why a CPU takes no step between its sections, or None."""
@@ -140,17 +153,23 @@ class Kernel:
             if not cpu.ready:
                 return self.draw(cpu, "Drain", ("pending", c))
             cpu.current = cpu.ready.popleft()
-            self.guests[cpu.current].place = f"Running({c})"
+            self.move(cpu.current, f"Running({c})")
             return "switch", "alone"
         guest = self.guests[cpu.current]
         call = guest.call()
         if call is None:
             if guest.instruction()[0] == "yield":
                 return self.draw(cpu, "Yield", ("pending", c))
-            return self.compute(cpu, guest)
+            return self.compute(cpu, cpu.current)
         if guest.stage is None:
             guest.stage, cpu.begun = "AcqQ", cpu.begun + 1
         return self.draw(cpu, f"{self.name_of(guest.stage, call[1])} {call[0]}", ("buffer", call[0]))
+
+    def move(self, t, place, queue=None):
+        """Moves a thread to a place, and to the end of the queue that is this place, if it is one."""
+        self.guests[t].place = place
+        if queue is not None:
+            queue.append(t)
 
     @staticmethod
     def name_of(stage, side):
@@ -158,8 +177,8 @@ class Kernel:
         names = {"Again": "AcqQ", "Try": ("TryTake", "TryPut")[side], "Other": signals[1 - side], "Own": signals[side]}
         return names.get(stage, stage)
 
-    @staticmethod
-    def compute(cpu, guest):
+    def compute(self, cpu, t):
+        guest = self.guests[t]
         word, registers = guest.instruction(), guest.registers
         number = [int(piece.removeprefix("r")) for piece in word[1:]]
         guest.line += 1
@@ -171,7 +190,7 @@ class Kernel:
         elif word[0] == "jnz":
             guest.line = number[1] if registers[number[0]] else guest.line
         else:
-            guest.place, cpu.current = "Ended", None
+            self.leave(cpu, t, "Ended")
         return word[0], "alone"
 
     def edit(self, c, cpu, name, block):
@@ -185,8 +204,7 @@ class Kernel:
             self.drain(c, cpu, block)
             if name == "Yield":
                 self.guests[t].line += 1
-                self.guests[t].place, cpu.current = f"Ready({c})", None
-                cpu.ready.append(t)
+                self.leave(cpu, t, f"Ready({c})", cpu.ready)
         else:
             self.edit_buffer(c, cpu, t, block)
 
@@ -194,13 +212,11 @@ class Kernel:
         s = cpu.hand
         if self.wrong != "pend-keeps-the-hand" or s in pending:
             cpu.hand = None
-        self.guests[s].place = f"Pending({self.guests[s].home})"
-        pending.append(s)
+        self.move(s, f"Pending({self.guests[s].home})", pending)
 
     def drain(self, c, cpu, pending):
         for t in pending:
-            self.guests[t].place = f"Ready({c})"
-        cpu.ready.extend(pending)
+            self.move(t, f"Ready({c})", cpu.ready)
         pending.clear()
 
     def edit_buffer(self, c, cpu, t, buffer):
@@ -212,8 +228,7 @@ class Kernel:
             if buffer.owner is None:
                 buffer.owner = t
             else:
-                buffer.sleepers.append(t)
-                self.sleep(cpu, guest, f"LockSleeper({b})")
+                self.leave(cpu, t, f"LockSleeper({b})", buffer.sleepers)
         elif stage == "Enter":
             guest.stage, guest.position = "Try", buffer.positions[side]
             buffer.positions[side] += 1
@@ -226,9 +241,8 @@ class Kernel:
             guest.stage = "Join"
             self.release(c, cpu, buffer)
         elif stage in ("Wait", "Join"):
-            buffer.waiting[side].append(t)
             guest.stage = "Again"
-            self.sleep(cpu, guest, f"{('WaitRecv', 'WaitSend')[side]}({b})")
+            self.leave(cpu, t, f"{('WaitRecv', 'WaitSend')[side]}({b})", buffer.waiting[side])
             if stage == "Wait":
                 self.release(c, cpu, buffer)
         elif stage in ("Other", "Own"):
@@ -242,11 +256,12 @@ class Kernel:
 
     def attempt(self, c, cpu, guest, t, buffer):
         side = guest.call()[1]
-        in_turn = buffer.line[side][0] == t or (self.wrong == "take-skips-the-turn" and side == RECEIVERS)
+        line = buffer.line[side]  # a lock that is none may have lost it
+        in_turn = (line and line[0] == t) or (self.wrong == "take-skips-the-turn" and side == RECEIVERS)
         if not in_turn or not buffer.may_go(side):
             guest.stage = "Wait"
             return
-        buffer.line[side].remove(t)
+        line.remove(t)
         if side == SENDERS:
             kind, message = "sendc" if buffer.closed else "send", guest.message()
             kept = message[:1] if self.wrong == "first-word-alone" else message
@@ -272,17 +287,17 @@ class Kernel:
         guest.stage, guest.effect, cpu.begun = "Other", (kind, message), cpu.begun - 1
         cpu.trace.append(self.entry)
 
-    @staticmethod
-    def sleep(cpu, guest, place):
-        guest.place, cpu.current = place, None
+    def leave(self, cpu, t, place, queue=None):
+        """The thread that a CPU runs leaves it for another place."""
+        self.move(t, place, queue)
+        cpu.current = None
 
     def wake(self, c, cpu, t):
-        guest = self.guests[t]
-        if guest.home == c or self.wrong == "wakes-where-it-is":
-            guest.place = f"Ready({c})"
-            cpu.ready.append(t)
+        if self.guests[t].home == c or self.wrong == "wakes-where-it-is":
+            self.move(t, f"Ready({c})", cpu.ready)
         else:
-            guest.place, cpu.hand = f"Hand({c})", t
+            self.move(t, f"Hand({c})")
+            cpu.hand = t
 
     def release(self, c, cpu, buffer):
         first = buffer.sleepers.popleft() if buffer.sleepers else None
@@ -341,39 +356,57 @@ def spelled(message):
     return ",".join(map(str, message)) or "-"
 
 
-def steps_of(schedule):
-    """The CPUs of a schedule's steps, in order."""
-    steps = []
-    for item in filter(None, schedule.split(",")):
-        cpu, _, times = item.partition("*")
-        steps += [int(cpu)] * int(times or 1)
-    return steps
+class Once(argparse.Action):
+    """An option that may stand once."""
+
+    def __call__(self, parser, asked, value, option=None):
+        if getattr(asked, self.dest) is not self.default:
+            parser.error(f"{option} stands twice")
+        setattr(asked, self.dest, value)
 
 
-def schedule_in(plan):
-    """The schedule in the first lines of a plan, or none."""
-    kept = re.search(r"^# *mctower run --schedule '(.*)' <", plan, re.M)
-    return kept.group(1) if kept else ""
-
-
-def main():
+def asked_of(words):
+    """What a command line asks for."""
     rules = "\n".join(f"  {name:24}{what}" for name, what in WRONG.items())
-    parser = argparse.ArgumentParser(description=__doc__.splitlines()[0], epilog=f"rules:\n{rules}",
+    parser = argparse.ArgumentParser(prog="kernel.py", description=f"{__doc__.splitlines()[0]} It needs Python alone, 3.9 or later.", epilog=f"rules:\n{rules}", allow_abbrev=False,
                                      formatter_class=argparse.RawDescriptionHelpFormatter)
-    parser.add_argument("--wrong", choices=WRONG, metavar="RULE", help="leave out this rule")
-    parser.add_argument("plan", type=Path)
+    parser.add_argument("--wrong", choices=WRONG, metavar="RULE", action=Once, help="leave out this rule")
+    parser.add_argument("--rounds", action="store_true", help="print a schedule in rounds that ends when no CPU has anything to do")
+    parser.add_argument("--search", action="store_true", help="print the shortest schedule that goes wrong without the rule, or without each")
+    parser.add_argument("--each", type=int, default=60, metavar="STEPS", help="steps of a CPU in its turn of a round (60)")
+    parser.add_argument("plan")
     parser.add_argument("schedule", nargs="?")
-    asked = parser.parse_args()
-    if not asked.plan.is_file():
+    asked = parser.parse_args(words)
+    if asked.each < 1 or (asked.rounds or asked.search) and asked.schedule is not None:
+        parser.error("--each is at least 1, and with --rounds or --search no schedule is wanted")
+    if asked.plan != "-" and not Path(asked.plan).exists():
         parser.exit(2, f"kernel: there is no plan at {asked.plan}; this program needs a plan and no built mctower\n")
-    plan = asked.plan.read_text()
-    kernel = Kernel(tomllib.loads(plan), asked.wrong)
-    for c in steps_of(schedule_in(plan) if asked.schedule is None else asked.schedule):
-        kernel.step(c)
+    return asked
+
+
+def main(words):
+    asked = asked_of(words)
+    try:
+        raw = bytes_at(asked.plan)
+        plan, items = read_run(raw, None if asked.rounds or asked.search else chosen(raw, asked.schedule))
+    except Refusal as refusal:
+        sys.stderr.write(refusal.told(asked.plan))
+        return refusal.status
+    if asked.search:
+        import states  # which takes steps by this module
+        return states.search(plan, [asked.wrong] if asked.wrong else WRONG)
+    kernel = Kernel(plan, asked.wrong)
+    if asked.rounds:
+        print(schedule_of(rounds(kernel, asked.each)))
+        return 0
+    for c, times in items:
+        for _ in range(times):
+            kernel.step(c)
     sys.stdout.write(kernel.text())
     sys.stdout.flush()
     sys.stderr.write(kernel.states())
+    return 0
 
 
 if __name__ == "__main__":
-    main()
+    sys.exit(main(sys.argv[1:]))

@@ -4,8 +4,8 @@
     tools/prove-all.py [JOBS]
 
 `rt lib` in one crate keeps every other `rt` out of the crates beneath it, so that several of them wait for one another. Here one process holds
-all crates, as `rt all` does, but without its first pass over all sources, and gives idle processors to the last, large crates. It takes JOBS
-processors, all where none is named. What it proves is kept, so it can be stopped and started again.
+all crates, as `rt all` does, but without its first pass over all sources, and gives idle processors to the crate on which the most others wait. It takes
+JOBS processors, all where none is named. What it proves is kept, so it can be stopped and started again.
 """
 import argparse
 import os
@@ -39,14 +39,14 @@ def build_all(crates, lanes):
     with ThreadPoolExecutor(lanes) as pool:
         while running or (left and sound):
             ready = [it for it in left if sound and standing.issuperset(it.below())]
-            idle = lanes - sum(jobs for _, jobs in running.values())
+            idle = lanes - len(running)
             for at, crate in enumerate(ready[: max(idle, 0)]):
-                # a crate alone gets the idle processors too: nothing else can use them
-                jobs = max(1, idle // len(ready)) if not running and len(ready) == 1 else 1
+                # the first is the lowest of the longest chain: it gets what no other can use now. Crates that become ready meanwhile begin all the same
+                jobs = 1 if at else 1 + max(0, idle - len(ready))
                 left.remove(crate)
-                running[pool.submit(build, crate, jobs)] = crate, jobs
+                running[pool.submit(build, crate, jobs)] = crate
             for it in wait(running, return_when=FIRST_COMPLETED).done:
-                crate, _ = running.pop(it)
+                crate = running.pop(it)
                 sound = it.result() and sound
                 standing.add(crate)
     return sound
