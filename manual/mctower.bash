@@ -6,7 +6,7 @@ _mctower() {
     --cpus | --schedule | --times | --turns) return ;;
     *)
       case $COMP_CWORD:${COMP_WORDS[1]} in
-        1:*) words='count run threads check help --help' ;;
+        1:*) words='count run threads check help --help --version' ;;
         *:count) words='--cpus --times --lock --help' ;;
         *:run) words='--schedule --help' ;;
         *:threads) words='--turns --help' ;;
