@@ -84,7 +84,7 @@ The keys of a plan; others are ignored:
   trace     the calls that each CPU may trace, 1 to 65536
   buffers   the capacities of 1 to 16 buffers, each 1 to 32
   lock      \"ticket\" or \"grant\" (a grant word for each waiter); left out it is \"grant\"
-  [[thread]]                 1 to 256 threads, each with these keys:
+  [[thread]]  1 to 256 threads, each with these keys:
     cpu      the CPU that it runs on, 0 to cpus - 1
     program  1 to 256 instructions, each a string
 
