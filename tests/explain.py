@@ -173,6 +173,10 @@ def command_lines(to):
     to.hold("commands", "a folder", command(["plans/explain.py", "plans"], to), (1, "error: ReadFault(7)\nplans: Is a directory\n", ""))
     status, out, err = command(["plans/kernel.py", "--wrong", "other-side-only", "--wrong", "take-skips-the-turn", "plans/one-send.toml"], to)
     to.hold("commands", "a second rule", (status, out, err.splitlines()[-1]), (2, "", "kernel.py: error: --wrong stands twice"))
+    early = ["--wrong", "look-always-hits", "plans/woken-from-afar.toml", "0*6,1*4,0*2,1,0*2"]  # a receive that is in no line tries
+    status, _, err = command(["plans/kernel.py", *early], to)
+    to.hold("commands", early, (status, err.splitlines()[-1]), (0, "quiet no"))
+    to.hold("commands", "explain.py --beside", command(["plans/explain.py", "--beside", "plans/one-send.toml"], to), (0, "", ""))
     to.hold("commands", "many steps", (schedule_of([0] * 70000 + [1]), steps_of("0*2,1")), ("0*70000,1", [0, 0, 1]))
 
 
