@@ -353,7 +353,7 @@ function registersOf(run, at, t) {
 function threadCard(run, at, t, many) {
   const {name, meaning} = placed(run, run.place(t, at)), fresh = isNew(run, at, `t${t}.place`);
   const most = name === "Ended" && many > 2 && !fresh ? 0 : many > 2 ? 3 : 8;
-  return `<div class="card"><h3><span class="t ${name}">t${t}</span> <span class="${fresh}">${meaning.replace(/ (from|to) buffer \d+$/, "")}</span> `
+  return `<div class="card"><h3><span class="t ${name}">t${t}</span> <span class="${fresh}">${meaning.replace(/ (from|to) buffer \d+$| at its home$/, "")}</span> `
     + `<small>${proved(run)} home ${run.record.threads[t].home}</small></h3>${programLines(run, at, t, most)}${callPath(run, at, t)}${registersOf(run, at, t)}</div>`;
 }
 function threadCards(run, at) {
