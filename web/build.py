@@ -1,0 +1,102 @@
+#!/usr/bin/env python3
+"""Builds web/tower.html: one page with the proved program `mctower` in it, the stored plans, and what is needed to look at their runs.
+
+    web/build.py              the program from the sources of this tree, and the page
+    web/build.py --page       the page alone: the program is taken out of the page that is there
+
+It needs the libraries that tools/prove-all.py, `rt check` or `rt ci` leave in crates/*/out, and no other tool than the kit's. The page is the
+files of web/page/ and what it shares with plans/explore.py, and asks for nothing else. How the program comes into it: web/module.py.
+"""
+import argparse
+import base64
+import gzip
+import hashlib
+import json
+import re
+import subprocess
+import sys
+from pathlib import Path
+
+ROOT = Path(__file__).resolve().parent.parent
+PARTS, PAGE = ROOT / "web/page", ROOT / "web/tower.html"
+sys.path.append(str(ROOT / "plans"))
+import kernel  # noqa: E402
+import record  # noqa: E402
+
+# The page's scripts, one behind the other; those of plans/ are of the pages of runs as well.
+SCRIPTS = [ROOT / "plans/look.js", *(PARTS / f"{name}.js" for name in ("markup", "schedule", "program", "toml", "plan", "twin", "laws", "record", "where", "session",
+                                                                       "player", "about", "page"))]
+POLICY = "default-src 'none'; script-src {scripts} 'wasm-unsafe-eval'; style-src {styles}; base-uri 'none'; form-action 'none'"
+PROGRAM = re.compile(r'<script type="text/plain" id="program">(.*?)</script>', re.S)
+
+
+def git(*words):
+    return subprocess.run(["git", *words], cwd=ROOT, stdout=subprocess.PIPE, text=True, check=True).stdout.strip()
+
+
+def packed(program):
+    """The program as it stands in the page: gzipped, in base64, in lines."""
+    text = base64.b64encode(gzip.compress(program, 9, mtime=0)).decode()
+    return "\n".join(text[i:i + 160] for i in range(0, len(text), 160))
+
+
+def kept():
+    """The packed program of the page that is there, and what is said of it."""
+    page = PAGE.read_text(encoding="utf-8")
+    about = json.loads(re.search(r'<script type="application/json" id="facts">(.*?)</script>', page, re.S).group(1))
+    return PROGRAM.search(page).group(1).strip(), about["program"]
+
+
+def made():
+    """The packed program of this tree's sources, and what is said of it."""
+    import module  # it asks for the kit, which --page does without
+    program, kit = module.built()
+    changed = bool(git("status", "--porcelain", "--", "crates", "crates.txt"))
+    about = {"commit": git("rev-parse", "HEAD"), "changed": changed, "kit": kit, "bytes": len(program), "sha256": hashlib.sha256(program).hexdigest()}
+    return packed(program), about
+
+
+def stored_plans():
+    """The stored plans by name."""
+    return {path.stem: path.read_text(encoding="utf-8") for path in sorted((ROOT / "plans").glob("*.toml"))}
+
+
+def as_json(value):
+    """JSON in which no text ends the element that it stands in."""
+    return json.dumps(value, separators=(",", ":")).replace("<", "\\u003c")
+
+
+def digest(text):
+    """A text as the page's own policy names it."""
+    return f"'sha256-{base64.b64encode(hashlib.sha256(text.encode()).digest()).decode()}'"
+
+
+def assembled(program, about):
+    """The page: its parts, and a policy that allows them alone."""
+    style = "\n".join(["", (ROOT / "plans/look.css").read_text(encoding="utf-8"), record.place_style(), (PARTS / "page.css").read_text(encoding="utf-8")])
+    scripts = ["\n" + path.read_text(encoding="utf-8") for path in SCRIPTS]
+    policy = POLICY.format(scripts=" ".join(map(digest, scripts)), styles=digest(style))
+    pieces = {
+        "POLICY": policy,
+        "STYLE": f"<style>{style}</style>",
+        "PLANS": as_json(stored_plans()),
+        "LESSONS": as_json(json.loads((PARTS / "lessons.json").read_text(encoding="utf-8"))),
+        "FACTS": as_json({"program": about, "places": record.PLACES, "rules": kernel.WRONG}),
+        "PROGRAM": program,
+        "SCRIPTS": "\n".join(f'<script id="{path.stem}">{text}</script>' for path, text in zip(SCRIPTS, scripts)),
+    }
+    page = (PARTS / "tower.html").read_text(encoding="utf-8")
+    return re.sub(r"\{\{([A-Z]+)\}\}", lambda found: pieces[found.group(1)], page)
+
+
+def main():
+    parser = argparse.ArgumentParser(description=__doc__, formatter_class=argparse.RawDescriptionHelpFormatter)
+    parser.add_argument("--page", action="store_true", help="take the program out of the page that is there")
+    asked = parser.parse_args()
+    page = assembled(*(kept() if asked.page else made()))
+    PAGE.write_text(page, encoding="utf-8")
+    print(f"{PAGE.relative_to(ROOT)}: {len(page.encode())} bytes")
+
+
+if __name__ == "__main__":
+    main()

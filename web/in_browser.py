@@ -1,0 +1,303 @@
+#!/usr/bin/env python3
+"""Drives web/tower.html in a Chromium: keys, clicks, links, play, undo, plans and texts that are typed in and refused, lessons, the page's policy.
+
+    web/in_browser.py [PAGE [PICTURES]]
+
+Without a Chromium (tests/browser.py says how one is found) it says so, and its status is 0: web/test.mjs has judged the program in the page. With a
+folder PICTURES it leaves pictures there. The last line counts; the status is 1 if anything is not as it should be.
+"""
+import sys
+import tempfile
+import time
+from pathlib import Path
+
+ROOT = Path(__file__).resolve().parent.parent
+sys.path.append(str(ROOT / "tests"))
+from browser import Browser, find_browser  # noqa: E402
+
+WIDE, HIGH = 1280, 720
+MOST_RUN_MS, MOST_STEP_MS = 5, 50
+OWN_PLAN = 'cpus = 1\\ntrace = 4\\nbuffers = [2]\\n[[thread]]\\ncpu = 0\\nprogram = ["set r0 7", "send 0 r0"]\\n'
+
+# In each of the stored plans, at each step: each thread is one filled chip among CPUs and buffers, and no text came from a value that is none.
+CHIPS = """(() => { const wrong = []; for (const name of Object.keys(page.plans)) { if (!page.loadStored(name)) wrong.push([name, 'refused']);
+  const stride = Math.ceil(page.run.length / 40);
+  for (let step = 0; step <= page.run.length; step += stride) { page.go(step); const count = {};
+    document.querySelectorAll('#cpus .t:not(.only), #buffers .t:not(.only)').forEach(chip => { count[chip.textContent] = (count[chip.textContent] ?? 0) + 1; });
+    page.run.record.threads.forEach((_, t) => { if (count['t' + t] !== 1) wrong.push([name, step, t]); });
+    if (/undefined|NaN|\\[object/.test(document.body.innerText)) wrong.push([name, step, 'text']); } }
+  return wrong.slice(0, 5); })()"""
+
+# What a run of each stored plan takes in a new instance, in milliseconds: the slowest of the means of 20. The longest schedules are not the book's.
+RUN_TIMES = """(() => { let slowest = ['', 0]; for (const [name, plan] of Object.entries(page.plans)) { const schedule = scheduleIn(plan); if (stepsOf(readSchedule(schedule).items).length > 500) continue;
+  page.program.runPlan(plan, schedule); const start = performance.now(); for (let i = 0; i < 20; i++) page.program.runPlan(plan, schedule);
+  const mean = (performance.now() - start) / 20; if (mean > slowest[1]) slowest = [name, mean]; } return slowest; })()"""
+
+# Each step of a run of 1,000, forth and then back, as the arrow keys go: the mean and the slowest, in milliseconds.
+STEP_TIMES = """(() => { page.loadStored('ledger'); const times = []; const timed = act => { const start = performance.now(); act(); document.body.getBoundingClientRect(); times.push(performance.now() - start); };
+  while (page.at < page.run.length) timed(() => page.player.move(1)); while (page.at > 0) timed(() => page.player.move(-1));
+  return [times.length, times.reduce((sum, one) => sum + one, 0) / times.length, Math.max(...times)]; })()"""
+
+# What of a page the policy has to forbid: an image from elsewhere, a script that is put in, a style attribute, a text that is run.
+BREACHES = """(async () => { const seen = []; document.addEventListener('securitypolicyviolation', event => seen.push(event.effectiveDirective));
+  document.body.insertAdjacentHTML('beforeend', '<img src="http://127.0.0.1:9/x.png"><p id="styled" style="color: red">x</p>');
+  const script = document.createElement('script'); script.textContent = 'window.ran = 1'; document.body.append(script);
+  try { await fetch('http://127.0.0.1:9/'); seen.push('fetched'); } catch {}
+  try { eval('window.ran = 2'); } catch {}
+  await new Promise(done => setTimeout(done, 200)); return [window.ran ?? null, [...new Set(seen)].sort()]; })()"""
+
+
+class Checks:
+    """Counts what is as it should be, and tells what isn't."""
+
+    def __init__(self, browser, page):
+        self.browser, self.url, self.passed, self.failed = browser, page.resolve().as_uri(), 0, 0
+
+    def holds(self, what, got, wanted):
+        if got == wanted:
+            self.passed += 1
+        else:
+            self.failed += 1
+            print(f"in a browser: {what}: got {got!r}, wanted {wanted!r}")
+
+    def open(self, link=""):
+        self.browser.open(self.url + link)
+        self.browser.wait("Boolean(window.page || document.querySelector('#warn').textContent)")
+
+    def at(self):
+        return self.browser.read("[page.at, page.run.length]")
+
+    def link(self):
+        """The page's link, once it stands in the address."""
+        self.browser.wait("location.hash === page.link()")
+        return self.browser.read("location.hash")
+
+    def text(self, selector):
+        return self.browser.read(f"document.querySelector({selector!r}).innerText.replace(/\\s+/g, ' ').trim()")
+
+    def keys(self, *keys):
+        for key in keys:
+            self.browser.key(key.removeprefix("shift "), key.startswith("shift "))
+
+    def set_value(self, selector, value, event="change"):
+        """Puts a value into a field as a reader does who leaves it then. The value stands in JavaScript's own quotes."""
+        self.browser.read(f"(() => {{ const field = document.querySelector({selector!r}); field.value = {value}; "
+                          f"field.dispatchEvent(new Event({event!r}, {{bubbles: true}})); }})()")
+
+    # ---- what is looked at
+
+    def steps(self):
+        self.open()
+        self.holds("it opens before the first step", self.at(), [0, 57])
+        for keys, step, what in [(("ArrowRight", "ArrowRight"), 2, "two presses of the right arrow"), (("ArrowLeft",), 1, "the left arrow"), (("End", "ArrowRight"), 57, "the end"),
+                                 (("Home", "ArrowLeft"), 0, "the start"), (("PageDown",), 24, "Page Down: the first effect"), (("PageDown",), 47, "the second"),
+                                 (("PageUp",), 24, "Page Up"), (("shift ArrowRight",), 27, "shift and right: a section")]:
+            self.keys(*keys)
+            self.holds(what, self.at()[0], step)
+        for button, step in [("#on", 28), ("#back", 27), ("#first", 0), ("#last", 57)]:
+            self.browser.click(button)
+            self.holds(f"the button {button}", self.at()[0], step)
+        self.browser.click("input[value=section]")
+        self.browser.click("#first")
+        self.keys("ArrowRight", "ArrowRight")
+        self.holds("by sections: the switch, then AcqQ's third step", self.at()[0], 4)
+        self.browser.click("input[value=step]")
+        self.set_value("#slide", 30, "input")
+        self.holds("the slider", self.at()[0], 30)
+        self.browser.click("#order button[data-go]")
+        self.holds("a click on an effect", self.at()[0], 24)
+        self.holds("it says what happened", self.text("#said").startswith("CPU 1 TryPut thread 1 sends 7 to buffer 0 takes effect"), True)
+        x, y = self.browser.read("(() => { const box = document.querySelector('#lanes svg').getBoundingClientRect(); return [box.x, box.y]; })()")
+        each = self.browser.read("page.lanes.each")
+        self.browser.click_at(x + 78 + 10.5 * each, y + 30)
+        self.holds("a click into the lanes", self.at()[0], 11)
+
+    def to_the_end(self):
+        """woken-from-afar to its end, as a person with the file alone goes."""
+        self.open()
+        while self.at()[0] < 57:
+            self.keys("ArrowRight")
+        self.holds("at the end nobody goes on", "quiet: nobody goes on" in self.text("#order"), True)
+        self.holds("and the proved program says so", "the proved program prints the same" in self.text("#evidence"), True)
+        self.browser.wait("document.querySelector('#evidence').textContent.includes('58 of 58')")
+
+    def play(self):
+        self.open("#step=3")
+        self.keys(" ")
+        time.sleep(2.2)
+        self.keys(" ")
+        step = self.at()[0]
+        self.holds("space plays", 4 <= step <= 6, True)
+        time.sleep(1.1)
+        self.holds("and stops", self.at()[0], step)
+
+    def links(self):
+        self.open("#step=24")
+        self.keys("ArrowRight")
+        self.holds("the link has the plan, the schedule and the step", self.link(), "#plan=woken-from-afar&schedule=0*13,1*24,0*20&step=25")
+        for link, wanted in [("#plan=two-receivers&schedule=0*13,1*13&step=20", [20, 26]), ("#plan=two-senders&step=99999", [141, 141]), ("#plan=<script>&step=<script>", [0, 57]),
+                             ("#plan=two-receivers&rule=other-side-only&schedule=0*3&step=1", [1, 3]), ("#step=-4", [0, 57])]:
+            self.open(link)
+            self.holds(f"the link {link}", self.at(), wanted)
+        self.open("#plan=woken-from-afar&schedule=0*13,7*2")
+        self.holds("a link with a CPU that is none", self.text("#refused").startswith("error: BadCpu(4)"), True)
+        self.open("#plan=woken-from-afar&schedule=<img src=x>")
+        self.holds("a schedule that is markup is text", "<img src=x>" in self.text("#refused"), True)
+
+    def choose(self):
+        self.open()
+        self.keys("1")
+        self.holds("digit 1 steps CPU 1, and drops what stood behind", [self.at(), self.link()], [[1, 1], "#plan=woken-from-afar&schedule=1&step=1"])
+        self.keys("1", "1", "1", "0", "0")
+        self.keys("0")
+        self.holds("seven steps by hand", self.at(), [7, 7])
+        self.keys("Backspace")
+        self.holds("Backspace takes one back", self.at(), [6, 6])
+        self.browser.click("#undo")
+        self.holds("the button too", self.at(), [5, 5])
+        self.keys(*["Backspace"] * 5)
+        self.holds("back to the plan's own schedule", self.at(), [0, 57])
+        self.keys("shift 0")
+        self.holds("shift and 0 runs CPU 0 until its thread sleeps", self.text("#said").startswith("CPU 0 Wait thread 0 joins those that wait"), True)
+        self.browser.click("#cpus [data-run-on='1']")
+        self.holds("a CPU's own button", self.browser.read("spelledSchedule(page.session.steps)").startswith("0*13,1*"), True)
+        self.browser.click("#choices [data-choose='0']")
+        self.keys("r")
+        self.holds("random steps are drawn and compared", self.browser.read("page.session.evidence.at(page.at)"), True)
+
+    def schedules(self):
+        self.open()
+        self.browser.click("#schedule")
+        self.browser.read("document.querySelector('#schedule').select()")
+        self.browser.type("0*13,1*10")
+        self.keys("Enter")
+        self.browser.read("document.querySelector('#schedule').blur()")
+        self.holds("a schedule that is typed in", self.at(), [23, 23])
+        for value, error, words in [("'0*13,,1'", "error: BadSchedule(9)", "item 2"), ("'0,5'", "error: BadCpu(4)", "CPUs 0 to 1")]:
+            self.set_value("#schedule", value)
+            self.holds(f"the schedule {value} is refused", [self.text("#refused").startswith(error), words in self.text("#refused")], [True, True])
+        self.set_value("#schedule", "'1*3'")
+        self.holds("a good one behind it", [self.at(), self.text("#refused")], [[3, 3], ""])
+        self.browser.click("#undo")
+        self.holds("is taken back", self.at(), [23, 23])
+
+    def plans(self):
+        self.open()
+        self.browser.click("[data-panel=planPanel]")
+        self.set_value("#planText", "document.querySelector('#planText').value.replace('send 0', 'sned 0')")
+        self.browser.click("#runPlan")
+        self.holds("a plan that is typed in is refused", self.text("#planRefused"), "error: Guest(23) thread 1 line 1 UnknownWord(10) line 12: program = [\"set r0 7\", \"sned 0 r0\"] "
+                   "an instruction begins with one of set, add, sub, jnz, send, sendm, recv, recvm, close, yield, exit; near it: send")
+        self.set_value("#planText", "'cpus = 2\\n<script>window.ran = 1</script>'")
+        self.browser.click("#runPlan")
+        self.holds("a text with <script> is text", ["<script>window.ran = 1</script>" in self.text("#planRefused"), self.browser.read("window.ran ?? null")], [True, None])
+        self.set_value("#planText", f"'{OWN_PLAN}'")
+        self.browser.click("#runPlan")
+        self.holds("a plan of one's own is shown", [self.browser.read("document.querySelector('#planPanel').open"), self.browser.read("document.querySelector('#plan').value")], [False, "your own"])
+        self.keys("shift 0")
+        self.holds("and runs", [self.at()[0] > 5, self.browser.read("page.session.evidence.at(page.at)")], [True, True])
+        link, at = self.link(), self.at()
+        self.open(link)
+        self.holds("its link has it whole", [self.at(), self.browser.read("page.session.text")], [at, OWN_PLAN.replace("\\n", "\n")])
+
+    def judge(self):
+        self.open("#step=57")
+        self.browser.click("[data-panel=printedPanel]")
+        self.holds("what was printed", "mctower run --schedule '0*13,1*24,0*20' < woken-from-afar" in self.text("#printed") and "quiet yes" in self.text("#printed"), True)
+        self.browser.click("#printedPanel [data-close]")
+        self.browser.click("[data-panel=judgePanel]")
+        self.browser.click("#judge")
+        self.holds("the judge takes this run's text", self.text("#verdict").startswith("yes"), True)
+        self.set_value("#traceText", "document.querySelector('#traceText').value.replace('recv 0 7', 'recv 0 8')")
+        self.browser.click("#judge")
+        self.holds("and not a changed one", self.text("#verdict").startswith("no 5 WrongValue(36) line 5: e 0 0 recv 0 8 1 0"), True)
+
+    def lessons(self):
+        self.open()
+        self.set_value("#plan", "'lesson 0'")
+        self.holds("lesson 1 says that it is no proved kernel", self.text("#warn").startswith("NOT the proved kernel: rule look-always-hits is left out"), True)
+        self.browser.click("#empty")
+        self.keys("0", "0", "0", "0", "1", "1", "1", "1")
+        self.holds("eight steps by hand break lesson 1's law", "BROKEN: one CPU inside a lock" in self.text("#order"), True)
+        self.set_value("#plan", "'lesson 6'")
+        self.browser.click("#broken")
+        self.holds("lesson 7: the lost wake-up", ["BROKEN: no lost wake-up" in self.text("#order"), self.browser.read("page.run.cell('b0.owner', page.at)"),
+                   self.browser.read("page.run.cell('b0.items', page.at)"), self.browser.read("page.run.place(1, page.at)")], [True, None, ["8"], "WaitRecv(0)"])
+        self.browser.wait("document.querySelector('#warn').textContent.includes('prints something else from step')")
+        self.set_value("#rule", "''")
+        self.holds("with the rule it stands", ["BROKEN" in self.text("#order"), self.text("#warn")], [False, ""])
+
+    def looks(self):
+        self.holds("each thread is one filled chip in every plan", self.browser.read(CHIPS), [])
+        self.open("#plan=two-receivers")
+        highest = self.browser.read("(() => { let high = 0; for (let step = 0; step <= page.run.length; step += 3) { page.go(step); "
+                                    "high = Math.max(high, document.querySelector('main').getBoundingClientRect().bottom); } return high; })()")
+        self.holds(f"three CPUs, three threads and a buffer need no scrolling: {highest} px", highest <= HIGH, True)
+
+    def labels(self):
+        """Everything that can be pressed or filled has words for a screen reader."""
+        self.open()
+        tree = self.browser.call("Accessibility.getFullAXTree")["nodes"]
+        roles = ("button", "combobox", "textbox", "slider", "radio", "listbox", "radiogroup", "toolbar", "dialog", "img", "image")
+        nameless = [node["role"]["value"] for node in tree if node.get("role", {}).get("value") in roles and not node.get("name", {}).get("value")]
+        self.holds("each control has words", nameless, [])
+
+    def times(self):
+        name, run_ms = self.browser.read(RUN_TIMES)
+        count, mean, slowest = self.browser.read(STEP_TIMES)
+        print(f"in a browser: the slowest run of a book plan is {name}'s, {run_ms:.1f} ms; {count} steps forth and back take {mean:.1f} ms each, the slowest {slowest:.0f}")
+        self.holds(f"a run of {name} takes at most {MOST_RUN_MS} ms", run_ms <= MOST_RUN_MS, True)
+        self.holds(f"a step takes {mean} ms in the mean", mean <= MOST_STEP_MS, True)
+
+    def is_clean(self):
+        self.holds("no request leaves the page", self.browser.requests(), [])
+        self.holds("no fault in the page", self.browser.faults(), [])
+
+    def policy(self):
+        self.open()
+        self.holds("nothing beyond the page's own policy", self.browser.read(BREACHES), [None, ["connect-src", "img-src", "script-src-elem", "style-src-attr"]])
+
+    def broken_module(self, room):
+        page = (ROOT / "web/tower.html").read_text(encoding="utf-8")
+        start = page.index('id="program">') + 4000
+        broken = Path(room, "broken.html")
+        broken.write_text(page[:start] + "AAAAAAAA" + page[start + 8:], encoding="utf-8")
+        self.browser.open(broken.as_uri())
+        self.browser.wait("document.querySelector('#warn').textContent !== ''")
+        self.holds("a broken module is said on the page", self.text("#warn").startswith("The program in this page is broken or this browser cannot run it"), True)
+
+    def pictures(self, folder):
+        for link, name in [("#plan=two-receivers&step=59", "page"), ("#plan=two-receivers&rule=other-side-only&schedule=0*13,1*13,2*43,1*6,0*23&step=91", "lost-wake-up")]:
+            self.open(link)
+            time.sleep(1)
+            self.browser.picture(str(folder / f"{name}.png"))
+
+
+def main():
+    if sys.argv[1:] == ["--help"]:
+        print(__doc__)
+        return
+    program = find_browser()
+    if program is None:
+        print("in a browser: not looked at, since no Chromium is here")
+        return
+    page = Path(sys.argv[1]) if len(sys.argv) > 1 else ROOT / "web/tower.html"
+    browser = Browser(program, WIDE, HIGH)
+    checks = Checks(browser, page)
+    try:
+        with tempfile.TemporaryDirectory() as room:
+            for look in (checks.steps, checks.to_the_end, checks.play, checks.links, checks.choose, checks.schedules, checks.plans, checks.judge, checks.lessons,
+                         checks.looks, checks.labels, checks.times, checks.is_clean):
+                look()
+            if len(sys.argv) > 2:
+                checks.pictures(Path(sys.argv[2]))
+            checks.policy()
+            checks.broken_module(room)
+    finally:
+        browser.close()
+    print(f"in a browser: {checks.passed} passed, {checks.failed} failed")
+    sys.exit(checks.failed > 0)
+
+
+if __name__ == "__main__":
+    main()

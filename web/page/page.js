@@ -1,0 +1,290 @@
+"use strict";
+// The page: it shows a session, and hands on what the reader does.
+
+const OWN_PLAN = "your own", FIRST_PLAN = "woken-from-afar";
+const COMPARE_FOR = 8, COMPARE_PAUSE = 12, LINK_PAUSE = 150; // milliseconds
+const MOST_LINK = 8000; // letters of a plan in a link
+
+const readData = id => JSON.parse(byId(id).textContent);
+const option = (value, words) => html`<option value="${value}">${words}</option>`;
+
+class Page {
+  constructor(program) {
+    Object.assign(this, { program, facts: readData("facts"), plans: readData("plans"), lessons: readData("lessons"), session: null, lanes: { from: 0, each: 1 } });
+    fill("plan", html`<optgroup label="plans">${Object.keys(this.plans).map(name => option(name, name))}${option(OWN_PLAN, OWN_PLAN)}</optgroup>
+      <optgroup label="lessons: a rule is left out">${this.lessons.map((one, i) => option(`lesson ${i}`, `lesson ${one.lesson}`))}</optgroup>`);
+    fill("rule", html`${option("", "the proved one")}${Object.keys(this.facts.rules).map(rule => option(rule, `without ${rule}`))}`);
+    fill("about", aboutPage(this.facts));
+    this.player = new Player(this);
+    this.handsOn();
+    this.fromLink();
+  }
+
+  get run() {
+    return this.session.run;
+  }
+
+  get at() {
+    return this.session.at;
+  }
+
+  // ---- loading
+
+  // Shows a plan under a schedule, or says why the proved program refuses them. Returns whether it is shown.
+  load({ name, text, rule = null, schedule }, step = 0, refusedAt = "refused") {
+    const refusal = refusalOf(this.program, text, schedule);
+    if (refusal) return this.refuse(refusal, refusedAt);
+    try {
+      this.session = new Session(this.program, this.facts, { name, text, rule, schedule });
+    } catch (fault) {
+      return this.refuse({ line: "the proved program takes this, and this page cannot draw it", where: { says: fault.message } }, refusedAt);
+    }
+    this.player.stop();
+    fill("refused", "");
+    fill("planRefused", "");
+    fill("foot", footOf(this.facts, this.run));
+    this.go(step);
+    return true;
+  }
+
+  refuse({ line, where }, id) {
+    const { text, from, piece, says } = where, place = where.line ? `line ${where.line}: ` : "";
+    const parts = from === undefined ? text : [text.slice(0, from), html`<mark class="piece">${piece}</mark>`, text.slice(from + piece.length)];
+    fill(id, html`<div class="said">${line}</div>${text === undefined ? "" : html`<div class="faulty">${place}${parts}</div>`}<div>${says}</div>`);
+    return false;
+  }
+
+  loadStored(name, rule = null, schedule = scheduleIn(this.plans[name]), step = 0) {
+    return this.load({ name, text: this.plans[name], rule, schedule }, step);
+  }
+
+  choosePlan(value) {
+    const lesson = this.lessons[/^lesson (\d+)$/.exec(value)?.[1]];
+    if (lesson) this.loadStored(lesson.plan, lesson.rule, lesson.schedule);
+    else if (this.plans[value]) this.loadStored(value);
+    else this.openPanel("planPanel");
+    this.leave("plan");
+  }
+
+  // The link of what is shown; fromLink is its way back.
+  link() {
+    const { name, text, rule, steps, at } = this.session, isStored = this.plans[name] === text;
+    const parts = { plan: isStored ? name : "", rule: rule ?? "", schedule: spelledSchedule(steps), step: at, text: isStored || text.length > MOST_LINK ? "" : text };
+    const spelled = Object.entries(parts).filter(([key, value]) => value !== "" || key === "schedule").map(([key, value]) => `${key}=${encodeURIComponent(value).replaceAll("%2C", ",")}`);
+    return `#${spelled.join("&")}`;
+  }
+
+  // Puts the link of what is shown into the address, a little later: a browser takes only so many changes of it at a time.
+  keepLink() {
+    clearTimeout(this.linking);
+    this.linking = setTimeout(() => history.replaceState(null, "", this.link()), LINK_PAUSE);
+  }
+
+  fromLink() {
+    const asked = new URLSearchParams(location.hash.slice(1).replaceAll("+", "%2B")), rule = Object.hasOwn(this.facts.rules, asked.get("rule") ?? "") ? asked.get("rule") : null;
+    const stored = Object.hasOwn(this.plans, asked.get("plan") ?? "") ? asked.get("plan") : FIRST_PLAN, own = asked.get("text");
+    const text = own ?? this.plans[stored], schedule = asked.get("schedule") ?? scheduleIn(text), step = Number(asked.get("step")) || 0;
+    if (this.load({ name: own === null ? stored : OWN_PLAN, text, rule, schedule }, step) || this.session) return;
+    const refused = byId("refused").innerHTML; // the first link is refused: that is said above a plan that is not
+    this.loadStored(FIRST_PLAN);
+    byId("refused").innerHTML = refused;
+  }
+
+  // ---- showing
+
+  go(step) {
+    this.session.go(step);
+    this.show();
+  }
+
+  show() {
+    const { session, run, at } = this;
+    run.record.checked = session.evidence.at(at); // by which look.js puts a tick
+    this.showSentence();
+    this.showLanes();
+    fill("cpus", drawn(cpuCards(run, at, c => marked(this.buttonsOf(c)))));
+    fill("buffers", drawn(bufferCards(run, at)));
+    fill("threads", drawn(threadCards(run, at)));
+    fill("order", drawn(orderTable(run, at) + quietLine(run, at) + lawList(run, at)));
+    this.showControls();
+    this.showLesson();
+    this.showEvidence();
+    this.compareOn();
+  }
+
+  showSentence() {
+    const { who, first, small, effect } = wordsOf(this.run, this.at), tag = who ? html`<span class="who ${effect ? "effect" : ""}">${who}</span>` : "";
+    fill("said", html`${tag}<span>${first}<small>${small}</small></span>`);
+    byId("slide").setAttribute("aria-valuetext", `step ${this.at}: ${who} ${first}`);
+  }
+
+  showLanes() {
+    this.lanes = lanesOf(this.run, this.at, Math.max(300, byId("lanes").clientWidth - 40), this.lanes.from);
+    fill("lanes", drawn(this.lanes.svg));
+    fill("ticks", drawn(ticksOf(this.run)));
+  }
+
+  buttonsOf(c) {
+    return html`<span class="push"><button data-choose="${c}" aria-label="step CPU ${c}" title="key ${c}">step</button><button data-run-on="${c}"
+      aria-label="run CPU ${c} until it blocks" title="shift and key ${c}">run</button></span>`;
+  }
+
+  showControls() {
+    const { session, run, at } = this, isFirst = at === 0, isLast = at === run.length;
+    byId("count").textContent = `step ${at} of ${run.length}`;
+    Object.assign(byId("slide"), { max: run.length, value: at });
+    for (const [id, isOff] of [["first", isFirst], ["back", isFirst], ["on", isLast], ["last", isLast], ["undo", session.past.length === 0]]) byId(id).disabled = isOff;
+    fill("choices", html`${counted(session.plan.cpus).map(c => html`<button data-choose="${c}" aria-label="step CPU ${c}" title="key ${c}: what stands behind is dropped">${c}</button>`)}`);
+    byId("plan").value = this.plans[session.name] === session.text ? session.name : OWN_PLAN;
+    byId("rule").value = session.rule ?? "";
+    if (document.activeElement !== byId("schedule")) byId("schedule").value = spelledSchedule(session.steps);
+    document.title = `${session.name}, step ${at}: the verified thread tower`;
+    this.keepLink();
+  }
+
+  showLesson() {
+    const { name, rule } = this.session, lesson = this.lessons.find(one => one.plan === name && one.rule === rule);
+    fill("lesson", lesson ? html`<b>Lesson ${lesson.lesson}</b> ${lesson.look} <button id="broken">where a law breaks</button> <button id="empty">begin with no steps</button>` : "");
+  }
+
+  showEvidence() {
+    const { evidence, record, rule, breakdown } = this.session, differs = evidence.firstDifference(), all = record.printed.length;
+    const counted = `compared after ${evidence.counted} of ${all} beginnings of this schedule`;
+    fill("evidence", rule ? html`<p>${counted} with the proved program</p>` : html`<p>✓ the proved program prints the same: ${counted}</p>`);
+    const said = differs === null ? (evidence.counted === all ? " In this run the proved program prints the same." : "")
+      : ` The proved program prints something else${evidence.counted < all ? "" : ` from step ${differs} on`}.`;
+    fill("warn", rule ? `NOT the proved kernel: rule ${rule} is left out, so ${this.facts.rules[rule]}.${said} ${breakdown ?? ""}`
+      : differs === null ? "" : `The page's model and the proved program differ after step ${differs}: believe what is printed, and tell who made this page.`);
+  }
+
+  // Compares the beginnings that are left, a little at a time, while nothing else is to be done.
+  compareOn() {
+    clearTimeout(this.comparing);
+    this.comparing = setTimeout(() => {
+      const { evidence } = this.session, until = performance.now() + COMPARE_FOR;
+      let isMore = true;
+      while (isMore && performance.now() < until) isMore = evidence.compareNext();
+      this.showEvidence();
+      if (isMore) this.compareOn();
+    }, COMPARE_PAUSE);
+  }
+
+  // ---- panels
+
+  openPanel(id) {
+    this.player.stop();
+    if (id === "planPanel") byId("planText").value = this.session.text;
+    if (id === "printedPanel") this.showPrinted();
+    if (id === "judgePanel") this.takeTrace();
+    byId(id).showModal();
+  }
+
+  showPrinted() {
+    const { schedule, output, errors } = this.session.printedHere(), words = schedule ? ` run --schedule '${schedule}'` : " run";
+    fill("printed", html`<pre>mctower${words} &lt; ${this.session.name}</pre><p>On standard output, the trace text:</p><pre>${output}</pre><p>On standard error, the state lines:</p><pre>${errors}</pre>`);
+  }
+
+  takeTrace() {
+    byId("traceText").value = this.session.printedHere().output;
+    fill("verdict", "");
+  }
+
+  judge() {
+    const text = byId("traceText").value, said = this.program.run(["check"], text), verdict = (said.output || said.errors).trimEnd();
+    byId("verdict").className = verdict === "yes" ? "yes" : "";
+    if (verdict === "yes") fill("verdict", html`<div class="said">yes</div>in each buffer, what was put in is what was taken out, in that order, and then what is left`);
+    else this.refuse({ line: verdict, where: whereInTrace(text, verdict) }, "verdict");
+  }
+
+  runPlan() {
+    const text = byId("planText").value, stored = Object.keys(this.plans).find(name => this.plans[name] === text);
+    const schedule = scheduleIn(text), isTaken = this.load({ name: stored ?? OWN_PLAN, text, rule: this.session.rule, schedule }, 0, "planRefused");
+    if (isTaken) byId("planPanel").close();
+  }
+
+  // ---- what the reader does
+
+  change(act) {
+    this.player.stop();
+    fill("refused", "");
+    act(this.session);
+    this.show();
+  }
+
+  typeSchedule() {
+    const { name, text, rule } = this.session, schedule = byId("schedule").value.trim();
+    if (schedule === spelledSchedule(this.session.steps)) return;
+    const { past, at } = this.session, before = { steps: [...this.session.steps], at };
+    if (this.load({ name, text, rule, schedule }, Infinity)) {
+      this.session.past = [...past, before];
+      this.show();
+    }
+  }
+
+  async copy() {
+    const schedule = spelledSchedule(this.session.steps);
+    try {
+      await navigator.clipboard.writeText(schedule);
+      byId("count").textContent = "schedule copied";
+    } catch {
+      byId("schedule").select(); // the browser gives no clipboard: the reader copies by hand
+    }
+  }
+
+  toBroken() {
+    const step = this.session.firstBroken();
+    if (step >= 0) this.go(step);
+  }
+
+  handsOn() {
+    const on = (id, name, act) => byId(id).addEventListener(name, act);
+    on("plan", "change", event => this.choosePlan(event.target.value));
+    on("rule", "change", event => { this.change(session => session.leaveOut(event.target.value || null)); this.leave("rule"); });
+    on("schedule", "change", () => this.typeSchedule());
+    on("undo", "click", () => this.change(session => session.undo()));
+    on("fair", "click", () => this.change(session => session.random()));
+    on("runPlan", "click", () => this.runPlan());
+    on("judge", "click", () => this.judge());
+    on("takeTrace", "click", () => this.takeTrace());
+    document.addEventListener("pointerdown", () => { this.isByMouse = true; }, true);
+    document.addEventListener("keydown", () => { this.isByMouse = false; }, true);
+    document.addEventListener("click", event => this.clicked(event));
+    document.addEventListener("keydown", event => this.pressed(event));
+    window.addEventListener("hashchange", () => this.fromLink());
+    window.addEventListener("resize", () => this.show());
+  }
+
+  // What was used by the mouse keeps no focus, so that keys are the page's again.
+  leave(id) {
+    if (this.isByMouse) byId(id).blur();
+  }
+
+  clicked({ target }) {
+    const button = target.closest("button");
+    if (this.isByMouse && target.closest("button, input[type=radio], input[type=range]")) document.activeElement?.blur();
+    if (!button) return;
+    const { choose, runOn, panel, close } = button.dataset;
+    if (choose !== undefined) this.change(session => session.choose(Number(choose)));
+    else if (runOn !== undefined) this.change(session => session.runOn(Number(runOn)));
+    else if (panel !== undefined) this.openPanel(panel);
+    else if (close !== undefined) button.closest("dialog").close();
+    else if (button.id === "broken") this.toBroken();
+    else if (button.id === "empty") this.change(session => session.change([]));
+  }
+
+  pressed(event) {
+    const isTyped = event.target.closest("input, textarea, select, dialog"), isPressed = event.key === " " && event.target.closest("button");
+    if (event.ctrlKey || event.metaKey || event.altKey || isTyped || isPressed) return;
+    const digit = /^Digit(\d)$/.exec(event.code)?.[1], acts = { Backspace: session => session.undo(), r: session => session.random() };
+    if (digit !== undefined && Number(digit) < this.session.plan.cpus) this.change(session => (event.shiftKey ? session.runOn(Number(digit)) : session.choose(Number(digit))));
+    else if (Object.hasOwn(acts, event.key)) this.change(acts[event.key]);
+    else if (event.key === "c") this.copy();
+    else if (!this.player.key(event)) return;
+    event.preventDefault();
+  }
+}
+
+Program.unpacked(byId("program").textContent).then(program => { window.page = new Page(program); }).catch(fault => {
+  const needs = "It needs a browser of 2023 or later, with WebAssembly and DecompressionStream, and the whole file.";
+  fill("warn", `The program in this page is broken or this browser cannot run it: ${fault}. ${needs}`);
+});

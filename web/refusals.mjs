@@ -1,0 +1,77 @@
+// Refusals of each kind, and the place that has to stand beside each: the line, the piece that is wrong, and a word of what is allowed there.
+
+const PLAN = `cpus = 2
+trace = 4
+buffers = [1]
+
+[[thread]]
+cpu = 0
+program = ["recv 0 r0"]
+
+[[thread]]
+cpu = 1
+program = [
+  "set r0 7",
+  "send 0 r0",
+]
+`;
+const TRACE = `mctower-trace 1
+buffers 1
+cap 0 2
+e 0 0 send 0 7 0 0
+e 1 1 recv 0 7 1 0
+left 0
+end
+`;
+
+const edited = (text, from, to) => {
+  if (!text.includes(from)) throw new Error(`${from} is not there`);
+  return text.replace(from, to);
+};
+const plan = (from, to, error, line, piece, says) => ({ plan: edited(PLAN, from, to), error, line, piece, says });
+const schedule = (text, error, piece, says) => ({ plan: PLAN, schedule: text, error, line: undefined, piece, says });
+const trace = (from, to, verdict, shown, says) => ({ text: edited(TRACE, from, to), verdict, shown, says });
+
+export const refusals = {
+  plans: [
+    plan('trace = 4', 'trace 4', 'BadToml(20)', 2, '4', '"=" is wanted'),
+    plan('[1]', '[1', 'BadToml(20)', 5, '[[thread]]', '"]" is wanted'),
+    plan('"recv 0 r0"', '"recv 0 r0', 'BadToml(20)', 7, '"recv 0 r0]', 'no closing'),
+    plan('cpus = 2', 'cpus = 2\ncpus = 3', 'BadToml(20)', 2, 'cpus = 3', 'there already'),
+    plan('cpus = 2', 'cpus = 18446744073709551616', 'BadToml(20)', 1, '18446744073709551616', '64 bits'),
+    plan('cpus = 2', 'cpu = 2', 'MissingKey(21) cpus', 1, 'cpu', 'no key cpus'),
+    plan('cpus = 2', 'cpus = "2"', 'MissingKey(21) cpus', 1, 'cpus', '1 to 16'),
+    plan('trace = 4', '', 'MissingKey(21) trace', undefined, undefined, '65536'),
+    plan('cpus = 2', 'cpus = 17', 'OutOfRange(22) cpus', 1, 'cpus', '1 to 16'),
+    plan('[1]', '[33]', 'OutOfRange(22) buffers', 3, 'buffers', '1 to 32'),
+    plan('cpus = 2', 'cpus = 2\nlock = "tiket"', 'OutOfRange(22) lock', 2, 'lock', '"ticket" or "grant"'),
+    plan('cpu = 1', 'cpu = 2', 'OutOfRange(22) thread 1 cpu', 10, 'cpu', 'home'),
+    plan('cpu = 1', 'cpuu = 1', 'MissingKey(21) thread 1 cpu', 10, 'cpuu', 'is near it and is ignored'),
+    plan('cpu = 1', '', 'MissingKey(21) thread 1 cpu', 9, '[[thread]]', 'thread 1 has no key cpu'),
+    plan('program = ["recv 0 r0"]', 'program = []', 'Guest(23) thread 0 line 0 Empty(15)', 7, 'program', '1 to 256'),
+    plan('send 0 r0', 'sned 0 r0', 'Guest(23) thread 1 line 1 UnknownWord(10)', 13, 'sned', 'near it: send'),
+    plan('send 0 r0', 'send 0', 'Guest(23) thread 1 line 1 UnknownWord(10)', 13, 'send 0', 'send b rS [k]'),
+    plan('send 0 r0', 'send 0 r8', 'Guest(23) thread 1 line 1 BadRegister(11)', 13, 'r8', 'r0 to r7'),
+    plan('send 0 r0', 'send 16 r0', 'Guest(23) thread 1 line 1 BadNumber(12)', 13, '16', '0 to 15'),
+    plan('send 0 r0', 'sendm 0 9', 'Guest(23) thread 1 line 1 BadNumber(12)', 13, '9', '1 to 8'),
+    plan('send 0 r0', 'jnz r0 2', 'Guest(23) thread 1 line 1 BadTarget(13)', 13, '2', 'lines 0 to 1'),
+    plan('send 0 r0', 'send 1 r0', 'OutOfRange(22) thread 1 program', 13, '1', 'buffers 0 to 0'),
+    plan('set r0 7', 'set r0 <b>', 'Guest(23) thread 1 line 0 BadNumber(12)', 12, '<b>', '18446744073709551615'),
+    schedule('0*13,,1', 'BadSchedule(9)', '', 'item 2'),
+    schedule('0*13, 1', 'BadSchedule(9)', ' 1', 'item 2'),
+    schedule('0*0', 'BadSchedule(9)', '0*0', '1 to 1048576'),
+    schedule('0*1048576,1', 'BadSchedule(9)', '1', 'at most 1048576'),
+    schedule('256', 'BadSchedule(9)', '256', '0 to 255'),
+    schedule('0,2*3', 'BadCpu(4)', '2*3', 'CPUs 0 to 1'),
+  ],
+  texts: [
+    trace('recv 0 7 1 0', 'recv 0 8 1 0', 'no 5 WrongValue(36)', 'e 1 1 recv 0 8 1 0', "the buffer's first"),
+    trace('send 0 7 0 0', 'send 0 7 00 0', 'no 4 Spelling(30)', 'e 0 0 send 0 7 00 0', 'leading zeros'),
+    trace('send 0 7 0 0', 'send 0 7 1 0', 'no 4 Op(32)', 'e 0 0 send 0 7 1 0', 'number of entries'),
+    trace('left 0\n', 'left 0 7\n', 'no 6 Left(37)', 'left 0 7', "the buffer's items"),
+    trace('trace 1', 'trace 2', 'no 7 Version(38)', 'end', 'lower version'),
+    trace('end\n', 'end', 'no 7 Spelling(30)', 'end', 'no line feed'),
+    trace('trace 1\n', 'trace 1\r\n', 'no 1 Spelling(30)', 'mctower-trace 1\r', 'carriage return'),
+    trace(TRACE, '', 'no 1 Spelling(30)', '', 'no spelling'),
+  ],
+};

@@ -1,0 +1,205 @@
+#!/usr/bin/env node
+// Holds the page web/tower.html against this tree: the program in it against the native program, the model in it against both and plans/kernel.py.
+//
+//     web/test.mjs [--many N]     N times as many random and damaged runs
+//
+// It takes the program out of the page. It fails if the page answers otherwise than crates/mctower/out/mctower (MCTOWER names another), and not if it
+// is merely of an older commit. It needs node 20 or later, python3, and the built program. The last line counts; the status is 1 on any difference.
+import { spawnSync } from 'node:child_process';
+import { existsSync, mkdtempSync, readFileSync, readdirSync, rmSync } from 'node:fs';
+import { tmpdir } from 'node:os';
+import { dirname, join } from 'node:path';
+import { fileURLToPath } from 'node:url';
+import { chooser, damaged } from './damage.mjs';
+import { refusals } from './refusals.mjs';
+import { sources, taken } from './taken.mjs';
+
+const ROOT = dirname(dirname(fileURLToPath(import.meta.url))), NATIVE = process.env.MCTOWER ?? join(ROOT, 'crates/mctower/out/mctower');
+const RANDOM_SMALL = 240, RANDOM_LARGE = 60, SMALL_STEPS = 1000, LARGE_STEPS = 3000, DAMAGED = 400, MODEL_BEGINNINGS = 60;
+const MOST_TOLD = 20; // differences
+const FOLDERS = ['plans', 'tests/rows', 'tests/long'];
+
+let passed = 0, failed = 0;
+function is(name, holds) {
+  if (holds) passed++;
+  else if (++failed <= MOST_TOLD) console.log(`page: ${name}`);
+}
+
+const read = path => readFileSync(join(ROOT, path), 'utf8');
+
+// What the native program answers: its status, standard output and standard error.
+function native(words, input) {
+  const ran = spawnSync(NATIVE, words, { input, encoding: 'utf8', maxBuffer: 1 << 28 });
+  if (ran.error) throw ran.error;
+  return { status: ran.status, output: ran.stdout, errors: ran.stderr };
+}
+
+const isSame = (x, y) => x.status === y.status && x.output === y.output && x.errors === y.errors;
+const withLock = (plan, lock) => (lock ? `lock = "${lock}"\n${plan}` : plan);
+
+// The lines that plans/explain.py names beside a refusal.
+function linesExplained(plan, schedule) {
+  const told = spawnSync('python3', [join(ROOT, 'plans/explain.py'), '-', schedule], { input: plan, encoding: 'utf8' });
+  return [...told.stdout.matchAll(/:(\d+):|on line (\d+)/g)].map(found => Number(found[1] ?? found[2]));
+}
+
+// A page that is held against the tree.
+class Held {
+  constructor({ program, evaluate, facts, lessons }) {
+    Object.assign(this, { program, evaluate, facts, lessons });
+    this.scheduleIn = evaluate('scheduleIn');
+    this.stored = FOLDERS.flatMap(folder => readdirSync(join(ROOT, folder)).filter(name => name.endsWith('.toml')).map(name => `${folder}/${name}`));
+  }
+
+  // Whether the page and the native program answer the same.
+  compare(name, words, input) {
+    is(name, isSame(this.program.run(words, input), native(words, input)));
+  }
+
+  runWords(schedule) {
+    return schedule === '' ? ['run'] : ['run', `--schedule=${schedule}`];
+  }
+
+  // A plan that is looked at, with its schedule.
+  session(text, schedule, rule = null) {
+    return this.evaluate('(program, facts, wanted) => new Session(program, facts, wanted)')(this.program, this.facts, { name: 'a plan', text, rule, schedule });
+  }
+
+  // Whether the model prints what the program prints at the end of a schedule.
+  isModelled(text, schedule) {
+    const { evidence, run } = this.session(text, schedule);
+    return evidence.at(run.length);
+  }
+
+  // Every stored plan behind both locks prints what is expected, and the judge takes it.
+  storedRuns() {
+    for (const path of this.stored) {
+      const plan = read(path), expected = read(path.replace(/([^/]*)\.toml$/, 'expected/$1.txt'));
+      for (const lock of ['', 'ticket']) {
+        const got = this.program.runPlan(withLock(plan, lock), this.scheduleIn(plan));
+        is(`${path} ${lock}`, got.status === 0 && got.output + got.errors === expected);
+        is(`the judge on ${path} ${lock}`, this.program.run(['check'], got.output).output === 'yes\n');
+      }
+    }
+  }
+
+  // Random plans behind both locks, by turns.
+  randomRuns(folder, many) {
+    const script = ['tests/random_plan.py', 'bench/random_plan.py'].map(path => join(ROOT, path)).find(existsSync);
+    for (const [first, count, steps, ...size] of [[1, RANDOM_SMALL * many, SMALL_STEPS], [100001, RANDOM_LARGE * many, LARGE_STEPS, 'large']]) {
+      const made = spawnSync('python3', [script, folder, first, count, steps, ...size].map(String), { stdio: 'inherit' });
+      if (made.status !== 0) throw new Error('no random plans');
+      for (let seed = first; seed < first + count; seed++) this.randomRun(readFileSync(`${folder}/${seed}.toml`, 'utf8'), seed);
+    }
+  }
+
+  randomRun(plan, seed) {
+    const text = withLock(plan, seed % 2 ? '' : 'ticket'), schedule = this.scheduleIn(plan);
+    this.compare(`random plan ${seed}`, this.runWords(schedule), text);
+    if (seed % 5 === 0) this.compare(`the judge on random plan ${seed}`, ['check'], this.program.runPlan(text, schedule).output);
+  }
+
+  // Damaged plans, schedules and texts get the same answers, and what stands beside a refusal is found without a fault.
+  damagedRuns(many) {
+    const choose = chooser(7), plans = this.stored.filter(path => !path.startsWith('tests/long')).map(read), beside = this.evaluate('refusalOf');
+    for (let number = 0; number < DAMAGED * many; number++) {
+      const plan = plans[choose(plans.length)], schedule = this.scheduleIn(plan), text = this.program.runPlan(plan, schedule).output;
+      const badPlan = damaged(choose, plan), badSchedule = damaged(choose, schedule).replace(/\u0000/g, ''), badText = damaged(choose, text);
+      this.compare(`damaged plan ${number}`, this.runWords(schedule), badPlan);
+      if (badSchedule !== '') this.compare(`damaged schedule ${number}`, this.runWords(badSchedule), plan);
+      this.compare(`damaged text ${number}`, ['check'], badText);
+      for (const [one, other] of [[badPlan, schedule], [plan, badSchedule]]) this.explains(`damage ${number}`, beside, one, other);
+    }
+  }
+
+  explains(name, beside, plan, schedule) {
+    const refusal = beside(this.program, plan, schedule), { line, text = '', from = 0, piece = '' } = refusal?.where ?? {};
+    const stands = line === undefined ? text === '' || text === schedule : plan.split('\n')[line - 1] === text;
+    is(`what stands beside the refusal of ${name}`, refusal === null || (stands && text.slice(from, from + piece.length) === piece));
+    if (refusal === null && this.evaluate('readSchedule')(schedule).total <= SMALL_STEPS) is(`the model of ${name}`, this.isModelled(plan, schedule));
+  }
+
+  // Refusals of each kind have the right place beside them, and it is that of plans/explain.py.
+  places() {
+    const beside = this.evaluate('refusalOf'), inTrace = this.evaluate('whereInTrace');
+    for (const { plan, schedule = '0', error, line, piece, says } of refusals.plans) {
+      const got = beside(this.program, plan, schedule), { from, text, ...where } = got?.where ?? {};
+      const isRight = got?.line === `error: ${error}` && where.line === line && where.piece === piece && (where.says ?? '').includes(says);
+      is(`the place of ${error}: ${JSON.stringify(got)}`, isRight && (from === undefined || text.slice(from, from + piece.length) === piece));
+      is(`the line of ${error}, which plans/explain.py does not name`, line === undefined || linesExplained(plan, schedule).includes(line));
+    }
+    for (const { text, verdict, shown, says } of refusals.texts) {
+      const got = this.program.run(['check'], text).output.trimEnd(), where = inTrace(text, got);
+      is(`the place of ${verdict}: ${got} ${JSON.stringify(where)}`, got === verdict && where.text === shown && where.says.includes(says));
+    }
+  }
+
+  // The model in the page prints what the program in it prints, after beginnings of every stored schedule.
+  modelRuns() {
+    for (const path of this.stored.filter(path => !path.startsWith('tests/long'))) {
+      const text = read(path), shown = this.session(text, this.scheduleIn(text)), stride = Math.ceil(shown.run.length / MODEL_BEGINNINGS);
+      for (let step = 0; step <= shown.run.length; step += stride) is(`the model of ${path} after ${step} steps`, shown.evidence.at(step));
+      is(`the model of ${path} at its end`, shown.evidence.at(shown.run.length));
+      is(`every law in every state of ${path}`, shown.firstBroken() === -1);
+    }
+  }
+
+  // In each lesson the rule that is left out breaks the law that the lesson names, and the whole kernel keeps every law.
+  lessonRuns() {
+    for (const { lesson, plan, rule, breaks, schedule } of this.lessons) {
+      const text = read(`plans/${plan}.toml`), steps = schedule ?? this.scheduleIn(text), broken = this.session(text, steps, rule), step = broken.firstBroken();
+      is(`lesson ${lesson} breaks`, step > 0 && broken.run.cell('broken', step).includes(breaks));
+      is(`lesson ${lesson} stands with its rule`, this.session(text, steps).firstBroken() === -1);
+    }
+  }
+}
+
+// Says what of a run the model in web/page/ tells otherwise than a record of plans/record.py, or undefined. It is run beside the page's scripts.
+function firstOther(text, told, scripts) {
+  const { RunRecord, Run, planOf, stepsOf, readSchedule } = scripts, same = (x, y) => JSON.stringify(x) === JSON.stringify(y);
+  const record = new RunRecord(planOf(text), told.wrong, { places: told.places, rules: { [told.wrong]: told.rule } }), theirs = new Run(told), mine = new Run(record.frame);
+  for (const c of stepsOf(readSchedule(told.schedule).items)) mine.grow(record.step(c));
+  const other = ['cpus', 'lock', 'capacities', 'threads', 'laws', 'names', 'boot'].find(key => !same(told[key], record.frame[key]));
+  const step = theirs.states.findIndex(({ cells, changed }, at) => !same(cells, mine.states[at].cells) || !same([...changed].sort(), [...mine.states[at].changed].sort())
+    || !same(theirs.steps[at]?.slice(0, 4), mine.steps[at]?.slice(0, 4)));
+  return other ?? (step < 0 ? undefined : `step ${step}`);
+}
+
+// The model tells the same cells as plans/kernel.py, with each rule and without it.
+function modelCells() {
+  const scripts = sources(ROOT)('({ RunRecord, Run, planOf, stepsOf, readSchedule })'), told = spawnSync('python3', [join(ROOT, 'web/records.py')], { encoding: 'utf8', maxBuffer: 1 << 29 });
+  if (told.status !== 0) throw new Error(`web/records.py: ${told.stderr}`);
+  for (const line of told.stdout.trimEnd().split('\n')) {
+    const [name, text, record] = JSON.parse(line), other = firstOther(text, record, scripts);
+    is(`the cells of ${name} without ${record.wrong}: ${other}`, other === undefined);
+  }
+}
+
+async function main() {
+  const words = process.argv.slice(2), many = words[0] === '--many' ? Number(words[1]) : 1;
+  if (words.includes('--help') || !(many >= 1)) {
+    console.log(readFileSync(fileURLToPath(import.meta.url), 'utf8').split('\n').slice(1).filter((line, i, all) => all.slice(0, i + 1).every(one => one.startsWith('//'))).map(line => line.slice(3)).join('\n'));
+    process.exit(words.includes('--help') ? 0 : 2);
+  }
+  if (!existsSync(NATIVE)) throw new Error(`build the program first: there is none at ${NATIVE}`);
+  const folder = mkdtempSync(join(tmpdir(), 'web-test-')), page = await taken(join(ROOT, 'web/tower.html')), held = new Held(page);
+  try {
+    held.storedRuns();
+    held.randomRuns(folder, many);
+    held.damagedRuns(many);
+    held.places();
+    held.modelRuns();
+    held.lessonRuns();
+    modelCells();
+  } finally {
+    rmSync(folder, { recursive: true });
+  }
+  console.log(`page: its program is of commit ${page.facts.program.commit.slice(0, 12)}`);
+  console.log(`page: ${passed} passed, ${failed} failed`);
+  process.exitCode = failed === 0 && passed > 0 ? 0 : 1;
+}
+
+main().catch(fault => {
+  console.log(`page: ${fault.message}`);
+  process.exitCode = 1;
+});
