@@ -90,6 +90,15 @@ def hold_run(to, what, plan, schedule):
         to.hold(f"{what} by kernel.py", case, came, (status, out, err))
 
 
+def odd_lines(to):
+    """Holds a right plan with each odd value, and with each odd line in front and behind."""
+    for value in damaged.ODD_VALUES:
+        hold_run(to, "odd lines", f"extra = {value}\n{mistakes.PLAN}".encode(), "0*6")
+    for line in damaged.ODD_LINES:
+        hold_run(to, "odd lines", f"{line}\n{mistakes.PLAN}".encode(), "0*6")
+        hold_run(to, "odd lines", f"{mistakes.PLAN}{line}\n".encode(), "0*6")
+
+
 def plans(to, pick, many):
     for _ in range(many):
         plan = damaged.often(pick, damaged.near_a_plan, damaged.some_plan(pick), [0, 1, 1, 1, 2, 3])
@@ -189,6 +198,7 @@ def main(words):
     with tempfile.TemporaryDirectory() as folder:
         to, pick = Comparisons(program, Path(folder)), random.Random(1)
         told_mistakes(to)
+        odd_lines(to)
         command_lines(to)
         in_rounds(to)
         plans(to, pick, many["plans"])
