@@ -9,6 +9,7 @@
 # The kinds of steps: `calls`, where each thread sends, receives and yields in turn, at a buffer that is its CPU's alone; `yields`, where
 # each only yields; `idle`, where all wait at an empty buffer and the CPUs look for who is sent home; `last`, where the steps are all of a
 # CPU whose one thread has the last number, and waits; `ended`, where all threads have ended and no step is taken any more.
+if [ "${1:-}" = --help ]; then sed -n '2,/^[^#]/ s/^# \{0,1\}//p' "$0"; exit; fi
 set -eu
 export LC_ALL=C
 cd "$(dirname "$0")/.."

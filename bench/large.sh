@@ -3,6 +3,7 @@
 # ten times as large the second time, so that a cost that is not in proportion shows.
 #
 #   bench/large.sh [PROGRAM]
+if [ "${1:-}" = --help ]; then sed -n '2,/^[^#]/ s/^# \{0,1\}//p' "$0"; exit; fi
 set -eu
 export LC_ALL=C
 cd "$(dirname "$0")/.."

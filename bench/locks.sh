@@ -6,6 +6,7 @@
 # Build first: (cd crates/mctower && rt run -- count --cpus 1 --times 1).
 #
 #   bench/locks.sh [TURNS]
+if [ "${1:-}" = --help ]; then sed -n '2,/^[^#]/ s/^# \{0,1\}//p' "$0"; exit; fi
 set -eu
 export LC_ALL=C
 cd "$(dirname "$0")"

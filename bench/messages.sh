@@ -10,6 +10,7 @@
 # MESSAGES go through each buffer, at most 65,536 (5,000 where nothing is said); a buffer holds CAPACITY (32). LOCK is the plan's key,
 # `ticket` or `grant` (grant). It takes at most a minute for each number of buffers. Threads that wait for each other are measured on a
 # quiet machine, or ahead of all other work: chrt --rr 1 bench/messages.sh. Build first: (cd crates/mctower && rt run -- count --cpus 1 --times 1).
+if [ "${1:-}" = --help ]; then sed -n '2,/^[^#]/ s/^# \{0,1\}//p' "$0"; exit; fi
 set -eu
 cd "$(dirname "$0")"
 . ./measure.sh

@@ -3,11 +3,12 @@
 # ratios (the plain program's time divided by ours), of the medians and of all turns together, the medians, and the peak
 # memory of both. It takes no argument and less than three minutes; the machine should be quiet.
 # Build first: (cd crates/mctower && rt run -- count --cpus 1 --times 1).
+if [ "${1:-}" = --help ]; then sed -n '2,/^[^#]/ s/^# \{0,1\}//p' "$0"; exit; fi
 set -eu
 cd "$(dirname "$0")"
 . ./measure.sh
-for name in tower check count; do rustc -O -o "$work/plain_$name" "plain_$name.rs"; done
-./make_plan.sh > "$work/plan"; ./make_plan.sh through > "$work/through"; ./make_schedule.sh > "$work/schedule"; ./make_trace.sh > "$work/trace"; : > "$work/nothing"
+for plain in ../tests/plain_tower ../tests/plain_check plain_count; do rustc -O -o "$work/${plain##*/}" "$plain.rs"; done
+./make.py plan > "$work/plan"; ./make.py plan through > "$work/through"; ./make.py schedule > "$work/schedule"; ./make.py trace > "$work/trace"; : > "$work/nothing"
 
 schedule=$(cat "$work/schedule")
 mine=("$ours" run --schedule "$schedule")

@@ -5,7 +5,7 @@
 const escaped = text => String(text).replace(/[&<>"]/g, sign => ({"&": "&amp;", "<": "&lt;", ">": "&gt;", '"': "&quot;"})[sign]);
 const counted = count => [...Array(count).keys()];
 
-// --- a run: the states that its record tells, by step, from none on. A cell that a record has not is undefined, and is not shown.
+// --- a run: the states that its record tells, by step, from none on
 class Run {
   constructor(record) {
     this.record = record;
@@ -139,19 +139,11 @@ function partInWords(seen, {cpu, word, part, entry}) {
   return {first: EDITS[word](seen), small: edits};
 }
 
-// A step of which only the places and the entry are known.
-function thinInWords(run, at, {entry}) {
-  if (entry) return {first: EFFECTS[entry[2]](entry[1], entry[3], entry[4]), small: "takes effect", effect: true};
-  const moved = counted(run.record.threads.length).filter(t => run.changed(`t${t}.place`, at)).map(t => `thread ${t}: ${placed(run, run.place(t, at)).meaning}`);
-  return {first: moved.join("; ") || "goes on", small: moved.length ? "" : "no thread changes its place"};
-}
-
 // The words of step `at`: who acts, one sentence on what was done, the mechanics in small, and whether a call took effect.
 function wordsOf(run, at) {
   if (at === 0) return {who: "", first: "Before the first step", small: "each thread is ready at its home CPU"};
-  const step = run.step(at), who = `CPU ${step.cpu}` + (["", "alone", "thin"].includes(step.part) ? "" : ` ${step.word}`);
+  const step = run.step(at), who = `CPU ${step.cpu}` + (["", "alone"].includes(step.part) ? "" : ` ${step.word}`);
   if (step.part === "") return {who, first: "takes no step", small: run.cell(`c${step.cpu}.state`, at)};
-  if (step.part === "thin") return {who, effect: false, ...thinInWords(run, at, step)};
   const seen = scene(run, at);
   return {who, effect: false, ...(step.part === "alone" ? aloneInWords(seen, step) : partInWords(seen, step))};
 }
@@ -207,7 +199,7 @@ function threadLane(run, t, y, {from, to, each, x}) {
   return svgText(0, y + 16, `thread ${t}`, 14, 'class="bold"') + bars.join("");
 }
 
-const PARTS = {draws: ["+", "takes a ticket"], misses: ["…", "looks in vain"], enters: ["", "enters"], ends: ["", "edits and leaves"], alone: ["", "a step alone"], thin: ["", "a step"]};
+const PARTS = {draws: ["+", "takes a ticket"], misses: ["…", "looks in vain"], enters: ["", "enters"], ends: ["", "edits and leaves"], alone: ["", "a step alone"]};
 function cpuLane(run, c, y, {from, to, each, x}) {
   const own = counted(to - from).map(i => from + i + 1).filter(at => run.step(at).cpu === c && run.step(at).part !== "");
   const boxes = own.map(at => {
@@ -290,16 +282,15 @@ function lockRow(run, at, name) {
 // One row of threads of a CPU's card.
 function slot(run, at, name, key, place) {
   const value = run.cell(key, at);
-  if (value === undefined) return "";
   const threads = value === null ? [] : Array.isArray(value) ? value : [value];
   return `<span class="${isNew(run, at, key)}"><i>${name}</i> ${chips(run, threads, place) || none}</span>`;
 }
 function cpuCard(run, at, c, buttons) {
   const cell = name => run.cell(`c${c}.${name}`, at), section = cell("section"), acts = at > 0 && run.step(at).cpu === c;
   const does = section ? `<b>${escaped(section)}</b>&nbsp;${cell("doing") === "inside" ? "inside" : "waits for its turn"}`
-    : cell("state") !== "live" ? `<b>${cell("state")}</b>` : section === undefined ? "live" : '<span class="none">between sections</span>';
+    : cell("state") !== "live" ? `<b>${cell("state")}</b>` : '<span class="none">between sections</span>';
   const slots = slot(run, at, "runs", `c${c}.current`, "Running") + slot(run, at, "ready", `c${c}.ready`, "Ready") + slot(run, at, "hand", `c${c}.hand`, "Hand")
-    + slot(run, at, "pending", `c${c}.pending`, "Pending"), ended = (cell("ended") || []).length ? slot(run, at, "ended", `c${c}.ended`, "Ended") : "";
+    + slot(run, at, "pending", `c${c}.pending`, "Pending"), ended = cell("ended").length ? slot(run, at, "ended", `c${c}.ended`, "Ended") : "";
   const busy = run.lock("pending" + c, at).line.length || isNew(run, at, "pending" + c);
   return `<div class="card${acts ? " acts" : ""}"><h3>CPU ${c} <small>${proved(run)}</small>${buttons(c)}</h3>`
     + `<div class="slots"><span class="${isNew(run, at, `c${c}.section`, `c${c}.doing`, `c${c}.state`)}">${does}</span>${ended}</div><div class="slots">${slots}</div>`
@@ -319,19 +310,19 @@ function boxesOf(items, capacity) {
 function sideRows(run, at, b, side, queue, place) {
   const line = run.cell(`b${b}.${side}`, at), waiters = run.cell(`b${b}.${queue}`, at), words = {receive: "wait to receive", send: "wait to send"}[side];
   const fresh = isNew(run, at, `b${b}.${side}`), also = isNew(run, at, `b${b}.${queue}`);
-  return (line && (line.length || fresh || run.record.capacities.length < 2) ? row(`${side} line`, line.map(([t, position]) => mention(t, position)).join(""), fresh) : "")
-    + (waiters && (waiters.length || also) ? row(words, chips(run, waiters, place), also) : "");
+  return (line.length || fresh || run.record.capacities.length < 2 ? row(`${side} line`, line.map(([t, position]) => mention(t, position)).join(""), fresh) : "")
+    + (waiters.length || also ? row(words, chips(run, waiters, place), also) : "");
 }
 function bufferCard(run, at, b) {
   const cell = name => run.cell(`b${b}.${name}`, at), fresh = name => isNew(run, at, `b${b}.${name}`), lock = "buffer" + b;
   const closed = cell("closed") ? `<span class="tag${fresh("closed")}">closed</span>` : "";
-  const owner = cell("owner") === undefined ? "" : row("owner", cell("owner") === null ? '<span class="none">free</span>' : mention(cell("owner")), fresh("owner"));
-  const asleep = cell("sleepers") && (cell("sleepers").length || fresh("sleepers")) ? row("asleep for it", chips(run, cell("sleepers"), "LockSleeper"), fresh("sleepers")) : "";
+  const owner = row("owner", cell("owner") === null ? '<span class="none">free</span>' : mention(cell("owner")), fresh("owner"));
+  const asleep = cell("sleepers").length || fresh("sleepers") ? row("asleep for it", chips(run, cell("sleepers"), "LockSleeper"), fresh("sleepers")) : "";
   const few = run.record.capacities.length < 3 || run.lock(lock, at).line.length || isNew(run, at, lock);
   const holds = `<dt>holds</dt><dd class="boxes${fresh("items")}">${boxesOf(cell("items"), run.record.capacities[b])}</dd>`;
   return `<div class="card"><h3>buffer ${b} <small>${proved(run)}</small> ${closed}</h3><dl>${holds}` + owner + asleep
     + sideRows(run, at, b, "receive", "receivers", "WaitRecv") + sideRows(run, at, b, "send", "senders", "WaitSend")
-    + (few && owner ? lockRow(run, at, lock) : "") + "</dl></div>";
+    + (few ? lockRow(run, at, lock) : "") + "</dl></div>";
 }
 function bufferCards(run, at) {
   return near(run, at, "b", run.record.capacities.length).map(b => bufferCard(run, at, b)).join("") + rest("b", run.record.capacities.length, "buffers");
@@ -350,19 +341,19 @@ function callPath(run, at, t) {
 }
 function programLines(run, at, t, most) {
   const program = run.record.threads[t].program, line = run.cell(`t${t}.line`, at), ended = run.place(t, at) === "Ended";
-  const top = line === undefined || program.length <= most ? 0 : Math.max(0, Math.min(line - 1, program.length - most));
+  const top = program.length <= most ? 0 : Math.max(0, Math.min(line - 1, program.length - most));
   const lines = program.slice(top, top + most).map((words, i) => `<li class="${i + top === line && !ended ? "at" : ""}">${String(i + top).padStart(2)} ${escaped(words)}</li>`);
   return `<ol class="program">${lines.join("")}${line >= program.length && !ended ? '<li class="at">   (end)</li>' : ""}</ol>`;
 }
 function registersOf(run, at, t) {
-  const values = run.cell(`t${t}.registers`, at) || [], old = run.cell(`t${t}.registers`, Math.max(0, at - 1)) || [];
+  const values = run.cell(`t${t}.registers`, at), old = run.cell(`t${t}.registers`, Math.max(0, at - 1));
   const shown = values.map((value, r) => value !== "0" || value !== old[r] ? `<span class="${value !== old[r] ? "new" : ""}">r${r}=${value}</span>` : "");
   return `<div class="registers">${shown.join("")}</div>`;
 }
 function threadCard(run, at, t, many) {
   const {name, meaning} = placed(run, run.place(t, at)), fresh = isNew(run, at, `t${t}.place`);
   const most = name === "Ended" && many > 2 && !fresh ? 0 : many > 2 ? 3 : 8;
-  return `<div class="card"><h3><span class="t ${name}">t${t}</span> <span class="${fresh}">${meaning.replace(/ (from|to) buffer \d+$/, "")}</span> `
+  return `<div class="card"><h3><span class="t ${name}">t${t}</span> <span class="${fresh}">${meaning.replace(/ (from|to) buffer \d+$| at its home$/, "")}</span> `
     + `<small>${proved(run)} home ${run.record.threads[t].home}</small></h3>${programLines(run, at, t, most)}${callPath(run, at, t)}${registersOf(run, at, t)}</div>`;
 }
 function threadCards(run, at) {
@@ -388,7 +379,6 @@ function quietLine(run, at) {
 }
 function lawList(run, at) {
   const broken = run.cell("broken", at);
-  if (broken === undefined) return "";
   return '<h2>Promised of each state</h2><ul class="laws">' + run.record.laws.map(law => broken.includes(law)
     ? `<li class="broken">✘ BROKEN: ${escaped(law)}</li>` : `<li>✔ ${escaped(law)}</li>`).join("") + "</ul>";
 }

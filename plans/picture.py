@@ -145,7 +145,7 @@ def main(words):
         sys.stderr.write(refusal.told(path))
         return refusal.status
     if not program_is_there():
-        sys.exit(f"picture: there is no program at {PROGRAM}: build it with bench/prove-all.py, or name one by MCTOWER")
+        sys.exit(f"picture: there is no program at {PROGRAM}: build it with tools/prove-all.py, or name one by MCTOWER")
     steps = steps_of(schedule or "")
     told, printed = record(plan, steps)
     try:

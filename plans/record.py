@@ -16,7 +16,7 @@ from reading import read_plan as plan_of
 from schedules import schedule_of
 
 PROGRAM = os.environ.get("MCTOWER", str(Path(__file__).resolve().parent.parent / "crates/mctower/out/mctower"))
-WORKERS = 2
+WORKERS = 4
 
 # Each place of a thread: its letter, its colour, the colour of a text on it, and what it means; N stands for the number in the place.
 PLACES = {

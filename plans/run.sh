@@ -11,7 +11,7 @@ plan=$1 wanted=${MCTOWER:-mctower} status=0
 words=$(sed -n 's/^# *mctower \(.*\) < .*/\1/p' "$plan" | head -n 1)
 [ -n "$words" ] || refuse "$plan has no line with its command: write one as in plans/one-send.toml"
 program=$(type -P -- "$wanted") ||
-  refuse "there is no program $wanted: build it with bench/prove-all.py and put crates/mctower/out on the PATH, or name one by MCTOWER"
+  refuse "there is no program $wanted: build it with tools/prove-all.py and put crates/mctower/out on the PATH, or name one by MCTOWER"
 eval "set -- $words"
 "$program" "$@" < "$plan" || status=$?
 if [ "$status" != 0 ] && type -P python3 > /dev/null; then

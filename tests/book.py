@@ -1,8 +1,9 @@
 #!/usr/bin/env python3
-"""Tries the book: runs every command of docs/book and compares what comes with what the page says, byte for byte; looks up
-each file, public name and clause that a page names, and each name of the repository in the other pages of docs; holds the plan and the
-output that README.md shows against the files; tries the patch of a third lock; draws each picture again; holds plans/kernel.py against what each plan is expected to
-print. .ci/run calls it; it takes about half a minute.
+"""Tries the book: runs every command of docs/book and compares what comes with what the page says, byte for byte; looks up each file,
+public name and clause that a page names, and each name of the repository in the other pages of docs; holds the plan and the output that
+README.md shows against the files, and its version against that of CHANGELOG.md and of the help; tries the patches of docs; draws each
+picture again; holds plans/kernel.py against what each plan is expected to print; builds and runs, with no proof, the crates that a page
+writes (`rt try`). .ci/run calls it; it takes two minutes of processor time, most of it to build.
 
     tests/book.py [--write] [PROGRAM]
     tests/book.py --names               looks up and holds, and runs nothing: it needs no program
@@ -11,17 +12,23 @@ A command is a line `$ ..` of a block marked `console`; the lines beneath it are
 together. Where a page is changed, --write puts what comes into the page and draws the pictures, to be read before it is kept.
 The last line is 'book: N passed, M failed'.
 """
+import argparse
 import os
 import re
+import shutil
 import subprocess
 import sys
+import tempfile
 from pathlib import Path
 
 ROOT = Path(__file__).resolve().parent.parent
 BOOK = ROOT / "docs/book"
 CRATES = [line.split(":")[0] for line in (ROOT / "crates.txt").read_text().splitlines() if ":" in line]
 BLOCK = re.compile(r"(?<=^```console\n)(.*?)(?=^```$)", re.M | re.S)
-FILE = re.compile(r"`((?:crates|plans|docs|tests|bench)/[\w./-]+)`")
+FILE = re.compile(r"`((?:crates|plans|docs|tests|tools|bench|web)/[\w./-]+)`")
+# A file that a page writes into a copy of the tree, and what a crate that is made so prints.
+WRITTEN = re.compile(r"^```\w+ (crates[\w/.]*)\n(.*?)^```$", re.M | re.S)
+TRIED = re.compile(r"^```try (\w+)\n(.*?)^```$", re.M | re.S)
 NAME = re.compile(r"(?:clause `(\w+)` of )?`(\w+)((?:::\w+)+)`")
 # Names that docs cite: the text between backticks, a fence left out, and what of it looks like a name of this tree.
 FENCE = re.compile(r"^```.*?^```", re.M | re.S)
@@ -104,8 +111,10 @@ def words_of_tree():
         files.append(name)
         path = ROOT / name
         words.update(part.split(".")[0] for part in name.split("/"))
-        if path.suffix in {".rt", ".antt", ".edit", ".py", ".sh", ".rs", ".toml"} and path.is_file():
-            words.update(re.findall(r"\w+", REMARK.sub("", path.read_text())))
+        if path.suffix in {".rt", ".antt", ".edit", ".py", ".sh", ".rs", ".toml", ".patch"} and path.is_file():
+            text = path.read_text()
+            words.update(re.findall(r"\w+", REMARK.sub("", text)))
+            files.extend(re.findall(r"^\+\+\+ b/(.*)$", text, re.M) if path.suffix == ".patch" else [])
     return words, files
 
 
@@ -156,20 +165,62 @@ def first_minute(faults):
     return 2
 
 
+def version(faults):
+    """Looks whether README.md, CHANGELOG.md and the help tell one version; tells how many that were."""
+    told = re.findall(r"This is version ([\d.]+\d)", (ROOT / "README.md").read_text())
+    told += re.findall(r"^## ([\d.]+)$", (ROOT / "CHANGELOG.md").read_text(), re.M)[:1]
+    told += re.findall(r'VERSION: &str = "([\d.]+)"', (ROOT / "crates/mctower/src/help.rt").read_text())
+    if len(told) < 2 or len(set(told)) != 1:
+        faults.append(f"README.md, CHANGELOG.md and the help tell the versions {', '.join(told)}")
+    return len(told)
+
+
 def patched(faults):
-    """Tries whether the patch of a third lock goes onto the tree as it stands; tells how many patches that were."""
-    ran = subprocess.run(["git", "apply", "--check", "docs/third-lock.patch"], cwd=ROOT, stdout=subprocess.PIPE, stderr=subprocess.STDOUT, text=True)
-    if ran.returncode:
-        faults.append(f"docs/third-lock.patch does not go onto the tree: {ran.stdout[:200]}")
-    return 1
+    """Tries whether each patch of docs goes onto the tree as it stands; tells how many patches that were."""
+    patches = sorted(ROOT.glob("docs/*.patch"))
+    for patch in patches:
+        ran = subprocess.run(["git", "apply", "--check", patch], cwd=ROOT, stdout=subprocess.PIPE, stderr=subprocess.STDOUT, text=True)
+        if ran.returncode:
+            faults.append(f"{patch.relative_to(ROOT)} does not go onto the tree: {ran.stdout[:200]}")
+    return len(patches)
 
 
 def names(faults):
     """Looks up what all pages cite, which needs no program; tells how much that was."""
     words, files = words_of_tree()
-    pages = [ROOT / "README.md", *ROOT.glob("plans/*.md"), *ROOT.glob("docs/*.md"), *ROOT.glob("docs/spec/*.md"), *BOOK.glob("*.md")]
+    pages = [*ROOT.glob("*.md"), *ROOT.glob("plans/*.md"), *ROOT.glob("docs/*.md"), *ROOT.glob("docs/spec/*.md"), *ROOT.glob("docs/notes/*.md"), *BOOK.glob("*.md")]
     count = sum(cited(page, words, files, faults) for page in sorted(pages))
-    return count + sum(looked_up(page, faults) for page in sorted(BOOK.glob("*.md"))) + first_minute(faults) + patched(faults)
+    return count + sum(looked_up(page, faults) for page in sorted(BOOK.glob("*.md"))) + first_minute(faults) + version(faults) + patched(faults)
+
+
+def copied(room, files):
+    """Puts a copy of the tree's crates into a folder, with these files; lines for crates.txt go behind its own."""
+    names = subprocess.run(["git", "ls-files", "-co", "--exclude-standard", "crates", "crates.txt", "HANDLES"], cwd=ROOT, stdout=subprocess.PIPE, text=True, check=True)
+    for name in filter(lambda it: (ROOT / it).is_file(), names.stdout.splitlines()):
+        (room / name).parent.mkdir(parents=True, exist_ok=True)
+        shutil.copy(ROOT / name, room / name)
+    for name, text in files:
+        (room / name).parent.mkdir(parents=True, exist_ok=True)
+        with open(room / name, "a" if name == "crates.txt" else "w") as file:
+            file.write(text)
+
+
+def built(page, faults):
+    """Builds and runs, with no proof, each crate that a page writes; tells how many that were."""
+    text = page.read_text()
+    tries = TRIED.findall(text)
+    for crate, wanted in tries:
+        with tempfile.TemporaryDirectory() as name:
+            room = Path(name)
+            copied(room, WRITTEN.findall(text))
+            cases = room / "cases"
+            cases.mkdir()
+            for end, case in (("", ""), (".args", ""), (".stdout", wanted)):
+                (cases / f"one{end}").write_text(case)
+            ran = subprocess.run(["rt", "try", crate, "--cases", str(cases)], cwd=room / "crates" / crate, stdout=subprocess.PIPE, stderr=subprocess.STDOUT, text=True)
+        if ran.returncode:
+            faults.append(f"{page.name}: the crate {crate} does not print what the page says: {ran.stdout[-600:]}")
+    return len(tries)
 
 
 def drawn(picture, program, write, faults):
@@ -192,7 +243,7 @@ def runs(program, write, faults):
     """What needs the built program: each command of the book, its pictures, and each plan by plans/kernel.py."""
     count = 0
     for page in sorted(BOOK.glob("*.md")):
-        count += tried(page, program, write, faults)
+        count += tried(page, program, write, faults) + built(page, faults)
     for picture in sorted((BOOK / "pictures").glob("*.svg")):
         count += 1
         drawn(picture, program, write, faults)
@@ -202,13 +253,17 @@ def runs(program, write, faults):
     return count
 
 
-def main(words):
-    named = [word for word in words if not word.startswith("--")]
-    program = Path(named[0] if named else ROOT / "crates/mctower/out/mctower").resolve()
+def main():
+    read = argparse.ArgumentParser(description=__doc__, formatter_class=argparse.RawDescriptionHelpFormatter)
+    read.add_argument("--write", action="store_true")
+    read.add_argument("--names", action="store_true")
+    read.add_argument("program", nargs="?", default=ROOT / "crates/mctower/out/mctower", metavar="PROGRAM")
+    given = read.parse_args()
+    program = Path(given.program).resolve()
     faults = []
     count = names(faults)
-    if "--names" not in words:
-        count += runs(program, "--write" in words, faults)
+    if not given.names:
+        count += runs(program, given.write, faults)
     for fault in faults:
         print("book:", fault)
     print(f"book: {count - len(faults)} passed, {len(faults)} failed")
@@ -216,4 +271,4 @@ def main(words):
 
 
 if __name__ == "__main__":
-    sys.exit(main(sys.argv[1:]))
+    sys.exit(main())

@@ -82,7 +82,7 @@ class Browser:
         self.call("Page.navigate", url=url)
         self.wait("document.readyState === 'complete' && location.href !== 'about:blank'")
 
-    def wait(self, code, seconds=10):
+    def wait(self, code, seconds=60):
         """Waits until an expression is true in the page."""
         end = time.monotonic() + seconds
         while not self.read(code):

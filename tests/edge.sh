@@ -5,6 +5,7 @@
 #   tests/edge.sh [PROGRAM..]
 #
 # Without a name it runs each build of mctower that `rt ci` or `rt run` left. The last line is 'edge: N passed, M failed'.
+if [ "${1:-}" = --help ]; then sed -n '2,/^[^#]/ s/^# \{0,1\}//p' "$0"; exit; fi
 set -u
 export LC_ALL=C
 cd "$(dirname "$0")/.."
@@ -14,13 +15,13 @@ passed=0
 failed=0
 
 # Runs a command line with at most 20 seconds, or as many as `patience` says: $1 is the wanted status, $2 the wanted output and $3 what is wanted on standard
-# error, where '~TEXT' is any text that begins so; the rest is the command line, a shell's, in which `mctower` is the program.
+# error, where for both '~TEXT' is any text that begins so; the rest is the command line, a shell's, in which `mctower` is the program.
 row() {
   local status=0 out err
   bash -c "mctower() { timeout ${patience:-20} '$program' \"\$@\"; }; $4" > "$room/out" 2> "$room/err" || status=$?
   out=$(cat "$room/out"; echo .)
   err=$(cat "$room/err"; echo .)
-  if [ "$status" = "$1" ] && [ "$out" = "$2." ] && is "$3" "${err%.}"; then
+  if [ "$status" = "$1" ] && is "$2" "${out%.}" && is "$3" "${err%.}"; then
     passed=$((passed + 1))
   else
     failed=$((failed + 1))
@@ -38,6 +39,7 @@ state=$'cpu 0 AllEnded\nthread 0 Ended\nquiet yes\n'
 one_stack='ulimit -s 1000000; ulimit -v 1500000'
 takes='mctower-trace 1\nbuffers 1\ncap 0 2\ne 0 0 recv 0 7 0 0\nleft 0\nend\n'
 before=$'mctower-trace 1\nbuffers 1\ncap 0 1\nleft 0\nend\n'
+version=$'mctower 0.4.0\n'
 waits=$'cpu 0 live\nthread 0 Ready(0)\nquiet no\n'
 # a run whose third entry takes from an empty buffer
 empty='mctower-trace 1\nbuffers 1\ncap 0 2\ne 0 0 send 0 7 0 0\ne 1 1 recv 0 7 1 0\ne 1 1 recv 0 8 2 1\ne 0 0 send 0 8 3 1\nleft 0\nend\n'
@@ -54,6 +56,27 @@ refused() {
 # The plan of one send, two threads that end at once, and the lines $2: `run` refuses it by the line `error: $1`, with status 1.
 refused_behind() {
   row 1 '' "error: $1"$'\n' "{ cat plans/one-send.toml; printf '[[thread]]\ncpu = 0\nprogram = [\"exit\"]\n%.0s' 1 2; printf '$2'; } | mctower run"
+}
+# The two lines of usage of the command $1, or of the whole program.
+usage() {
+  case $1 in
+    count) echo $'usage: mctower count --cpus N --times K [--lock L]\n       N is 1 to 16, K is 1 to 1000, L is ticket or grant; mctower count --help says more' ;;
+    run) echo $'usage: mctower run [--schedule S] < PLAN\n       the plan is read from standard input; mctower run --help says more' ;;
+    threads)
+      echo 'usage: mctower threads --turns N < PLAN'
+      echo '       N is 1 to 1000000000, the plan is read from standard input; mctower threads --help says more'
+      ;;
+    check) echo $'usage: mctower check < TEXT\n       the trace text is read from standard input; mctower check --help says more' ;;
+    *) echo $'usage: mctower count | run | threads | check, and its options\n       mctower --help says more, and mctower COMMAND --help of a command' ;;
+  esac
+}
+# The command line $1 is a bad one: by status 2 it is told that `error: $2` is wrong with it, and how its command $3 is used.
+bad_line() {
+  row 2 '' "error: $2"$'\n'"$(usage "${3-}")"$'\n' "$1"
+}
+# The command line $1 asks for help: that goes to standard output, behind the version, and begins with $2.
+helped() {
+  row 2 "~$version$2" '' "$1"
 }
 # The schedule $1 is none: told by status 2 and its line, before any input is read, so before a plan that is refused.
 no_schedule() {
@@ -103,20 +126,68 @@ rows() {
   row 0 "$sent" "$state" "mctower run --schedule '0*1048575,0' < plans/one-send.toml"
   no_cpu '7*1048576'
   no_cpu '7*1048575,3'
-  # a bad command line
-  row 2 '' '~mctower: ' 'mctower'
-  row 2 '' '~mctower: ' 'mctower --help'
-  row 2 '' '~mctower count' 'mctower count --help'
-  row 2 '' '~mctower run' 'mctower help run'
-  row 2 '' '~mctower threads' 'mctower threads'
-  row 2 '' '~mctower check' 'mctower check more'
-  row 2 '' '~mctower count' 'mctower count --cpus 0 --times 1'
-  row 2 '' '~mctower count' 'mctower count --cpus 17 --times 1'
-  row 2 '' '~mctower count' 'mctower count --cpus 2 --times 3 --lock mcs'
-  row 2 '' '~mctower threads' 'mctower threads < plans/one-send.toml'
-  row 2 '' '~mctower threads' 'mctower threads --turns 0 < plans/one-send.toml'
-  row 2 '' '~mctower threads' 'mctower threads --turns 1000000001 < plans/one-send.toml'
-  row 2 '' '~mctower: ' "mctower \$'\\xff'"
+  # help and the version that are asked for
+  helped 'mctower --help' $'A verified thread tower'
+  helped 'mctower -h' $'A verified thread tower'
+  helped 'mctower help' $'A verified thread tower'
+  helped 'mctower count --help' $'usage: mctower count --cpus N --times K [--lock L]\n\nEach of N CPUs (1 to 16) does K critical sections (1 to 1000)'
+  helped 'mctower help count' 'usage: mctower count '
+  helped 'mctower help run' 'usage: mctower run '
+  helped 'mctower run -h < .' 'usage: mctower run '
+  helped 'mctower threads --help' 'usage: mctower threads '
+  helped 'mctower check --help' 'usage: mctower check '
+  row 2 "$version" '' 'mctower --version'
+  row 2 "$version" '' 'mctower -V'
+  row 0 $'3\n' '' 'mctower run --help | grep -cE "trace .* 1 to 65536$|sendm b n .* 1 to 8$|plans/explain.py"'
+  row 1 '' $'error: WriteFault(8)\n' 'mctower --help > /dev/full'
+  # a bad command line: no command, one that is none, and a word that is no text
+  bad_line 'mctower' 'no command is given'
+  bad_line 'mctower rum' "unknown command: 'rum'; is 'run' meant?"
+  bad_line 'mctower xyz' "unknown command: 'xyz'"
+  bad_line 'mctower help rum' "unknown command: 'rum'"
+  bad_line "mctower ''" "unknown command: ''"
+  bad_line "mctower \$'\\xff'" 'a word is no UTF-8 text'
+  # a word or an option that the command has not
+  bad_line 'mctower run plans/one-send.toml' "unexpected argument: 'plans/one-send.toml'" run
+  bad_line 'mctower run plans/one-send.toml < /dev/null' "unexpected argument: 'plans/one-send.toml'" run
+  bad_line 'mctower check one-send.trace' "unexpected argument: 'one-send.trace'" check
+  bad_line 'mctower check more' "unexpected argument: 'more'" check
+  bad_line 'mctower run --scedule 0*21' "unexpected argument: '--scedule'; is '--schedule' meant?" run
+  bad_line 'mctower run --sched 0*21' "unexpected argument: '--sched'; is '--schedule' meant?" run
+  bad_line 'mctower run -s 0*21' "unexpected argument: '-s'" run
+  bad_line "mctower run \"--it's\"" "unexpected argument: '--it's'" run
+  bad_line 'mctower --schedule 0*21 run' "unexpected argument: '--schedule'; is 'run --schedule' meant?"
+  bad_line 'mctower -- run' "unexpected argument: 'run'"
+  bad_line 'mctower run --version' "unexpected argument: '--version'" run
+  bad_line 'mctower threads --turn 10 < plans/one-send.toml' "unexpected argument: '--turn'; is '--turns' meant?" threads
+  bad_line "mctower run $(printf 'a%.0s' {1..197})" 'unexpected argument..' run
+  bad_line "mctower run $(printf 'a%.0s' {1..196})" "unexpected argument: '$(printf 'a%.0s' {1..196})'" run
+  # an option twice, without its value, or with one that it does not take
+  bad_line 'mctower run --schedule 0 --schedule 0' "an option stands twice: '--schedule <schedule>'" run
+  bad_line 'mctower run --schedule' "an option has no value: '--schedule <schedule>'" run
+  bad_line 'mctower count --cpus --help' "an option has no value: '--cpus <cpus>'" count
+  bad_line 'mctower run --help=3' "an option takes no value: '3' for '--help'" run
+  # a needed option is missing
+  bad_line 'mctower threads' 'a needed option is missing: --turns <turns>' threads
+  bad_line 'mctower threads < plans/one-send.toml' 'a needed option is missing: --turns <turns>' threads
+  bad_line 'mctower count' 'a needed option is missing: --cpus <cpus> --times <times>' count
+  bad_line 'mctower count --cpus 2' 'a needed option is missing: --times <times>' count
+  # a value that its option does not take; the first that is wrong is told
+  bad_line 'mctower threads --turns 0 < plans/one-send.toml' '--turns 0: wanted 1 to 1000000000' threads
+  bad_line 'mctower threads --turns 1000000001 < plans/one-send.toml' '--turns 1000000001: wanted 1 to 1000000000' threads
+  bad_line 'mctower threads --turns 2000000000 < plans/one-send.toml' '--turns 2000000000: wanted 1 to 1000000000' threads
+  bad_line 'mctower threads --turns 99999999999999999999 < plans/one-send.toml' '--turns 99999999999999999999: wanted 1 to 1000000000' threads
+  bad_line 'mctower threads --turns 1e6 < plans/one-send.toml' '--turns 1e6: wanted 1 to 1000000000' threads
+  bad_line 'mctower threads --turns 1,000 < plans/one-send.toml' '--turns 1,000: wanted 1 to 1000000000' threads
+  bad_line "mctower threads --turns ''" '--turns : wanted 1 to 1000000000' threads
+  bad_line "mctower threads --turns \$'7\\n8'" '--turns 7: wanted 1 to 1000000000' threads
+  bad_line 'mctower count --cpus 0 --times 1' '--cpus 0: wanted 1 to 16' count
+  bad_line 'mctower count --cpus 17 --times 1' '--cpus 17: wanted 1 to 16' count
+  bad_line 'mctower count --cpus 17 --times 0' '--cpus 17: wanted 1 to 16' count
+  bad_line 'mctower count --cpus 2 --times 1001' '--times 1001: wanted 1 to 1000' count
+  bad_line 'mctower count --cpus 2 --times 0 --lock mcs' '--times 0: wanted 1 to 1000' count
+  bad_line 'mctower count --cpus 2 --times 3 --lock mcs' '--lock mcs: wanted ticket or grant' count
+  bad_line 'mctower count --cpus 2 --times 3 --lock Ticket' '--lock Ticket: wanted ticket or grant' count
   row 2 '' $'error: BadSchedule(9)\n' 'mctower run --schedule 0, < plans/one-send.toml'
   row 2 '' $'error: BadSchedule(9)\n' "mctower run --schedule '' < plans/one-send.toml"
   for schedule in '' , 0, ,0 0,,1 ' 0' '0 ' 00 01 256 a +1 -1 '0*' '*3' '0*0' '0*01' '0*1048577' '0*1048576,0' '7*1048576,3' '0*2*3' '0;1' \
@@ -229,7 +300,7 @@ rows() {
   # it is not read where the words do not ask for it
   row 0 $'plain 1\ntable 1\n' '' 'mctower count --cpus 1 --times 1 < .'
   row 2 '' $'error: BadSchedule(9)\n' 'mctower run --schedule x < .'
-  row 2 '' '~mctower threads' 'mctower threads --turns 0 < .'
+  bad_line 'mctower threads --turns 0 < .' '--turns 0: wanted 1 to 1000000000' threads
   # a full disk, and a reader that is gone
   row 1 '' $'error: WriteFault(8)\n' 'mctower count --cpus 1 --times 1 > /dev/full'
   row 1 '' $'error: WriteFault(8)\n' "$send > /dev/full"
@@ -240,7 +311,7 @@ rows() {
   row 1 '' $'error: WriteFault(8)\n' 'mctower count --cpus 1 --times 1 >&-'
   # the longest schedule where there is memory: eight CPUs, whose messages get through all sixteen buffers
   patience=60 row 0 $'yes\n35264\n' '~cpu 0 live' \
-    "bench/make_plan.sh through | mctower run --schedule \"\$(bench/make_schedule.sh)\" > '$room/long' && mctower check < '$room/long' && grep -c '^e ' '$room/long'"
+    "bench/make.py plan through | mctower run --schedule \"\$(bench/make.py schedule)\" > '$room/long' && mctower check < '$room/long' && grep -c '^e ' '$room/long'"
   # room for one thread's stack, and not for two; no room for the longest schedule
   row 0 $'plain 3\ntable 3\n' '' "$one_stack; mctower count --cpus 1 --times 3"
   row 1 '' $'error: NoThread(5)\n' "$one_stack; mctower count --cpus 2 --times 3"
@@ -287,15 +358,15 @@ mctower WriteFault(8)
 tracer NoMemory(1)
 tracer NoOrder(6)
 tracer WriteFault(8)'
-# What an error of the program says of itself, no run shows: the program tells each refusal by a text of `text_of`. So each error's own text
-# is held against the texts that stand there.
+# What an error of the program says of itself, no run shows: the program tells each refusal by a text of `write_report`. So each error's own
+# text is held against the texts that stand there.
 texts() {
   local text
   for text in $(errors | sed -n 's/^mctower //p'); do
     if grep -qF "\"error: $text\\n\"" crates/mctower/src/refusals.rt; then
       passed=$((passed + 1))
     else
-      failed=$((failed + 1)); echo "edge: an error says $text of itself, and text_of has no such text"
+      failed=$((failed + 1)); echo "edge: an error says $text of itself, and write_report has no such text"
     fi
   done
 }

@@ -8,6 +8,7 @@
 #   tests/faults.sh [PROGRAM]
 #
 # It wants the built program, and rustc. The last line is 'faults: N outcomes, M wrong'.
+if [ "${1:-}" = --help ]; then sed -n '2,/^[^#]/ s/^# \{0,1\}//p' "$0"; exit; fi
 set -u
 export LC_ALL=C
 cd "$(dirname "$0")/.."
@@ -17,7 +18,7 @@ PATH=$PATH:$HOME/.cargo/bin
 command -v rustc > /dev/null || { echo "faults: nothing was refused, since no rustc is here to build what refuses"; exit 1; }
 room=$(mktemp -d)
 trap 'rm -rf "$room"' EXIT
-rustc --edition 2024 -O -C panic=abort --crate-type cdylib -o "$room/librefuse.so" bench/refuse.rs || exit 1
+rustc --edition 2024 -O -C panic=abort --crate-type cdylib -o "$room/librefuse.so" tests/refuse.rs || exit 1
 outcomes=0
 wrong=0
 
@@ -125,6 +126,33 @@ command() {
 sent=$'mctower-trace 1\nbuffers 1\ncap 0 1\ne 0 0 send 0 7 0 0\nleft 0 7\nend\n'
 printf '%s' "$sent" > "$room/yes.txt"
 printf '%s' "${sent/left 0 7/left 0 8}" > "$room/no.txt"
+printf 'mctower-trace 1\nbuffers 1\ncap 0 2\ne 0 0 send 0 7 0 0\ne 1 1 recv 0 7 1 0\ne 1 1 recv 0 8 2 1\nleft 0\nend\n' > "$room/empty.txt"
+# Five buffers, threads and lines, so that each vector has to grow again; two threads of one CPU, and one of another; a plan and a program with a fault.
+cat > "$room/five.toml" << 'PLAN'
+cpus = 1
+trace = 4
+buffers = [1, 2, 3, 4, 5]
+lock = "ticket"
+thread = [
+    { cpu = 0, program = ["set r0 7", "send 0 r0", "yield", "jnz r0 0", "exit"] },
+    { cpu = 0, program = ["exit"] },
+    { cpu = 0, program = ["exit"] },
+    { cpu = 0, program = ["exit"] },
+    { cpu = 0, program = ["recv 4 r0"] },
+]
+PLAN
+cat > "$room/three.toml" << 'PLAN'
+cpus = 2
+trace = 4
+buffers = [1]
+thread = [
+    { cpu = 0, program = ["set r0 7", "send 0 r0"] },
+    { cpu = 1, program = ["recv 0 r0"] },
+    { cpu = 0, program = ["exit"] },
+]
+PLAN
+sed 's/^program.*/program = ["exit", "recv 1 r0"]/' plans/one-send.toml > "$room/no-buffer.toml"
+sed 's/^program.*/program = ["set r0 7", "jnz r0 3", "exit"]/' plans/one-send.toml > "$room/no-line.toml"
 printf 'mctower-trace 2\nbuffers 1\ncap 0 1\ne 1 1 close 0 - 0 0\ne 0 0 recvc 0 - 1 0\nleft 0\nend\n' > "$room/closed.txt"
 # Two CPUs that send and two that receive through one buffer: whose message comes first differs from run to run.
 {
@@ -135,11 +163,19 @@ printf 'mctower-trace 2\nbuffers 1\ncap 0 1\ne 1 1 close 0 - 0 0\ne 0 0 recvc 0 
 
 command no no /dev/null count --cpus 1 --times 5 --lock ticket
 command no no /dev/null count --cpus 2 --times 3
+command no no /dev/null count --cpus 17 --times 3
+command no no /dev/null run --scedule '0*21'
+command no no /dev/null check --help
 command yes no plans/one-send.toml run --schedule '0*21'
 command no no plans/one-send.toml run --schedule '0*'
 command yes no "$room/yes.txt" check
 command yes no "$room/no.txt" check
 command yes no "$room/closed.txt" check
+command no no "$room/empty.txt" check
+command no no "$room/five.toml" run
+command no no "$room/three.toml" run
+command no no "$room/no-buffer.toml" run
+command no no "$room/no-line.toml" run
 command no no tests/rows/closed-with-an-item.toml run --schedule '0*90'
 command no no tests/rows/there-and-back.toml run --schedule '0*32,1*60,0*60'
 # a build that does not serve `threads` takes it for a bad command line

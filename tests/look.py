@@ -183,17 +183,31 @@ def walks_alike(plain, pieces, choose, steps=150):
     return True
 
 
+FALSE_PROGRAM = f"""#!{sys.executable}
+import sys
+sys.path.insert(0, {str(ROOT / "plans")!r})
+from kernel import Kernel
+from reading import read_plan
+from schedules import steps_of
+system = Kernel(read_plan(sys.stdin.buffer.read()), "close-drops-the-items")
+for c in steps_of("".join(sys.argv[3:])):
+    system.step(c)
+sys.stdout.write(system.text())
+sys.stderr.write(system.states())
+"""
+
+
 def false_program(tally):
     """A program that is not the proved one gets no page, no picture and no word that it says the same."""
     with tempfile.TemporaryDirectory() as room:
         false = Path(room) / "mctower"
-        false.write_text(f"#!/bin/sh\nshift 2\nplan=$(mktemp) && cat > \"$plan\" && exec {sys.executable} {ROOT}/plans/kernel.py --wrong close-drops-the-items \"$plan\" \"$1\"\n")
+        false.write_text(FALSE_PROGRAM)
         false.chmod(0o755)
-        environment = {**os.environ, "MCTOWER": str(false), "TMPDIR": room}
+        environment = {**os.environ, "MCTOWER": str(false)}
         row = "tests/rows/closed-with-an-item.toml"
         for command in (["plans/explore.py", row, "0*26"], ["plans/explore.py", row, "--find", "effects 2"], ["plans/picture.py", row, "0*26"]):
             ran = subprocess.run([sys.executable, *command], cwd=ROOT, env=environment, capture_output=True, text=True, check=False)
-            says = f"after step 26 kernel.py and the proved program differ: kernel.py prints `left 0 7`, the proved program `left 0`"
+            says = "after step 26 kernel.py and the proved program differ: kernel.py prints `left 0 7`, the proved program `left 0`"
             tally.holds(ran.returncode == 1 and ran.stdout == "" and says in ran.stderr, f"{' '.join(command)} with a false program: {ran.returncode} {ran.stderr}")
 
 
@@ -214,7 +228,7 @@ NODE = """
 const {runs, kept} = JSON.parse(require("fs").readFileSync(0, "utf8")), said = {}, faults = [];
 for (const record of runs) {
   const run = new Run(record), steps = counted(run.length + 1), lines = steps.map(at => wordsOf(run, at));
-  if (kept.includes(record.plan) && !record.wrong) said[record.plan] = lines.map(({who, first, small}, at) => `${at} ${who}: ${first} (${small})`);
+  if (kept.includes(record.plan) && !record.wrong && !said[record.plan]) said[record.plan] = lines.map(({who, first, small}, at) => `${at} ${who}: ${first} (${small})`);
   for (const at of steps) {
     const cards = cpuCards(run, at) + bufferCards(run, at);
     const all = cards + threadCards(run, at) + orderTable(run, at) + lawList(run, at) + lanesOf(run, at, 1200, 0).svg + JSON.stringify(lines[at]);

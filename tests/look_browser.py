@@ -130,7 +130,7 @@ def clicks(checks):
     checks.holds("a click on an effect", checks.at(), [37, 118])
     browser.read("document.activeElement.blur()")
     browser.key(" ")
-    browser.wait("at === 39")
+    browser.wait("at >= 39")
     browser.key(" ")
     stopped = checks.at()
     time.sleep(1.2)

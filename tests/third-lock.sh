@@ -4,6 +4,7 @@
 # processor time, most of it to compile the copy.
 #
 #   tests/third-lock.sh
+if [ "${1:-}" = --help ]; then sed -n '2,/^[^#]/ s/^# \{0,1\}//p' "$0"; exit; fi
 set -euo pipefail
 cd "$(dirname "$0")/.."
 copy=$(mktemp -d); trap 'rm -rf "$copy"' EXIT

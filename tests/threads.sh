@@ -5,6 +5,7 @@
 #   tests/threads.sh [PROGRAM..]
 #
 # Without a name it runs each build of mctower that `rt ci` or `rt run` left. The last line is 'threads: N passed, M failed'.
+if [ "${1:-}" = --help ]; then sed -n '2,/^[^#]/ s/^# \{0,1\}//p' "$0"; exit; fi
 set -u
 export LC_ALL=C
 cd "$(dirname "$0")/.."

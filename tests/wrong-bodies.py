@@ -10,18 +10,22 @@ A wrong body is a file in the form of a must-fail edit, with a line before it th
     old: self.registers[register.number()]
     new: self.registers[0]
 
-Bodies of different functions are tried in ONE check of a copy of the crate. A body counts as refused only where its own function gets a line `not proved` or
-`no proof: ..`. A failed callee does not count: such a body, and one that got no verdict, is tried again in a later round, at last alone. What is still proved
-then fails by name. So does an edit that cannot be applied, names no function, or ends in no verdict, as for want of memory.
+Bodies of different functions are tried in ONE check of a copy of the crate: each round tries all bodies that are open, one a function. A body counts as refused
+only where its own function gets a line `not proved` or `no proof: ..`. Where that line names a callee that is not proved either, it counts only if a goal of the
+function's own is open too: the line names it, or an error stands in the function's own folder of proofs. A failed callee alone does not count: such a body stays
+open for the next round. After a round that judged none, the first open body is tried alone. What is still proved then fails by name. So does an edit that cannot be
+applied, names no function, or ends in no verdict, as for want of memory.
 
-tests/wrong-bodies.sums tells what was refused: for each body a sum of the kit's logic, of the crate's text, of the contracts and definitions of all beneath it,
-and of the body itself. Comments do not count, nor how imports are laid out, nor the bodies of other files' functions: a proof reads the contract of what it
-calls. A body whose sum stands there is not tried again; --all tries it all the same. This script alone writes the sums. --after-ci takes the libraries as
-`rt ci` left them, and takes the crates as proved; without it the libraries are built first, and each function has to be proved as it stands. The last line is 'N passed, M failed'.
+What was refused is kept on this machine, in the folder mctower-wrong-bodies of the user's cache ($XDG_CACHE_HOME, else ~/.cache), by sums alone: for each body one of
+the kit's logic, of the crate's text, of the contracts and definitions of all beneath it, and of the body itself. Comments do not count, nor how imports are laid
+out, nor the bodies of other files' functions: a proof reads the contract of what it calls. A body whose sum stands there is not tried again; --all tries it all the
+same. This script alone writes there. --after-ci takes the libraries as `rt ci` left them, and takes the crates as proved; without it the libraries are built first,
+and each function has to be proved as it stands. The last line is 'N passed, M failed'.
 """
 import argparse
 import dataclasses
 import hashlib
+import json
 import os
 import re
 import shutil
@@ -29,15 +33,22 @@ import subprocess
 import sys
 import tempfile
 import threading
+import time
 from concurrent.futures import ThreadPoolExecutor
 
 sys.dont_write_bytecode = True
 ROOT = os.path.dirname(os.path.dirname(os.path.realpath(__file__)))
-sys.path.append(f"{ROOT}/bench")
+sys.path.append(f"{ROOT}/tools")
 import kit  # noqa: E402
-SUMS = f"{ROOT}/tests/wrong-bodies.sums"
+KEPT = f"{os.environ.get('XDG_CACHE_HOME') or os.path.expanduser('~/.cache')}/mctower-wrong-bodies"
+KEPT_DAYS = 60
 PARTS = ("src", "specs", "proofs")
-REFUSED = re.compile(r"(not proved|no proof)(?!.*(it calls|it passes|a call of))")
+# A function's line that says that it is not proved, the words in it that only name a callee, and a goal in it that is the function's own.
+NOT_PROVED = re.compile(r"not proved|no proof")
+OF_A_CALLEE = re.compile(r"it calls|it passes|a call of")
+# The first words of a line that callers read.
+HEAD = re.compile(r"\s*(pub|fn|impl|trait|struct|enum|use|ghost|where|requires|ensures|\) ->)\b|\s*\) ->")
+OWN_GOAL = re.compile(r"`?search`? did not prove `[^`]+`")
 # A proof file that names what the edit took away, and a goal that the prover found open.
 STALE_NAME = re.compile(r"(?:note: )?(?:\./)?proofs/\S+:\d+:\d+: .*(has no |is not in scope|was not admitted)")
 OPEN_GOAL = re.compile(r"(?:note: )?(?:\./)?\S+:\d+:\d+: .*(is not proved|may be false|does not prove|error)")
@@ -57,6 +68,17 @@ def say(text):
         print(text, flush=True)
 
 
+def whole(lines):
+    """Returns what a check said with each message in one line: those that follow it, two columns in, belong to it."""
+    found = []
+    for it in lines:
+        if it.startswith("  ") and found:
+            found[-1] += it
+        else:
+            found.append(it)
+    return found
+
+
 @dataclasses.dataclass
 class Body:
     """One wrong body: where it stands, the function that it turns, and its pairs of a file, an old text and a new one."""
@@ -68,7 +90,7 @@ class Body:
     verdict: str = ""
     is_failure: bool = False
     is_weak: bool = False
-    tries: int = 0
+    rounds: int = 0
 
     def name(self):
         return f"{self.crate}/{os.path.basename(self.file)}"
@@ -76,6 +98,10 @@ class Body:
     def end(self, verdict, is_failure=False):
         self.verdict, self.is_failure = verdict, is_failure
         say(f"wrong-body {self.name()}: {'FAILED: ' if is_failure else ''}{verdict}")
+
+    def changes_a_head(self):
+        """Returns whether a pair changes what callers read: the head of a function or of an impl, or an import. Such a body is tried apart from others."""
+        return any(HEAD.match(old) and old.split("{")[0].strip() != new.split("{")[0].strip() for _, old, new in self.pairs)
 
     def read(self):
         """Reads the file, and returns why it is no wrong body, if it is none."""
@@ -111,8 +137,8 @@ class Body:
 class Trial:
     """The wrong bodies of one crate, tried over one folder of kept work."""
 
-    def __init__(self, lib, crate, bodies, after_ci, jobs, room):
-        self.lib, self.crate, self.bodies, self.after_ci, self.jobs, self.room = lib, crate, bodies, after_ci, jobs, room
+    def __init__(self, lib, crate, bodies, after_ci, jobs, room, judged):
+        self.lib, self.crate, self.bodies, self.after_ci, self.jobs, self.room, self.judged = lib, crate, bodies, after_ci, jobs, room, judged
         self.kept, self.rounds = f"{room}/kept", 0
         own = f"{crate.folder}/{lib.KEPT[1]}"
         shutil.copytree(own, self.kept) if os.path.isdir(own) else os.mkdir(self.kept)
@@ -145,8 +171,12 @@ class Trial:
                 it.end(f"BAD EDIT: {why}", True)
         if not self.after_ci:
             self.control()
+        is_alone = False
         while self.open():
-            self.round(self.chosen())
+            open_before = len(self.open())
+            self.round(self.open()[:1] if is_alone else self.chosen())
+            self.judged()
+            is_alone = len(self.open()) == open_before
 
     def open(self):
         return [it for it in self.bodies if not it.verdict]
@@ -163,16 +193,14 @@ class Trial:
                 it.end(f"its function is not proved as it stands: {said[:160]}", True)
 
     def chosen(self):
-        """Returns the bodies of the next round, one a function: all that were not tried yet, else the first of the others alone."""
-        fresh = [it for it in self.open() if it.tries == 0]
-        again = [it for it in self.open() if it.tries == 1]
+        """Returns the bodies of the next round: of each function the first that is open and can be put in beside the others."""
         found, functions, texts = [], set(), self.texts
-        for it in fresh or again or self.open()[:1]:
+        for it in [it for it in self.open() if not it.changes_a_head()]:
             changed, why = it.applied(texts)
             if not why and it.function not in functions:
                 found, texts = [*found, it], changed
                 functions.add(it.function)
-        return found
+        return found or self.open()[:1]
 
     def round(self, bodies):
         texts = self.texts
@@ -209,22 +237,30 @@ class Trial:
         return next((it[len(head) :] for it in lines if it.startswith(head)), None)
 
     def judge(self, body, lines, alone):
-        body.tries = 3 if alone else body.tries + 1
+        body.rounds += 1
         said = self.said_of(body, lines)
         if said is None:
             body.end(f"no line tells of {body.function}", True)
-        elif REFUSED.match(said):
+        elif NOT_PROVED.match(said) and (not OF_A_CALLEE.search(said) or self.has_own_goal(body, said, lines)):
             body.is_weak = self.is_weak(body, lines)
             weak = ", but only since a proof file names what it took away: change a value and keep the shape" if body.is_weak else ""
             body.end(f"refused{weak}: {said[:160]}")
         elif alone:
             body.end("NOT REFUSED: the function is still proved" if said.startswith("proved") else f"no verdict: {said[:160]}", True)
 
+    def has_own_goal(self, body, said, lines):
+        """Returns whether a goal of the body's own function is open, whatever became of what it calls: its line names the goal before any callee, or an error
+        stands in its own folder of proofs that is not about a name."""
+        if OWN_GOAL.search(said[: OF_A_CALLEE.search(said).start()]):
+            return True
+        folder = f"proofs/{body.function.replace('::', '/')}/"
+        return any(OPEN_GOAL.match(it) and folder in it.split(": ")[0] and not STALE_NAME.match(it) for it in whole(lines))
+
     def is_weak(self, body, lines):
         """Returns whether all that stands against the function is a proof file that no longer reads."""
         end = next(at for at, it in enumerate(lines) if it.startswith(f"fn {self.crate.name}::{body.function}: "))
         start = max((at + 1 for at, it in enumerate(lines[:end]) if re.match(r"(fn|impl|struct|enum|trait) ", it)), default=0)
-        told = [it for it in lines[start:end] if OPEN_GOAL.match(it) or STALE_NAME.match(it)]
+        told = [it for it in whole(lines[start:end]) if OPEN_GOAL.match(it) or STALE_NAME.match(it)]
         return bool(told) and all(STALE_NAME.match(it) for it in told)
 
 
@@ -310,10 +346,10 @@ def bodies_of(crate, folder):
     return found
 
 
-def try_crate(lib, crate, bodies, after_ci, jobs=1):
-    """Tries the wrong bodies of a crate whose libraries stand, with so many jobs a check, and returns how many checks that took."""
+def try_crate(lib, crate, bodies, after_ci, jobs=1, judged=lambda: None):
+    """Tries the wrong bodies of a crate whose libraries stand, with so many jobs a check, calls `judged` after each round, and returns how many checks that took."""
     with tempfile.TemporaryDirectory(prefix="wrong-bodies-") as room:
-        trial = Trial(lib, crate, bodies, after_ci, jobs, room)
+        trial = Trial(lib, crate, bodies, after_ci, jobs, room, judged)
         trial.run()
         return trial.rounds
 
@@ -332,19 +368,39 @@ def memory_lanes():
     return max(1, min(len(os.sched_getaffinity(0)), free // 5_000_000))
 
 
-def kept_sums():
-    if not os.path.exists(SUMS):
-        return {}
-    return dict(line.split() for line in open(SUMS) if line.strip())
+def known_of(total, body):
+    """Returns what an earlier run on this machine kept of this very body over this very text, or None."""
+    try:
+        with open(f"{KEPT}/{sum_with(total, body)}", encoding="utf-8") as it:
+            told = json.load(it)
+        return told if told["body"] == body.name() and told["verdict"].startswith("refused") else None
+    except (OSError, ValueError, KeyError, TypeError, AttributeError):
+        return None
 
 
-def keep_sums(crate, bodies, total):
-    """Writes the sums of the crate's bodies that were refused, in place of those that stood there."""
-    with printing:
-        sums = {name: made for name, made in kept_sums().items() if not name.startswith(f"{crate.name}/")}
-        sums.update({it.name(): sum_with(total, it) for it in bodies if it.verdict and not it.is_failure})
-        with open(SUMS, "w") as it:
-            it.writelines(f"{key} {value}\n" for key, value in sorted(sums.items()))
+def take_known(total, bodies):
+    """Gives each of these bodies that was refused before its verdict, and returns how many there are."""
+    found = [(it, told) for it in bodies if not it.verdict for told in [known_of(total, it)] if told]
+    for body, told in found:
+        body.verdict, body.is_weak = told["verdict"], told["weak"] is True
+    return len(found)
+
+
+def keep(total, bodies):
+    """Keeps that these bodies were refused: a file for each, written apart and then renamed, so that no other run reads half of it."""
+    os.makedirs(KEPT, 0o700, exist_ok=True)
+    for it in bodies:
+        if it.verdict and not it.is_failure:
+            with tempfile.NamedTemporaryFile("w", prefix="new-", dir=KEPT, delete=False, encoding="utf-8") as told:
+                json.dump({"body": it.name(), "verdict": it.verdict, "weak": it.is_weak}, told)
+            os.replace(told.name, f"{KEPT}/{sum_with(total, it)}")
+
+
+def forget_old():
+    """Removes what no run has written for so many days."""
+    for at in os.scandir(KEPT) if os.path.isdir(KEPT) else []:
+        if at.stat().st_mtime < time.time() - KEPT_DAYS * 86_400:
+            os.remove(at.path)
 
 
 # The words of the verdict that each edit of tests/wrong-bodies/ has to end in.
@@ -355,19 +411,38 @@ SELF_TEST = {
     "fails_its_old_text_is_missing": "0 times, and not once",
     "fails_its_old_text_stands_twice": "times, and not once",
     "fails_no_function_has_its_name": "there_is_no_such_function",
+    "fails_only_its_callee_is_wrong": "NOT REFUSED",
     "refused_look_tells_the_other_way": "refused: ",
+    "refused_the_callee": "refused: ",
+    "refused_the_callee_of_a_right_caller": "refused: ",
+    "refused_with_a_goal_of_its_own": "refused: ",
 }
+# Those of them that the first round has to judge, beside the others.
+AT_ONCE = ("refused_the_callee", "refused_with_a_goal_of_its_own")
+
+
+def ended(body, name, words):
+    """Returns whether a body of the self-test ended in these words, failed or refused as its name says, and in the first round where it has to."""
+    in_time = name not in AT_ONCE or (body.rounds == 1 and "it calls" in body.verdict) == (name == "refused_with_a_goal_of_its_own")
+    return words in body.verdict and body.is_failure == name.startswith("fails_") and in_time
+
+
+def lost_names():
+    """Returns the edits that docs/spec/wrong-bodies.md names and that stand nowhere."""
+    page = open(f"{ROOT}/docs/spec/wrong-bodies.md", encoding="utf-8").read()
+    return [it for it in re.findall(r"`(\w+/(?:wrong|must-fail)/\w+)`", page) if not os.path.isfile(f"{ROOT}/crates/{it}.edit")]
 
 
 def self_test(lib):
-    """Tries the edits of tests/wrong-bodies/, of which those that are named fails_* have to fail, each for its own reason, and the others to be refused."""
+    """Tries the edits of tests/wrong-bodies/, of which those that are named fails_* have to fail, each for its own reason, and the others to be refused. Each edit
+    that docs/spec/wrong-bodies.md names has to stand."""
     crate = next(it for it in lib.crates_below(ROOT) if it.name == "shared_queue")
     bodies = bodies_of(crate, f"{ROOT}/tests/wrong-bodies")
     build_beneath(lib, [crate], True)
     try_crate(lib, crate, bodies, True)
     of = {os.path.basename(it.file).removesuffix(".edit"): it for it in bodies}
-    right = [name for name, words in SELF_TEST.items() if name in of and words in of[name].verdict and of[name].is_failure == name.startswith("fails_")]
-    wrong = sorted((SELF_TEST.keys() | of.keys()) - set(right))
+    right = [name for name, words in SELF_TEST.items() if name in of and ended(of[name], name, words)]
+    wrong = sorted((SELF_TEST.keys() | of.keys()) - set(right)) + lost_names()
     say(f"wrong-bodies: its own test: {len(right)} ended as they must{''.join(f', {it} did not' for it in wrong)}")
     print(f"{len(right)} passed, {len(wrong)} failed")
     return 1 if wrong else 0
@@ -387,27 +462,26 @@ def main():
     if {*given.names} - {it.name for it in crates}:
         read.error(f"no crate is named {' '.join({*given.names} - {it.name for it in crates})}")
     of = {it: bodies_of(it, f"{it.folder}/wrong") for it in crates}
-    sums, total = kept_sums(), {it: sum_of(lib, it) for it in crates}
-    for crate in crates:
-        known = [] if given.all else [it for it in of[crate] if not it.verdict and sums.get(it.name()) == sum_with(total[crate], it)]
-        for it in known:
-            it.verdict = "refused before"
+    total = {it: sum_of(lib, it) for it in crates}
+    forget_old()
+    for crate in [] if given.all else crates:
+        known = take_known(total[crate], of[crate])
         if known:
-            say(f"wrong-bodies {crate.name}: {len(known)} of {len(of[crate])} were refused before, by their sums")
+            say(f"wrong-bodies {crate.name}: {known} of {len(of[crate])} were refused before on this machine, by their sums")
     due = [it for it in crates if any(not body.verdict for body in of[it])]
     build_beneath(lib, due, given.after_ci)
 
     def work(crate):
-        rounds = try_crate(lib, crate, of[crate], given.after_ci, max(1, given.jobs // len(due)))
-        keep_sums(crate, of[crate], total[crate])
-        return rounds
+        return try_crate(lib, crate, of[crate], given.after_ci, max(1, given.jobs // len(due)), lambda: keep(total[crate], of[crate]))
 
     with ThreadPoolExecutor(given.jobs) as pool:
         rounds = sum(pool.map(work, sorted(due, key=lambda it: -len(it.below()))))
     bodies = [it for mine in of.values() for it in mine]
     failed = sum(it.is_failure for it in bodies)
-    weak = sum(it.is_weak for it in bodies)
-    say(f"wrong-bodies: {len(bodies) - failed} refused, {weak} weak, {failed} failed, {rounds} rounds")
+    weak = [it for it in bodies if it.is_weak]
+    for it in weak:
+        say(f"wrong-bodies: only the shape of a proof refuses {it.name()}")
+    say(f"wrong-bodies: {len(bodies) - failed} refused, {len(weak)} weak, {failed} failed, {rounds} rounds")
     print(f"{len(bodies) - failed} passed, {failed} failed")
     return 1 if failed else 0
 

@@ -19,8 +19,6 @@ mod plans;
 mod refusals;
 mod tables;
 mod tasks;
-#[cfg(test)]
-mod tests;
 
 pub use locks::LockKind;
 pub use plans::Boot;

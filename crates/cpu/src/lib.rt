@@ -30,6 +30,3 @@ pub use laws::{
     tables_agree,
 };
 pub use systems::{BadCpu, System, guests_of, homes_of};
-
-#[cfg(test)]
-mod tests;

@@ -27,6 +27,32 @@ two_sections_are_legal : IsLegalWords two_sections
 two_sections_are_legal =
     ((1, refl), ((refl, refl), ((0, refl), ((refl, refl), ((refl, refl), ((omega arith, refl, refl), ((omega arith, refl, refl), tt)))))))
 
+-- the first CPU draws again while the second one is inside, and enters behind it
+third_section_is_legal : IsLegalWords {M = ℕ} (Look a lock 2 2 ∷ Free b lock 8 ∷ Draw a lock 2 ∷ Look b lock 1 1 ∷ Free a lock 9 ∷ Look b lock 1 0
+    ∷ Look a lock 0 0 ∷ Draw b lock 1 ∷ Draw a lock 0 ∷ [])
+third_section_is_legal = (
+  (refl, refl),
+  (
+    (1, refl),
+    (
+      (omega arith, refl, refl),
+      (
+        (refl, refl),
+        (
+          (0, refl),
+          (
+            (refl, refl),
+            (
+              (refl, refl),
+              ((omega arith, refl, refl), ((omega arith, refl, refl), tt)),
+            ),
+          ),
+        ),
+      ),
+    ),
+  ),
+)
+
 -- each section's edit appends its digit
 two_sections_edit_in_turn : block_after (λ digit block. 10 * block + digit) (λ l. Some 1) lock (sections_of (λ mark. mark) two_sections) ≡ Some 198
 two_sections_edit_in_turn = refl
@@ -76,3 +102,17 @@ peek_before_its_turn legal = omega (arith, legal.0.1)
 
 give_while_waiting : IsLegalGrants {M = ℕ} (Give a lock 9 ∷ Take a lock 0 ∷ []) → ⊥
 give_while_waiting legal = cc (legal.0.1)
+
+-- a log without an event, a CPU inside, two locks, each of which counts alone
+abbrev inside : List (Event ℕ)
+inside = Look a lock 0 0 ∷ Draw a lock 0 ∷ []
+
+more_are_legal : IsLegalWords {M = ℕ} [] × IsLegalWords inside
+    × IsLegalWords {M = ℕ} (Draw b lock 0 ∷ Draw a other 0 ∷ [])
+more_are_legal = (tt, ((refl, refl), ((omega arith, refl, refl), tt)), ((omega arith, refl, refl), ((omega arith, refl, refl), tt)))
+
+look_by_another : IsLegalWords {M = ℕ} (Look b lock 0 0 ∷ Draw a lock 0 ∷ []) → ⊥
+look_by_another legal = cc (legal.0.0)
+
+free_while_waiting : IsLegalWords {M = ℕ} (Free a lock 9 ∷ Draw a lock 0 ∷ []) → ⊥
+free_while_waiting legal = cc (legal.0.1)

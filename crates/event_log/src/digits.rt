@@ -62,27 +62,3 @@ pub fn number_has_one_spelling()
     ensures read_back { (most n : ℕ) → n < 2 ^ 64 → n ≤ most → number_to most (decimal n) ≡ Some n }
     ensures only { (most n : ℕ) (text : List ℕ) → most < 2 ^ 64 → number_to most text ≡ Some n → text ≡ decimal n }
 {}
-
-#[cfg(test)]
-mod tests {
-    use super::*;
-
-    #[test]
-    fn reads_the_largest_and_refuses_what_is_none(rt: HostRuntime) {
-        assert_eq!(rt; number_to(b"0", 0), Some(0));
-        assert_eq!(rt; number_to(b"15", 15), Some(15));
-        assert_eq!(rt; number_to(b"16", 15), None);
-        assert_eq!(rt;
-            number_to(b"18446744073709551615", u64::MAX),
-            Some(u64::MAX)
-        );
-        assert_eq!(rt; number_to(b"18446744073709551616", u64::MAX), None);
-        assert_eq!(rt; number_to(b"", 9), None);
-        assert_eq!(rt; number_to(b"00", 9), None);
-        assert_eq!(rt; number_to(b"07", 9), None);
-        assert_eq!(rt; number_to(b"+7", 9), None);
-        assert_eq!(rt; number_to(b"7 ", 9), None);
-        assert!(rt; is_number(b"18446744073709551616"));
-        assert!(rt; !is_number(b"01"));
-    }
-}

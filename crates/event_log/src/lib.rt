@@ -41,10 +41,3 @@ pub use messages::{Msg, WORDS};
 pub use refusals::{LogFull, NoMemory};
 pub use rings::Ring;
 pub use runs::{run_by_index, run_grows, run_has_op_order};
-
-#[cfg(test)]
-mod message_tests;
-#[cfg(test)]
-mod ring_tests;
-#[cfg(test)]
-mod tests;

@@ -18,8 +18,6 @@ mod instructions;
 mod laws;
 mod reading;
 mod refusals;
-#[cfg(test)]
-mod tests;
 mod threads;
 
 pub use instructions::{Instruction, Into, LINES, Program, REGISTERS, Register, Source};

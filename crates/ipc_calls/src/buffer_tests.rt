@@ -214,6 +214,31 @@ fn holds<B: OwnedBuffers>(m: &B::Machine, message: Option<Msg>) -> bool
     }
 }
 
+/// The message that a call got, if its answer says that it got one.
+fn message_in(reply: Reply) -> Option<Msg> {
+    match reply {
+        Reply::Got(message) => Some(message),
+        _ => None,
+    }
+}
+
+/// Whether a call answered that it got this message.
+fn is_got(reply: Option<Reply>, message: &Msg) -> bool {
+    match reply {
+        Some(reply) => message_in(reply) == Some(*message),
+        None => false,
+    }
+}
+
+/// Whether an effect was told, and is this one.
+fn is_effect(told: Option<Effect>, wanted: &Effect) -> bool {
+    let Some(told) = told else {
+        return false;
+    };
+    let same_call = told.kind == wanted.kind && told.value == wanted.value;
+    same_call && told.op == wanted.op && told.pos == wanted.pos
+}
+
 /// Whether buffer 0 is closed, as the machine tells.
 fn is_closed<B: OwnedBuffers>(m: &B::Machine) -> bool
     requires acts { B.ActsFor m.now (record { 0 = 0 }) }
@@ -244,14 +269,17 @@ fn alone<B: OwnedBuffers>(part: &mut B, m: &mut B::Machine) -> bool
         op: 0,
         pos: 0,
     };
-    if part.effect(Tid(0)) != Some(sent) || !polls(part, m, Tid(0), &send, 8) {
+    if !is_effect(part.effect(Tid(0)), &sent) || !polls(part, m, Tid(0), &send, 8) {
         return false;
     }
-    if last(part, m, Tid(0), &send) != Some(Reply::Sent) || !holds::<B>(m, Some(Msg::one(7))) {
+    let Some(Reply::Sent) = last(part, m, Tid(0), &send) else {
+        return false;
+    };
+    if !holds::<B>(m, Some(Msg::one(7))) {
         return false;
     }
     let got = takes(part, m, Tid(0), &Call::Recv(BufId(0)), 17);
-    got == Some(Reply::Got(Msg::one(7))) && holds::<B>(m, None)
+    is_got(got, &Msg::one(7)) && holds::<B>(m, None)
 }
 
 /// A thread alone closes in 15 polls, with the effect in the sixth, behind one effect.
@@ -281,13 +309,10 @@ fn closes<B: CallLayer<BufferLaw>>(part: &mut B, m: &mut B::Machine) -> bool
         op: 1,
         pos: 0,
     };
-    if part.effect(Tid(0)) != Some(closed) || !polls(part, m, Tid(0), &close, 8) {
+    if !is_effect(part.effect(Tid(0)), &closed) || !polls(part, m, Tid(0), &close, 8) {
         return false;
     }
-    match last(part, m, Tid(0), &close) {
-        Some(reply) => reply == Reply::Shut,
-        None => false,
-    }
+    matches!(last(part, m, Tid(0), &close), Some(Reply::Shut))
 }
 
 /// A thread alone sends and closes. A further send puts nothing, and answers so in 18 polls; a
@@ -304,18 +329,29 @@ fn drains<B: OwnedBuffers>(part: &mut B, m: &mut B::Machine) -> bool
         return false;
     }
     let sent = takes(part, m, Tid(0), &Call::Send(BufId(0), Msg::one(7)), 17);
-    if sent != Some(Reply::Sent) || is_closed::<B>(m) || !closes(part, m) || !is_closed::<B>(m) {
+    let Some(Reply::Sent) = sent else {
+        return false;
+    };
+    if is_closed::<B>(m) || !closes(part, m) || !is_closed::<B>(m) {
         return false;
     }
     let offered = takes(part, m, Tid(0), &Call::Send(BufId(0), Msg::one(8)), 17);
-    if offered != Some(Reply::Closed) || !holds::<B>(m, Some(Msg::one(7))) {
+    let Some(Reply::Closed) = offered else {
+        return false;
+    };
+    if !holds::<B>(m, Some(Msg::one(7))) {
         return false;
     }
-    let got = takes(part, m, Tid(0), &Call::Recv(BufId(0)), 17);
-    if got != Some(Reply::Got(Msg::one(7))) || !holds::<B>(m, None) {
+    let Some(got) = takes(part, m, Tid(0), &Call::Recv(BufId(0)), 17) else {
+        return false;
+    };
+    if message_in(got) != Some(Msg::one(7)) || !holds::<B>(m, None) {
         return false;
     }
-    takes(part, m, Tid(0), &Call::Recv(BufId(0)), 17) == Some(Reply::Closed)
+    matches!(
+        takes(part, m, Tid(0), &Call::Recv(BufId(0)), 17),
+        Some(Reply::Closed)
+    )
 }
 
 /// Thread 1 does this call, which wakes thread 0 on the other CPU, in so many polls and one more;
@@ -372,12 +408,15 @@ fn receiver_waits<B: OwnedBuffers>(home: &mut B, away: &mut B, m: &mut B::Machin
     if !switch(home, m) || !switch(away, m) || !waits(home, m, Tid(0), &recv, 12) {
         return false;
     }
-    if B::wait_list_in(m, BufId(0), Tid(0)) != Some(WaitList::Receivers) || !holds::<B>(m, None) {
+    let Some(WaitList::Receivers) = B::wait_list_in(m, BufId(0), Tid(0)) else {
+        return false;
+    };
+    if !holds::<B>(m, None) {
         return false;
     }
     let send = Call::Send(BufId(0), two_words());
     let (sent, got) = goes_on(home, away, m, &recv, &send, 20);
-    sent == Some(Reply::Sent) && got == Some(Reply::Got(two_words())) && holds::<B>(m, None)
+    matches!(sent, Some(Reply::Sent)) && is_got(got, &two_words()) && holds::<B>(m, None)
 }
 
 /// A sender finds no room and waits after 12 polls; a receiver of the other CPU wakes it.
@@ -396,19 +435,19 @@ fn sender_waits<B: OwnedBuffers>(home: &mut B, away: &mut B, m: &mut B::Machine)
     if !switch(home, m) || !switch(away, m) {
         return false;
     }
-    if takes(home, m, Tid(0), &Call::Send(BufId(0), Msg::one(1)), 17) != Some(Reply::Sent) {
+    let Some(Reply::Sent) = takes(home, m, Tid(0), &Call::Send(BufId(0), Msg::one(1)), 17) else {
         return false;
-    }
+    };
     let send = Call::Send(BufId(0), Msg::one(2));
     if !waits(home, m, Tid(0), &send, 12) || !holds::<B>(m, Some(Msg::one(1))) {
         return false;
     }
-    if B::wait_list_in(m, BufId(0), Tid(0)) != Some(WaitList::Senders) {
+    let Some(WaitList::Senders) = B::wait_list_in(m, BufId(0), Tid(0)) else {
         return false;
-    }
+    };
     let (got, sent) = goes_on(home, away, m, &send, &Call::Recv(BufId(0)), 20);
-    got == Some(Reply::Got(Msg::one(1)))
-        && sent == Some(Reply::Sent)
+    is_got(got, &Msg::one(1))
+        && matches!(sent, Some(Reply::Sent))
         && holds::<B>(m, Some(Msg::one(2)))
 }
 
@@ -434,7 +473,7 @@ fn receiver_learns<B: OwnedBuffers>(home: &mut B, away: &mut B, m: &mut B::Machi
         return false;
     }
     let (shut, learned) = goes_on(home, away, m, &recv, &Call::Close(BufId(0)), 17);
-    shut == Some(Reply::Shut) && learned == Some(Reply::Closed) && is_closed::<B>(m)
+    matches!((shut, learned), (Some(Reply::Shut), Some(Reply::Closed))) && is_closed::<B>(m)
 }
 
 /// While a section of `part` holds the buffer's block the part tells of it and the machine does not;

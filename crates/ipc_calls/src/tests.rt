@@ -60,7 +60,7 @@ fn refuses<I: CallLayer<IpcLaw>>(rt: &impl Abort, part: &mut I, m: &mut I::Machi
     ensures machine { m.new ≡ m.old }
 {
     let answer = part.poll(m, t, &Call::Recv(BufId(2)));
-    assert!(rt; answer == Some(Reply::NoBuffer));
+    assert!(rt; matches!(answer, Some(Reply::NoBuffer)));
 }
 
 /// Polls a call of `t`, which runs, until it answers or its thread sleeps, at most so many times.
@@ -110,23 +110,17 @@ where
     let homes = [CpuId(0), CpuId(1)];
     let mut m = I::open(alloc, 2, &[1, 2], &homes, 40)?;
     let mut part = I::part(CpuId(0), &homes, 2);
-    assert!(rt; part.place_at(&m, Tid(0)) == Some(Place::Ready(CpuId(0))));
+    assert!(rt; matches!(part.place_at(&m, Tid(0)), Some(Place::Ready(CpuId(0)))));
     assert!(rt; part.place_at(&m, Tid(1)).is_none());
     starts(rt, &mut part, &mut m, Tid(0));
     refuses(rt, &mut part, &mut m, Tid(0));
-    assert!(rt;
-        called(
-            &mut part,
-            &mut m,
-            Tid(0),
-            &Call::Send(BufId(1), Msg::one(7)),
-            30
-        ) == Some(Reply::Sent)
-    );
+    let send = Call::Send(BufId(1), Msg::one(7));
+    let sent = called(&mut part, &mut m, Tid(0), &send, 30);
+    assert!(rt; matches!(sent, Some(Reply::Sent)));
     assert!(rt; is_one(I::buffer_in(&m, BufId(1)), &Msg::one(7)));
     assert!(rt; I::busy_in(&m, BufId(1)) == Some(None));
     assert!(rt; part.buffer_here(BufId(1)).is_none() && part.busy_here(BufId(1)).is_none());
-    assert!(rt; part.place_at(&m, Tid(0)) == Some(Place::Running(CpuId(0))));
+    assert!(rt; matches!(part.place_at(&m, Tid(0)), Some(Place::Running(CpuId(0)))));
     Ok(())
 }
 
@@ -140,7 +134,8 @@ where
     let mut part = I::part(CpuId(0), &homes, 2);
     assert!(rt; I::closed_at_home(&m, BufId(1)) == Some(false));
     starts(rt, &mut part, &mut m, Tid(0));
-    assert!(rt; called(&mut part, &mut m, Tid(0), &Call::Close(BufId(1)), 15) == Some(Reply::Shut));
+    let shut = called(&mut part, &mut m, Tid(0), &Call::Close(BufId(1)), 15);
+    assert!(rt; matches!(shut, Some(Reply::Shut)));
     assert!(rt; I::closed_at_home(&m, BufId(1)) == Some(true));
     assert!(rt; I::closed_at_home(&m, BufId(0)) == Some(false));
     assert!(rt; part.closed_in_hands(BufId(1)).is_none());

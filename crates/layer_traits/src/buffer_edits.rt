@@ -6,7 +6,7 @@ use crate::locked::Side;
 use event_log::{Kind, Msg, Tid};
 
 /// An edit of a buffer.
-#[derive(Clone, Copy, Debug, PartialEq, Eq)]
+#[derive(Clone, Copy)]
 pub enum BufferEdit {
     /// This thread enters the line of this side and draws its position in it.
     Enter(Tid, Side),
@@ -21,7 +21,7 @@ pub enum BufferEdit {
 }
 
 /// What an edit of a buffer answers.
-#[derive(Clone, Copy, Debug, PartialEq, Eq)]
+#[derive(Clone, Copy)]
 pub enum BufferOut {
     /// The thread has this position: how many had entered this line before it, modulo 2^64.
     Entered(u64),
@@ -36,7 +36,7 @@ pub enum BufferOut {
 }
 
 /// What layers hand on of an edit of a buffer: the message that it puts lies in the payload.
-#[derive(Clone, Copy, Debug, PartialEq, Eq)]
+#[derive(Clone, Copy)]
 pub enum BareBufferEdit {
     /// [`BufferEdit::Enter`].
     Enter(Tid, Side),
@@ -50,7 +50,7 @@ pub enum BareBufferEdit {
 
 /// What layers hand back of a buffer's answer: the message and the numbers that it brings lie in the
 /// payload, so that what is handed back is small.
-#[derive(Clone, Copy, Debug, PartialEq, Eq)]
+#[derive(Clone, Copy)]
 pub enum BareBufferOut {
     /// [`BufferOut::Entered`], with the position as the first number beside it.
     Entered,

@@ -3,7 +3,7 @@
 use crate::calls::{Call, Effect};
 
 /// The stages of a message call, each by the section that it does.
-#[derive(Clone, Copy, Debug, PartialEq, Eq)]
+#[derive(Clone, Copy)]
 pub enum Stage {
     /// The thread is in no call.
     Idle,
@@ -26,7 +26,7 @@ pub enum Stage {
 }
 
 /// What a part keeps of a thread's message call.
-#[derive(Clone, Copy, Debug, PartialEq, Eq)]
+#[derive(Clone, Copy)]
 pub struct CallState {
     /// How far the call has come.
     pub stage: Stage,

@@ -4,7 +4,7 @@
 use event_log::{BufId, CpuId, Kind, Msg};
 
 /// A message call of a thread.
-#[derive(Clone, Copy, Debug, PartialEq, Eq)]
+#[derive(Clone, Copy)]
 pub enum Call {
     /// Puts this message at the end of the buffer, once there is room and it is the thread's turn;
     /// puts nothing where the buffer is closed by then.
@@ -32,7 +32,7 @@ impl Call {
 }
 
 /// What a message call answers.
-#[derive(Clone, Copy, Debug, PartialEq, Eq)]
+#[derive(Clone, Copy)]
 pub enum Reply {
     /// The message was put.
     Sent,
@@ -48,7 +48,7 @@ pub enum Reply {
 
 /// What a message call answers, without the message of a receive: that one lies in the effect of the
 /// call.
-#[derive(Clone, Copy, Debug, PartialEq, Eq)]
+#[derive(Clone, Copy)]
 pub enum ReplyKind {
     /// [`Reply::Sent`].
     Sent,
@@ -64,7 +64,7 @@ pub enum ReplyKind {
 
 /// The effect of a message call: the one step in which its message was put or taken, its buffer
 /// was closed, or it learned that the buffer is closed.
-#[derive(Clone, Copy, Debug, PartialEq, Eq)]
+#[derive(Clone, Copy)]
 pub struct Effect {
     /// What was done to the buffer.
     pub kind: Kind,
@@ -80,7 +80,7 @@ pub struct Effect {
 }
 
 /// Where a thread stands.
-#[derive(Clone, Copy, Debug, PartialEq, Eq)]
+#[derive(Clone, Copy)]
 pub enum Place {
     /// It runs on this CPU.
     Running(CpuId),

@@ -10,7 +10,7 @@ use crate::payloads::Parcel;
 use event_log::Tid;
 
 /// What the owner of a lock with conditions does inside.
-#[derive(Clone, Copy, Debug, PartialEq, Eq)]
+#[derive(Clone, Copy)]
 pub enum CvEdit<G> {
     /// An edit of the block.
     Edit(G),
@@ -19,7 +19,7 @@ pub enum CvEdit<G> {
 }
 
 /// How the owner of a lock with conditions gives it on.
-#[derive(Clone, Copy, Debug, PartialEq, Eq)]
+#[derive(Clone, Copy)]
 pub enum CvLeave {
     /// This thread leaves.
     Leave(Tid),
@@ -28,7 +28,7 @@ pub enum CvLeave {
 }
 
 /// What a section of a lock with conditions answers.
-#[derive(Clone, Copy, Debug, PartialEq, Eq)]
+#[derive(Clone, Copy)]
 pub enum CvOut<O> {
     /// The block was edited, with this answer.
     Did(O),

@@ -8,7 +8,7 @@ use crate::payloads::Parcel;
 use event_log::Tid;
 
 /// On which side of a buffer a thread waits.
-#[derive(Clone, Copy, Debug, PartialEq, Eq)]
+#[derive(Clone, Copy)]
 pub enum Side {
     /// Those that wait to receive.
     Receivers,
@@ -17,7 +17,7 @@ pub enum Side {
 }
 
 /// Whom an edit inside the lock wakes.
-#[derive(Clone, Copy, Debug, PartialEq, Eq)]
+#[derive(Clone, Copy)]
 pub enum WakeWaiter {
     /// Nobody.
     Nobody,
@@ -28,7 +28,7 @@ pub enum WakeWaiter {
 }
 
 /// A call on a queuing lock.
-#[derive(Clone, Copy, Debug, PartialEq, Eq)]
+#[derive(Clone, Copy)]
 pub enum QEdit<F, R> {
     /// This thread asks for the lock. It owns it at once if nobody does, and else sleeps until the
     /// owner hands it over.
@@ -40,7 +40,7 @@ pub enum QEdit<F, R> {
 }
 
 /// What a call on a queuing lock answers.
-#[derive(Clone, Copy, Debug, PartialEq, Eq)]
+#[derive(Clone, Copy)]
 pub enum QOut<O> {
     /// The caller owns the lock.
     Acquired,

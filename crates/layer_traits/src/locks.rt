@@ -12,7 +12,7 @@ use event_log::{CpuId, LockId};
 use std::marker::{Model, PhantomData};
 
 /// A section as layers hand it on: one edit of what a lock guards.
-#[derive(Clone, Copy, Debug, PartialEq, Eq)]
+#[derive(Clone, Copy)]
 pub struct LockCall<E> {
     /// The lock.
     pub lock: LockId,

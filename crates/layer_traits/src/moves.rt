@@ -8,7 +8,7 @@ use crate::edits::SplitEdit;
 use event_log::Tid;
 
 /// The lines in which a thread may sleep at what a lock guards.
-#[derive(Clone, Copy, Debug, PartialEq, Eq)]
+#[derive(Clone, Copy)]
 pub enum WaitList {
     /// Those who wait for the block itself.
     Sleepers,

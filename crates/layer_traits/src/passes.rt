@@ -3,7 +3,7 @@
 use event_log::Tid;
 
 /// A pass of a CPU's scheduler from thread to thread. No pass edits what a buffer's lock guards.
-#[derive(Clone, Copy, Debug, PartialEq, Eq)]
+#[derive(Clone, Copy)]
 pub enum Pass {
     /// The front of the ready threads runs; nobody ran before.
     Switch,

@@ -38,7 +38,7 @@ impl<T> Ghost<T> {
 
 /// What an edit of a buffer puts, and what its answer brings. It lies beside the edit and the answer,
 /// which are small and are handed on by value.
-#[derive(Clone, Copy, Debug, PartialEq, Eq)]
+#[derive(Clone, Copy)]
 pub struct Parcel {
     /// The message that an edit puts, or that its answer brings.
     pub message: Msg,

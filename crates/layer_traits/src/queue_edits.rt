@@ -13,7 +13,7 @@ use std::snapshot::Snapshot;
 use thread_blocks::ThreadQueue;
 
 /// An edit at shared queues: of a pending queue, or of a block of the layer above.
-#[derive(Clone, Copy, Debug, PartialEq, Eq)]
+#[derive(Clone, Copy)]
 pub enum QueueEdit<E> {
     /// Puts a thread at the end of the queue.
     Push(Tid),

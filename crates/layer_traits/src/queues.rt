@@ -18,7 +18,7 @@ use std::marker::PhantomData;
 use thread_blocks::ThreadList;
 
 /// A call at shared queues.
-#[derive(Clone, Copy, Debug, PartialEq, Eq)]
+#[derive(Clone, Copy)]
 pub enum QueueCall<E> {
     /// Puts a thread at the end of the pending queue of a CPU.
     Push(CpuId, Tid),
@@ -49,7 +49,7 @@ pub enum QueueAnswer<O> {
 }
 
 /// What layers hand back of an answer at shared queues: threads that it brings lie in the payload.
-#[derive(Clone, Copy, Debug, PartialEq, Eq)]
+#[derive(Clone, Copy)]
 pub enum BareQueueAnswer<O> {
     /// [`QueueAnswer::Done`].
     Done,

@@ -19,7 +19,7 @@ use event_log::{BufId, Tid};
 use std::marker::PhantomData;
 
 /// A call of a CPU's scheduler.
-#[derive(Clone, Copy, Debug, PartialEq, Eq)]
+#[derive(Clone, Copy)]
 pub enum SchedCall<E> {
     /// Passes from thread to thread.
     Pass(Pass),
@@ -28,7 +28,7 @@ pub enum SchedCall<E> {
 }
 
 /// What a call of a scheduler answers.
-#[derive(Clone, Copy, Debug, PartialEq, Eq)]
+#[derive(Clone, Copy)]
 pub enum SchedAnswer<O> {
     /// The pass is done.
     Done,

@@ -24,7 +24,7 @@ use event_log::BufId;
 use std::marker::{Model, PhantomData};
 
 /// A section at the lock of a buffer, as layers hand it on: one edit of what that lock guards.
-#[derive(Clone, Copy, Debug, PartialEq, Eq)]
+#[derive(Clone, Copy)]
 pub struct BufferCall<E> {
     /// The buffer.
     pub buffer: BufId,

@@ -9,7 +9,7 @@ use crate::payloads::Parcel;
 use event_log::Tid;
 
 /// Who leaves the waiting lists of a lock in a section.
-#[derive(Clone, Copy, Debug, PartialEq, Eq)]
+#[derive(Clone, Copy)]
 pub enum Wake {
     /// Nobody.
     Nobody,
@@ -22,7 +22,7 @@ pub enum Wake {
 }
 
 /// What a section of a sleeping layer answers.
-#[derive(Clone, Copy, Debug, PartialEq, Eq)]
+#[derive(Clone, Copy)]
 pub struct Outcome<O> {
     /// What the edit answered.
     pub out: O,

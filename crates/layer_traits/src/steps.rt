@@ -1,7 +1,7 @@
 //! What one step of a CPU answers.
 
 /// Why a CPU takes no step.
-#[derive(Clone, Copy, Debug, PartialEq, Eq)]
+#[derive(Clone, Copy)]
 pub enum Reason {
     /// Each thread at home on the CPU has ended.
     AllEnded,
@@ -13,7 +13,7 @@ pub enum Reason {
 }
 
 /// What one step of a CPU answers.
-#[derive(Clone, Copy, Debug, PartialEq, Eq)]
+#[derive(Clone, Copy)]
 pub enum Step {
     /// The step was taken.
     Stepped,

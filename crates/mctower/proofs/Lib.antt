@@ -1,4 +1,6 @@
 mod LineLemmas
+mod FaultLemmas
+mod HelpLemmas
 mod ScheduleLemmas
 mod CountLemmas
 mod ListLemmas

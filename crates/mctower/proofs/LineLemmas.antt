@@ -1,14 +1,14 @@
 -- Facts on the reading of the command line.
-use Rattle.std.proofs.Common.{◌≡◌, ◌≤◌, ◌<◌, ◌^◌, ◌∙◌, ◌∷◌, [], inl, inr, ℕ, Bool, true, false, List, codes, Option, Some, None, refl, sym, ap, ap₂}
-use Rattle.std.specs.Prelude.{if◌then◌else◌, option_and_then}
+use Rattle.std.proofs.Common.{◌≡◌, ◌≤◌, ◌<◌, ◌^◌, ◌∙◌, ◌∷◌, [], inl, inr, ℕ, Bool, true, false, List, codes, Option, Some, None, refl, sym, subst, ap, ap₂}
+use Rattle.std.specs.Prelude.{if◌then◌else◌, option_and_then, IfOk, Result, Ok, Err}
 use Rattle.std.specs.Str.Parse.{IsNumeral, digits_value, without_leading_plus}
-use Rattle.clap.specs.{Built.AddsSubcommand, Matches.first_value, Faults.fault_of, Faults.is_simple_and_free, Kinds.HasKind, Kinds.Kinds, Simple.App}
+use Rattle.clap.specs.{Built.AddsSubcommand, Matches.first_value, Faults.fault_of, Faults.is_simple_and_free, Kinds.FailsBy, Kinds.HasKind, Kinds.Kinds, Simple.App}
 use Rattle.clap.specs.{Simple.HasMatchesOf, Simple.app_of, Simple.is_simple, Simple.subcommand_of, Simple.subcommand_rows_of, Simple.with_subcommand}
 use Rattle.clap.specs.{Values.kind_of, ValueTests.is_unsigned_in, Walk.first_of, Walk.rows_of, declared.builder.command.Command.Command}
 use Rattle.clap.specs.{declared.builder.command.Command.TheViews.out-Command, declared.error.Error.Error, declared.error.kind.ErrorKind.TheVariants.OutOfMemory}
 use Rattle.clap.specs.{declared.parser.matches.ArgMatches.ArgMatches, declared.parser.matches.Found.Found}
 use Rattle.clap.proofs.{OnLiterals.clap_on_literals, ValueTestLemmas.accepts-Accepts, ValueTestLemmas.Accepts-accepts, WalkLemmas.first_value-rows}
-use Rattle.mctower.specs.Line.{found_in, is_faultless, is_taken, lock_asked, run_in, Ghost, run, number_at, number_in, program}
+use Rattle.mctower.specs.Line.{Parses, faults_of, found_in, is_faultless, is_taken, lock_asked, run_in, Ghost, run, number_at, number_in, program}
 use Rattle.clap.specs.declared.builder.value_parser.ValueParser.TheVariants as vp
 
 abbrev pub Text : Type 0
@@ -73,20 +73,29 @@ simple = refl
 pub parse_taken : (a : App) (words : List Text) (matches : ArgMatches) → a ≡ program
     → HasMatchesOf a words matches → (is_simple_and_free a ≡ true → fault_of a words ≡ [])
     → (is_taken words ≡ true) × (subcommand_rows_of matches ≡ found_in words)
-unfolding is_taken found_in
+unfolding is_taken faults_of found_in
 parse_taken a words matches same has free = (
   ap (λ p. is_faultless (fault_of p words)) (sym same) ∙ ap is_faultless (free (ap is_simple_and_free same ∙ exact)),
   (has (ap is_simple same ∙ simple)).1 ∙ ap (λ p. subcommand_of p words) same,
 )
 
--- a parse that fails for another cause than memory has a fault
+-- a parse that fails has a fault that the rules find, memory aside
 pub parse_refused : (a : App) (words : List Text) (error : Error) → a ≡ program
-    → (is_simple_and_free a ≡ true → HasKind (fault_of a words) error) → (kind_of error ≡ OutOfMemory → ⊥)
-    → is_taken words ≡ false
+    → (is_simple_and_free a ≡ true → HasKind (fault_of a words) error) → HasKind (faults_of words) error
+unfolding faults_of
+parse_refused a words error same has = subst (λ p. HasKind (fault_of p words) error) same (has (ap is_simple_and_free same ∙ exact))
+
+-- a parse by the program's commands takes the words, or has a fault that the rules find
+pub parses : (a : App) (words : List Text) (result : Result ArgMatches Error) → a ≡ program
+    → IfOk result (HasMatchesOf a words) → (is_simple_and_free a ≡ true → FailsBy (fault_of a words) result) → Parses words result
+parses a words (Ok matches) same has fails = parse_taken a words matches same has fails
+parses a words (Err error) same has fails = parse_refused a words error same fails
+
+-- words with a fault for another cause than memory are not taken
+pub not_taken : (words : List Text) (error : Error) → HasKind (faults_of words) error → (kind_of error ≡ OutOfMemory → ⊥) → is_taken words ≡ false
 unfolding is_taken
-parse_refused a words error same has other =
-    ap (λ p. is_faultless (fault_of p words)) (sym same) ∙ go (fault_of a words) (has (ap is_simple_and_free same ∙ exact)) where
-      go : (kinds : Kinds) → HasKind kinds error → is_faultless kinds ≡ false
-      go [] (inl memory) = absurd (other memory)
-      go [] (inr among) = absurd among
-      go (k ∷ ks) has = refl
+not_taken words error has other = go (faults_of words) has where
+  go : (kinds : Kinds) → HasKind kinds error → is_faultless kinds ≡ false
+  go [] (inl memory) = absurd (other memory)
+  go [] (inr among) = absurd among
+  go (k ∷ ks) has = refl

@@ -1,6 +1,6 @@
--- Which help the words of a command line get.
+-- Which help and which usage the words of a command line get.
 use Rattle.std.specs.Prelude.{ℕ, List, [], ◌∷◌, codes, bytes_eq, if◌then◌else◌}
-use Rattle.mctower.specs.declared.help.TheConstants.{PROGRAM, COUNT, RUN, THREADS, CHECK}
+use Rattle.mctower.specs.declared.help.TheConstants.{PROGRAM, COUNT, RUN, THREADS, CHECK, PROGRAM_USAGE, COUNT_USAGE, RUN_USAGE, THREADS_USAGE, CHECK_USAGE}
 
 -- the command that the words name: the first word, or the one behind `help`
 abbrev pub topic_of : List (List ℕ) → List ℕ
@@ -16,3 +16,12 @@ help_of name =
     else if bytes_eq name (codes "threads") then THREADS.now
     else if bytes_eq name (codes "check") then CHECK.now
     else PROGRAM.now
+
+-- the two lines of usage of a command; of the whole program where no command has the name
+abbrev pub usage_of : List ℕ → List ℕ
+usage_of name =
+    if bytes_eq name (codes "count") then COUNT_USAGE.now
+    else if bytes_eq name (codes "run") then RUN_USAGE.now
+    else if bytes_eq name (codes "threads") then THREADS_USAGE.now
+    else if bytes_eq name (codes "check") then CHECK_USAGE.now
+    else PROGRAM_USAGE.now

@@ -5,6 +5,7 @@ pub mod Serve
 pub mod Output
 pub mod Print
 pub mod Help
+pub mod Faults
 pub mod Plans
 pub mod Texts
 pub mod Running

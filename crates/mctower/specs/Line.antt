@@ -4,7 +4,7 @@ use Rattle.std.specs.Prelude.{string_bytes}
 use Rattle.std.specs.Str.{bytes_eq, Parse.digits_value, Parse.without_leading_plus}
 use Rattle.clap.specs.{Walk.Row, Walk.Rule, Walk.Text, Walk.first_of, ValueTests.is_unsigned_in, Simple.App, Simple.Shape, Simple.new_app, Simple.new_rule}
 use Rattle.clap.specs.{Simple.on_top, Simple.subcommand_of, Simple.with_rule, Simple.with_subcommand, Simple.subcommand_rows_of}
-use Rattle.clap.specs.{declared.parser.matches.ArgMatches.ArgMatches, Faults.fault_of, Kinds.Kinds}
+use Rattle.clap.specs.{declared.error.Error.Error, declared.parser.matches.ArgMatches.ArgMatches, Faults.fault_of, Kinds.HasKind, Kinds.Kinds}
 use Rattle.boot.specs.{declared.locks.LockKind.LockKind, declared.locks.LockKind.TheVariants.Grant, Locks.lock_named}
 use Rattle.event_log.specs.declared.ids.TheConstants.{CPUS}
 use Rattle.mctower.specs.declared.line.{TheConstants.MOST_TIMES, TheConstants.MOST_TURNS, Order.Order, Order.TheVariants.Count, Order.TheVariants.Run}
@@ -41,9 +41,13 @@ check_app = new_app (codes "check")
 abbrev pub without_binary_name : Shape → Shape
 without_binary_name s = record s { no_binary_name = true }
 
+-- the program has a version, which `--version` asks for
+abbrev pub with_version : Shape → Shape
+with_version s = record s { has_version = true }
+
 -- the program before its commands
 abbrev pub bare_program : App
-bare_program = on_top without_binary_name (new_app (codes "mctower"))
+bare_program = on_top with_version (on_top without_binary_name (new_app (codes "mctower")))
 
 -- the program with its four commands
 unfoldable pub program : App
@@ -100,9 +104,13 @@ abbrev pub is_faultless : Kinds → Bool
 is_faultless [] = true
 is_faultless (kind ∷ kinds) = false
 
+-- the kinds of fault that clap's rules find in the words, of which a refusal has one; a request for help or for the version counts as one
+unfoldable pub faults_of : List Text → Kinds
+faults_of words = fault_of program words
+
 -- clap's rules find no fault in the words
 unfoldable pub is_taken : List Text → Bool
-is_taken words = is_faultless (fault_of program words)
+is_taken words = is_faultless (faults_of words)
 
 -- the order that the words mean, if the rules take them and each number is in its range
 abbrev pub order_of : List Text → Option Ghost
@@ -121,7 +129,12 @@ Reads ghost_of (Ok order) = ghost_of ≡ Some (ghost_by order)
 Reads ghost_of (Err NoMemory) = Unit {0}
 Reads ghost_of (Err Refused) = ghost_of ≡ None
 
--- clap's parse takes the words exactly if its rules do, memory aside, and finds their command and values
+-- clap's parse takes the words exactly if its rules do, memory aside, and finds their command and values; else it names a fault of theirs
+abbrev pub Parses : List Text → Result ArgMatches Error → Type 0
+Parses words (Ok matches) = (is_taken words ≡ true) × (subcommand_rows_of matches ≡ found_in words)
+Parses words (Err error) = HasKind (faults_of words) error
+
+-- the same of which a refusal for memory alone is told from the others
 abbrev pub Finds : List Text → Result ArgMatches LineError → Type 0
 Finds words (Ok matches) = (is_taken words ≡ true) × (subcommand_rows_of matches ≡ found_in words)
 Finds words (Err NoMemory) = Unit {0}

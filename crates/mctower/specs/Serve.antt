@@ -6,8 +6,10 @@ use Rattle.clap.specs.Walk.{Text}
 use Rattle.event_log.specs.{declared.ids.CpuId.CpuId, Streams.IsFirstInFirstOut}
 use Rattle.boot.specs.{declared.refusals.BootError.BootError, declared.refusals.BootError.TheVariants.BadToml, Plan.BootPlan, Plan.plan_of}
 use Rattle.tracer.specs.{declared.verdicts.Verdict.Verdict, Judging.verdict_of, Verdicts.IsTraceOfRun}
-use Rattle.mctower.specs.{Line.Ghost, Line.count, Line.run, Line.threads, Line.check, Output.IsPut, Output.IsUntouched, Output.Output, Refusals.PutsText}
-use Rattle.mctower.specs.{Refusals.status_of_refusal, Refusals.text_of, declared.refusals.Refusal.Refusal, Running.AreCpus, Running.IsRunOf}
+use Rattle.mctower.specs.{Line.Ghost, Line.count, Line.run, Line.threads, Line.check, Output.IsPut, Output.IsUntouched, Output.Output, Refusals.PutsRefusal}
+use Rattle.mctower.specs.{Refusals.status_of_refusal, declared.refusals.Refusal.Refusal, Running.AreCpus, Running.IsRunOf}
+use Rattle.mctower.specs.{Faults.IsFault, Faults.IsWhy, Help.help_of, Help.topic_of, declared.faults.LineFault.LineFault, declared.faults.NoOrder.TheVariants.AsksHelp}
+use Rattle.mctower.specs.{declared.faults.NoOrder.TheVariants.AsksVersion, declared.help.TheConstants.VERSION}
 use Rattle.mctower.specs.{Running.NoCondition, State.IsStateOf, State.text_of_state, declared.serve.Done.Done, declared.serve.Done.TheVariants.Exit}
 use Rattle.mctower.specs.{declared.serve.Done.TheVariants.Ran, declared.serve.Done.TheVariants.Worked, declared.states.State.State, Schedule.steps_of}
 use Rattle.mctower.specs.{Tabled.IsStateOfRun, Tabled.IsTextOfRun, Texts.IsTextOf, Threads.IsWorked, Threads.stop_text}
@@ -145,26 +147,44 @@ pub record WorksTrace (plan : BootPlan) (turns : ℕ) (answer : Result Done Refu
 abbrev pub WorksPlan : ℕ → BootPlan → Result Done Refusal → Output → Type 0
 WorksPlan turns plan answer out = RefusedBy NoThread answer out ⊎ WorksTrace plan turns answer out
 
+-- ---- no order
+
+-- the line with the program's name and its version
+abbrev pub version_line : List ℕ
+version_line = codes "mctower " ++ (VERSION.now ++ 10 ∷ [])
+
+-- the line with the version, and the help on the words' command
+abbrev pub help_text : List Text → List ℕ
+help_text words = codes "mctower " ++ (VERSION.now ++ (10 ∷ help_of (topic_of words)))
+
+-- Words that make no order: the help or the version that they ask for is out, with status 2; or they are refused for what is wrong with them, and
+-- nothing is out; memory aside.
+abbrev pub PutsAnswer : List Text → Result Done Refusal → Output → Type 0
+PutsAnswer words answer out = RefusedBy NoMemory answer out
+    ⊎ ((IsWhy words AsksHelp × Puts (Exit 2) (help_text words) answer out)
+    ⊎ ((IsWhy words AsksVersion × Puts (Exit 2) version_line answer out)
+    ⊎ ((fault : LineFault) × IsFault words fault × RefusedBy (BadLine fault) answer out)))
+
 -- ---- any order
 
 -- Serving what the words mean: the answer, and what became of standard output. The bytes on standard
 -- input are `input`, where they are known. Memory or the input may be wanting always.
-abbrev pub Serves : Option Ghost → Option (List ℕ) → Result Done Refusal → Output → Type 0
-Serves None input answer out = RefusedBy NoMemory answer out ⊎ RefusedBy BadLine answer out
-Serves (Some (count cpus times lock)) input answer out = Counts (times * cpus) answer out
-Serves (Some check) input answer out = Checks input answer out
-Serves (Some (run schedule)) input answer out = RunsAsked (steps_asked schedule) input answer out
-Serves (Some (threads turns)) input answer out = OfInput (WorksPlan turns) input answer out
+abbrev pub Serves : List Text → Option Ghost → Option (List ℕ) → Result Done Refusal → Output → Type 0
+Serves words None input answer out = PutsAnswer words answer out
+Serves words (Some (count cpus times lock)) input answer out = Counts (times * cpus) answer out
+Serves words (Some check) input answer out = Checks input answer out
+Serves words (Some (run schedule)) input answer out = RunsAsked (steps_asked schedule) input answer out
+Serves words (Some (threads turns)) input answer out = OfInput (WorksPlan turns) input answer out
 
 -- ---- standard error
 
 -- what is on standard error, by the answer to these words: the state lines after a good run, why each worker stopped after one in threads,
--- nothing after a yes, a no or a count; else what tells the refusal
+-- nothing after a yes, a no, a count, the help or the version; else what tells the refusal
 abbrev pub Reports : List Text → Result Done Refusal → Output → Type 0
 Reports words (Ok (Exit status)) out = IsUntouched out
 Reports words (Ok (Ran state)) out = IsPut out (text_of_state state)
 Reports words (Ok (Worked stops)) out = IsPut out (stop_text stops.items)
-Reports words (Err refusal) out = PutsText (text_of words refusal) out
+Reports words (Err refusal) out = PutsRefusal words refusal out
 
 -- there is one answer by which the exit status and standard error are
 pub record EndsReported (words : List Text) (status : ℕ) (err : Output) : Type 0 where
@@ -176,7 +196,7 @@ pub record EndsReported (words : List Text) (status : ℕ) (err : Output) : Type
 pub record Ends (words : List Text) (ghost_of : Option Ghost) (input : Option (List ℕ)) (status : ℕ) (out err : Output) : Type 0 where
   pub answer : Result Done Refusal
   pub ends : status ≡ status_of answer
-  pub served : Serves ghost_of input answer out
+  pub served : Serves words ghost_of input answer out
   pub told : Reports words answer err
 
 -- ---- standard input

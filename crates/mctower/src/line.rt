@@ -5,8 +5,9 @@ ghost use Rattle.clap.specs.{Simple.app_of, Simple.subcommand_rows_of, Matches.f
 ghost use Rattle.clap.specs.{declared.builder.command.Command.TheViews.out-Command};
 ghost use Rattle.mctower.specs.{declared.line.LineError.TheVariants.NoMemory, Line.Reads, Line.check_app, Line.count_app, Line.count_in, Line.number_in};
 ghost use Rattle.mctower.specs.{Line.number_at, Line.lock_asked, Line.optional, Line.order_of, Line.program, Line.run_app, Line.threads_app};
-ghost use Rattle.mctower.specs.{Line.required_option, Line.threads_in, Line.run_in, Line.order_in, Line.Finds};
+ghost use Rattle.mctower.specs.{Line.required_option, Line.threads_in, Line.run_in, Line.order_in, Line.Finds, Line.Parses};
 
+use crate::help::VERSION;
 use boot::LockKind;
 use clap::error::ErrorKind;
 use clap::{Arg, ArgMatches, Command};
@@ -42,7 +43,7 @@ pub enum LineError {
     /// Memory ran out.
     #[error("NoMemory(1)")]
     NoMemory,
-    /// The words are no command line of this program, or ask for help.
+    /// The words are no command line of this program, or ask for help or the version.
     #[error("bad command line")]
     Refused,
 }
@@ -88,17 +89,25 @@ fn program<'a>(alloc: Global) -> Result<Command<'a>, AllocError>
 {
     Command::new(alloc, "mctower")
         .no_binary_name(true)
+        .version(VERSION)
         .subcommand(count_command(alloc)?)?
         .subcommand(run_command(alloc)?)?
         .subcommand(threads_command(alloc)?)?
         .subcommand(Command::new(alloc, "check"))
 }
 
+/// What clap makes of the words.
+pub(crate) fn parse<'a>(alloc: Global, words: &'a [&'a str]) -> Result<ArgMatches<'a>, clap::Error>
+    ensures { Parses (map (λ w. w.now) words.entry.now) result }
+{
+    program(alloc)?.try_get_matches_from(words)
+}
+
 // What clap makes of the words; its refusal for memory is told from the others.
 fn matches_in<'a>(alloc: Global, words: &'a [&'a str]) -> Result<ArgMatches<'a>, LineError>
     ensures { Finds (map (λ w. w.now) words.entry.now) result }
 {
-    match program(alloc)?.try_get_matches_from(words) {
+    match parse(alloc, words) {
         Ok(matches) => Ok(matches),
         Err(error) => {
             if error.kind() == ErrorKind::OutOfMemory {
@@ -126,15 +135,15 @@ fn number(text: &str, least: u64, most: u64) -> Option<u64>
     }
 }
 
-// The number that the option of this name has, from `least` to `most`.
-fn number_of(matches: &ArgMatches<'_>, name: &str, least: u64, most: u64) -> Option<u64>
+/// The number that the option of this name has, from `least` to `most`.
+pub(crate) fn number_of(matches: &ArgMatches<'_>, name: &str, least: u64, most: u64) -> Option<u64>
     ensures { result ≡ number_at least most name.now (rows_of (found_of matches.now)) }
 {
     number(matches.get_str(name)?, least, most)
 }
 
-// The lock that is asked for; the one with grant words, where none is named.
-fn lock_given(matches: &ArgMatches<'_>) -> Option<LockKind>
+/// The lock that is asked for; the one with grant words, where none is named.
+pub(crate) fn lock_given(matches: &ArgMatches<'_>) -> Option<LockKind>
     ensures { result ≡ lock_asked (first_of (codes "lock") (rows_of (found_of matches.now))) }
 {
     match matches.get_str("lock") {
@@ -194,8 +203,8 @@ fn order_named(alloc: Global, name: &str, matches: &ArgMatches<'_>) -> Result<Or
 /// The order is given exactly where those rules find no fault in the words and each number is in
 /// its range (as `clap` reads a number, so `+2` and `007` are numbers).
 ///
-/// Errors: `Refused` for all other words, also for a request for help and for no word at all.
-/// `NoMemory` only if memory ran out. Then nothing was done.
+/// Errors: `Refused` for all other words, also for a request for help and for no word at all;
+/// `why_no_order` says why. `NoMemory` only if memory ran out. Then nothing was done.
 pub fn read_line(alloc: Global, words: &[&str]) -> Result<Order, LineError>
     ensures { Reads (order_of (map (λ w. w.now) words.now)) result }
 {

@@ -19,6 +19,7 @@ ghost use Rattle.tracer.specs.Sinks.{has_failed};
 ghost use Rattle.mctower.specs.{Output.between, Serve.EndsReported};
 
 pub mod count;
+pub mod faults;
 mod help;
 pub mod line;
 pub mod locks;
@@ -33,8 +34,8 @@ pub mod texts;
 pub mod threads;
 pub mod tower;
 
-use line::LineError;
-use refusals::{Refusal, line_refused, status_of_refusal, write_report};
+use faults::LineFault;
+use refusals::{Refusal, status_of_refusal, write_report};
 use serve::serve;
 use std::io::{BufWriter, Write};
 use std::process::ExitCode;
@@ -47,7 +48,7 @@ fn main(rt: HostRuntime) -> ExitCode {
     let mut err = Sink::new(rt.stderr());
     let words = match words_after_the_name(&rt) {
         Ok(words) => words,
-        Err(error) => return refused(&mut err, &[], line_refused(error)),
+        Err(refusal) => return refused(&mut err, &[], refusal),
     };
     let texts: Result<Vec<&str>, _> = words.iter().map(|word| word.as_str()).collect(rt.alloc());
     match texts {
@@ -57,14 +58,17 @@ fn main(rt: HostRuntime) -> ExitCode {
 }
 
 /// The words of the command line. One that is no UTF-8 text makes it a bad one.
-fn words_after_the_name(rt: &HostRuntime) -> Result<Vec<String>, LineError> {
+fn words_after_the_name(rt: &HostRuntime) -> Result<Vec<String>, Refusal> {
     match env::args(rt) {
-        Ok(args) => Ok(args.skip(1).collect(rt.alloc())?),
+        Ok(args) => match args.skip(1).collect(rt.alloc()) {
+            Ok(words) => Ok(words),
+            Err(_) => Err(Refusal::NoMemory),
+        },
         Err(error) => {
             if error.kind() == io::ErrorKind::InvalidData {
-                Err(LineError::Refused)
+                Err(Refusal::BadLine(LineFault::NotText))
             } else {
-                Err(LineError::NoMemory)
+                Err(Refusal::NoMemory)
             }
         }
     }
@@ -75,8 +79,9 @@ fn refused<E: Write>(err: &mut Sink<E>, words: &[&str], refusal: Refusal) -> Exi
     requires { has_failed err.old ≡ false }
     ensures { EndsReported (map (λ w. w.now) words.now) (exit_status result) (between E.contents err.old err.new) }
 {
+    let status = status_of_refusal(&refusal);
     write_report(err, words, refusal);
-    ExitCode::from(status_of_refusal(refusal))
+    ExitCode::from(status)
 }
 
 /// Serves the words over the standard streams, and gives the exit status of the process: that of

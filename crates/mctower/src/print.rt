@@ -4,7 +4,7 @@
 ghost use Rattle.std.specs.Prelude.{◌≡◌, IfOk, false, is_err, true};
 ghost use Rattle.std.specs.List.{before_first, flat_map};
 ghost use Rattle.tracer.specs.Sinks.{WentOut, has_failed, is_flushed};
-ghost use Rattle.mctower.specs.{Output.between, Print.PrintsRefusal, Print.is_line_feed, Print.shown_as};
+ghost use Rattle.mctower.specs.{Output.between, Print.PrintsRefusal, Print.is_line_feed, Print.shown_as, Print.shown_line};
 
 use arrayvec::ArrayString;
 use std::fmt;
@@ -46,6 +46,9 @@ pub fn print<W: Write>(sink: &mut Sink<W>, pieces: &[&[u8]]) -> Result<(), Write
 /// How many bytes of what a refusal says are shown at most.
 const LONGEST: usize = 200;
 
+/// A text as it is shown in a line.
+pub type Shown = ArrayString<LONGEST>;
+
 /// The text before its first line feed.
 fn first_line(text: &str) -> &str
     ensures { result.now ≡ before_first is_line_feed text.now }
@@ -53,6 +56,21 @@ fn first_line(text: &str) -> &str
     match text.split_once('\n') {
         Some((line, _)) => line,
         None => text,
+    }
+}
+
+/// A text as it is shown in a line: what stands before its first line feed, or two dots if that is
+/// longer than 200 bytes.
+pub(crate) fn shown(text: &str) -> Shown
+    ensures { result.bytes ≡ shown_line text.now }
+{
+    match Shown::from(first_line(text)) {
+        Ok(shown) => shown,
+        Err(_) => {
+            let mut dots = Shown::new();
+            dots.push_str("..");
+            dots
+        }
     }
 }
 
@@ -72,7 +90,7 @@ pub(crate) fn refuse<W: Write, F: fmt::Display>(sink: &mut Sink<W>, fault: &F)
     requires { has_failed sink.old ≡ false }
     ensures { PrintsRefusal (between W.contents sink.old sink.new) }
 {
-    let mut shown = ArrayString::<LONGEST>::new();
+    let mut shown = Shown::new();
     let _ = write!(shown, "{fault}");
     let shown = line_in(shown.as_str()).as_bytes();
     let _ = print(sink, &[b"error: ".as_slice(), shown, b"\n".as_slice()]);

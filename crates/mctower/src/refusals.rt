@@ -1,12 +1,11 @@
 //! Refusals: why an order was not done, what tells it on standard error, and the exit status.
 
-ghost use Rattle.std.specs.Prelude.{◌≡◌, false, map, MatchResult, Ok, Err};
+ghost use Rattle.std.specs.Prelude.{◌≡◌, false, map};
 ghost use Rattle.tracer.specs.Sinks.{has_failed};
-ghost use Rattle.mctower.specs.{Output.between, Refusals.PutsText, Refusals.from_count, Refusals.from_fault, Refusals.from_line, Refusals.from_steps};
-ghost use Rattle.mctower.specs.{Refusals.from_worker, Refusals.status_of_refusal, Refusals.text_of};
+ghost use Rattle.mctower.specs.{Output.IsPut, Output.between, Refusals.PutsRefusal, Refusals.from_count, Refusals.from_fault, Refusals.from_steps};
+ghost use Rattle.mctower.specs.{Refusals.from_worker, Refusals.status_of_refusal};
 
-use crate::help::help_on;
-use crate::line::LineError;
+use crate::faults::{LineFault, write_fault};
 use crate::print::{print, refuse};
 use crate::run::Fault;
 use crate::schedule::StepsError;
@@ -19,8 +18,8 @@ use tracer::Sink;
 /// Why an order was not done. Each but `BadLine` is told by its name and its number.
 #[derive(Clone, Copy, Debug, PartialEq, Eq)]
 pub enum Refusal {
-    /// The words are no command line of this program, or ask for help: the help is told.
-    BadLine,
+    /// The words are no command line of this program: what is wrong with them is told.
+    BadLine(LineFault),
     /// Memory ran out.
     NoMemory,
     /// The schedule names a CPU that the plan has not.
@@ -72,16 +71,6 @@ pub(crate) fn worker_refused(error: WorkerError) -> Refusal
     }
 }
 
-/// Words that are no order, as a refusal.
-pub(crate) fn line_refused(error: LineError) -> Refusal
-    ensures { result ≡ from_line error }
-{
-    match error {
-        LineError::NoMemory => Refusal::NoMemory,
-        LineError::Refused => Refusal::BadLine,
-    }
-}
-
 /// A text that is no schedule, as a refusal.
 pub(crate) fn steps_refused(error: StepsError) -> Refusal
     ensures { result ≡ from_steps error }
@@ -93,31 +82,21 @@ pub(crate) fn steps_refused(error: StepsError) -> Refusal
 }
 
 /// The exit status of a refusal: 2 where the command line is a bad one, else 1.
-pub(crate) fn status_of_refusal(refusal: Refusal) -> u8
-    ensures { result ≡ status_of_refusal refusal }
+pub(crate) fn status_of_refusal(refusal: &Refusal) -> u8
+    ensures { result ≡ status_of_refusal refusal.now }
 {
     match refusal {
-        Refusal::BadLine | Refusal::BadSchedule => 2,
+        Refusal::BadLine(_) | Refusal::BadSchedule => 2,
         _ => 1,
     }
 }
 
-/// The whole text that tells a refusal of these words, or why the plan is refused, which tells it.
-fn text_of(words: &[&str], refusal: Refusal) -> Result<&'static str, BootError>
-    ensures { MatchResult result (λ text. text_of (map (λ w. w.now) words.now) refusal ≡ Ok text.now)
-        (λ error. text_of (map (λ w. w.now) words.now) refusal ≡ Err error) }
+/// Puts out a text, if the sink takes it.
+fn put_text<W: Write>(sink: &mut Sink<W>, text: &str)
+    requires { has_failed sink.old ≡ false }
+    ensures { IsPut (between W.contents sink.old sink.new) text.now }
 {
-    match refusal {
-        Refusal::BadLine => Ok(help_on(words)),
-        Refusal::NoMemory => Ok("error: NoMemory(1)\n"),
-        Refusal::BadCpu => Ok("error: BadCpu(4)\n"),
-        Refusal::NoThread => Ok("error: NoThread(5)\n"),
-        Refusal::NoOrder => Ok("error: NoOrder(6)\n"),
-        Refusal::ReadFault => Ok("error: ReadFault(7)\n"),
-        Refusal::WriteFault => Ok("error: WriteFault(8)\n"),
-        Refusal::BadSchedule => Ok("error: BadSchedule(9)\n"),
-        Refusal::Plan(error) => Err(error),
-    }
+    let _ = print(sink, &[text.as_bytes()]);
 }
 
 /// Tells a refusal of these words, if the sink takes it. Takes no memory.
@@ -125,12 +104,17 @@ fn text_of(words: &[&str], refusal: Refusal) -> Result<&'static str, BootError>
 /// Requires: the sink has not failed.
 pub(crate) fn write_report<W: Write>(sink: &mut Sink<W>, words: &[&str], refusal: Refusal)
     requires { has_failed sink.old ≡ false }
-    ensures { PutsText (text_of (map (λ w. w.now) words.now) refusal) (between W.contents sink.old sink.new) }
+    ensures { PutsRefusal (map (λ w. w.now) words.now) refusal (between W.contents sink.old sink.new) }
 {
-    match text_of(words, refusal) {
-        Ok(text) => {
-            let _ = print(sink, &[text.as_bytes()]);
-        }
-        Err(error) => refuse(sink, &error),
+    match refusal {
+        Refusal::BadLine(fault) => write_fault(sink, words, fault),
+        Refusal::NoMemory => put_text(sink, "error: NoMemory(1)\n"),
+        Refusal::BadCpu => put_text(sink, "error: BadCpu(4)\n"),
+        Refusal::NoThread => put_text(sink, "error: NoThread(5)\n"),
+        Refusal::NoOrder => put_text(sink, "error: NoOrder(6)\n"),
+        Refusal::ReadFault => put_text(sink, "error: ReadFault(7)\n"),
+        Refusal::WriteFault => put_text(sink, "error: WriteFault(8)\n"),
+        Refusal::BadSchedule => put_text(sink, "error: BadSchedule(9)\n"),
+        Refusal::Plan(error) => refuse(sink, &error),
     }
 }

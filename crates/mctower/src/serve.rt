@@ -1,20 +1,21 @@
 //! Serving a command line: reads the order, does it, prints, and gives the exit status. `serve`
 //! takes memory. It may wait: for its worker threads, and for the streams.
 
-ghost use Rattle.std.specs.Prelude.{◌≡◌, ◌≤◌, ◌*◌, ◌⊎◌, IfOk, false, true, length, map, option_map, string_bytes};
+ghost use Rattle.std.specs.Prelude.{◌≡◌, ◌≤◌, ◌*◌, ◌⊎◌, IfOk, None, false, true, length, map, option_map, string_bytes};
 ghost use Rattle.std.specs.List.{flat_map};
 ghost use Rattle.event_log.specs.declared.ids.TheConstants.{CPUS};
 ghost use Rattle.tracer.specs.Sinks.{has_failed, is_flushed};
 ghost use Rattle.mctower.specs.{Output.between, Line.order_of, Schedule.ReadsSteps, Serve.Checks, Serve.Counts, Serve.Ends, Serve.OfBytes, Serve.OfInput};
-ghost use Rattle.mctower.specs.{Serve.Puts, Serve.ReadsAll, Serve.RunsPlan, Serve.Serves, Serve.PrintsVerdict, Serve.kind_refused, Serve.reads_input};
+ghost use Rattle.mctower.specs.{Serve.Puts, Serve.PutsAnswer, Serve.ReadsAll, Serve.RunsPlan, Serve.Serves, Serve.PrintsVerdict, Serve.kind_refused, Serve.reads_input};
 ghost use Rattle.mctower.specs.{Serve.steps_asked};
 
 use crate::count::{count_plain, count_table};
-use crate::line::{MOST_TIMES, Order, read_line};
+use crate::faults::{NoOrder, why_no_order};
+use crate::help::{VERSION, help_on};
+use crate::line::{LineError, MOST_TIMES, Order, read_line};
 use crate::print::print;
 use crate::refusals::{
-    Refusal, count_refused, line_refused, run_refused, status_of_refusal, steps_refused,
-    write_report,
+    Refusal, count_refused, run_refused, status_of_refusal, steps_refused, write_report,
 };
 use crate::schedule::{MOST_STEPS, StepsError, read_steps};
 use crate::states::State;
@@ -213,6 +214,35 @@ fn serve_run<R: Read, O: Write>(
     run_bytes(alloc, bytes.as_slice(), steps, out)
 }
 
+/// Answers words that make no order: puts out the help or the version that they ask for, or refuses
+/// them.
+///
+/// Requires: the words make no order.
+fn serve_no_order<O: Write>(
+    alloc: Global,
+    words: &[&str],
+    out: &mut Sink<O>,
+) -> Result<Done, Refusal>
+    requires none { order_of (map (λ w. w.now) words.now) ≡ None }
+    requires live { has_failed out.old ≡ false }
+    ensures answers { PutsAnswer (map (λ w. w.now) words.now) result (between O.contents out.old out.new) }
+    ensures flushed { IfOk result (λ _. is_flushed out.new ≡ true) }
+{
+    let name = b"mctower ".as_slice();
+    let version = VERSION.as_bytes();
+    match why_no_order(alloc, words) {
+        Ok(NoOrder::AsksHelp) => {
+            let help = help_on(words).as_bytes();
+            put_out(out, &[name, version, b"\n".as_slice(), help], Done::Exit(2))
+        }
+        Ok(NoOrder::AsksVersion) => {
+            put_out(out, &[name, version, b"\n".as_slice()], Done::Exit(2))
+        }
+        Ok(NoOrder::Faulty(fault)) => Err(Refusal::BadLine(fault)),
+        Err(_) => Err(Refusal::NoMemory),
+    }
+}
+
 /// Does what the words order, and gives what is done. Nothing is told on standard error.
 fn answer<R: Read, O: Write, T: Threads + Wait + Sync>(
     rt: &T,
@@ -222,12 +252,14 @@ fn answer<R: Read, O: Write, T: Threads + Wait + Sync>(
     out: &mut Sink<O>,
 ) -> Result<Done, Refusal>
     requires { has_failed out.old ≡ false }
-    ensures served { Serves (order_of (map (λ w. w.now) words.now)) (R.remaining input.old) result (between O.contents out.old out.new) }
+    ensures served { Serves (map (λ w. w.now) words.now) (order_of (map (λ w. w.now) words.now)) (R.remaining input.old) result
+        (between O.contents out.old out.new) }
     ensures flushed { IfOk result (λ _. is_flushed out.new ≡ true) }
     ensures unread { reads_input (order_of (map (λ w. w.now) words.now)) ≡ false → input.new ≡ input.old }
 {
     match read_line(alloc, words) {
-        Err(error) => Err(line_refused(error)),
+        Err(LineError::NoMemory) => Err(Refusal::NoMemory),
+        Err(LineError::Refused) => serve_no_order(alloc, words, out),
         Ok(Order::Count(cpus, times, lock)) => serve_count(rt, alloc, cpus, times, lock, out),
         Ok(Order::Check) => serve_check(alloc, input, out),
         Ok(Order::Run(schedule)) => match steps_in(alloc, schedule) {
@@ -241,11 +273,12 @@ fn answer<R: Read, O: Write, T: Threads + Wait + Sync>(
 /// Serves one command line: `words` are those after the program's name.
 ///
 /// Gives the exit status: 0 for a good run or a yes of `check`; 1 for a refusal, with the line
-/// `error: Name(N)` on `err`; 2 for a bad command line, with the help on its command on `err` (a
-/// bad schedule has the line of a refusal there) and nothing on `out`; 3 for a no of `check`. After
-/// a good run the state lines of its system are on `err`, after one in threads why each worker
-/// stopped; else with 0 and 3 nothing is there. With both `out` is flushed. The input is read for a
-/// check, for a run whose schedule is one, and for a run in threads.
+/// `error: Name(N)` on `err`; 2 for a bad command line, with what is wrong with it and the usage of
+/// its command on `err` (a bad schedule has the line of a refusal there) and nothing on `out`; 2 also
+/// for words that ask for help or the version, which is on `out`, and nothing on `err`; 3 for a no of
+/// `check`. After a good run the state lines of its system are on `err`, after one in threads why each
+/// worker stopped; else with 0 and 3 nothing is there. With both `out` is flushed. The input is read
+/// for a check, for a run whose schedule is one, and for a run in threads.
 ///
 /// A run goes over the tower of all layers, over the lock that its plan names, in one owned machine.
 /// One in threads waits for its workers, so it need not return.
@@ -277,8 +310,9 @@ pub fn serve<R: Read, O: Write, E: Write, T: Threads + Wait + Sync>(
             0
         }
         Err(refusal) => {
+            let status = status_of_refusal(&refusal);
             write_report(err, words, refusal);
-            status_of_refusal(refusal)
+            status
         }
     }
 }

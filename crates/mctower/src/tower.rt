@@ -19,10 +19,7 @@ use boot::{Boot, LockKind};
 use condvar::Cond;
 use event_log::CpuId;
 use fifo_buffer::Fifo;
-use ipc_calls::{
-    Ipc, LockEdit, StepwiseBuffers, StepwiseLocks, StepwiseQueues, StepwiseScheds,
-    StepwiseSections, TowerLaws,
-};
+use ipc_calls::{Ipc, LockEdit, StepwiseLocks, StepwiseScheds, StepwiseSections, TowerLaws};
 use layer_traits::Stepwise;
 use queuing_lock::QLock;
 use scheduler::Sched;
@@ -58,24 +55,15 @@ pub trait OverTower {
         ensures { Does self.old result self.new };
 }
 
-/// Goes on over message calls.
-fn over_buffers<V: OverTower, B: StepwiseBuffers + Drop>(lock: LockKind, work: &mut V) -> V::Done
-where
-    B::Machine: Drop,
-    requires { V.IsReady work.old lock }
-    ensures { V.Does work.old result work.new }
-{
-    work.over::<Ipc<B>>(lock)
-}
-
-/// [`over_buffers`] over buffers, conditions and queuing locks.
+/// Does it over queuing locks, conditions, buffers and message calls.
 fn over_locks<V: OverTower, S: StepwiseLocks + Drop>(lock: LockKind, work: &mut V) -> V::Done
 where
     S::Machine: Drop,
     requires { V.IsReady work.old lock }
     ensures { V.Does work.old result work.new }
 {
-    over_buffers::<V, Fifo<Cond<QLock<S>>>>(lock, work)
+    let _laws: TowerLaws = PhantomData;
+    work.over::<Ipc<Fifo<Cond<QLock<S>>>>>(lock)
 }
 
 /// [`over_locks`] over sleep and wakeup.
@@ -86,16 +74,6 @@ where
     ensures { V.Does work.old result work.new }
 {
     over_locks::<V, Sleeper<LockEdit, S>>(lock, work)
-}
-
-/// [`over_scheds`] over a scheduler.
-fn over_queues<V: OverTower, Q: StepwiseQueues + Drop>(lock: LockKind, work: &mut V) -> V::Done
-where
-    Q::Machine: Drop,
-    requires { V.IsReady work.old lock }
-    ensures { V.Does work.old result work.new }
-{
-    over_scheds::<V, Sched<Q>>(lock, work)
 }
 
 /// Does what is to be done over the tower that stands on a lock of this kind, of which `L` has the
@@ -112,7 +90,7 @@ where
     ensures { V.Does work.old result work.new }
 {
     let _laws: TowerLaws = PhantomData;
-    over_queues::<V, SharedQueues<L>>(lock, work)
+    over_scheds::<V, Sched<SharedQueues<L>>>(lock, work)
 }
 
 /// A plan that is to be run under a schedule, and the sink of its trace text.

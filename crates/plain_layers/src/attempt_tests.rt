@@ -2,7 +2,7 @@
 
 use crate::{Ask, Attempt, PlainBuffer, Tried};
 use event_log::{Msg, Tid};
-use layer_traits::{Parcel, Sleeps};
+use layer_traits::{Parcel, Side, Sleeps, Wake};
 use std::test::Fail;
 
 /// The message of these words: one number, or two with a comma between them.
@@ -33,15 +33,34 @@ fn attempt(text: &str) -> Option<Attempt> {
     })
 }
 
+/// Those with whom a thread waits.
+fn side_name(side: Side) -> &'static str {
+    match side {
+        Side::Receivers => "receivers",
+        Side::Senders => "senders",
+    }
+}
+
+/// Of which list a thread was woken, and the thread's number, if any was.
+fn woken(woke: Wake) -> (&'static str, Option<u8>) {
+    match woke {
+        Wake::Nobody => ("nobody", None),
+        Wake::FirstSleeper => ("the first sleeper", None),
+        Wake::Receiver(thread) => ("receiver", Some(thread.0)),
+        Wake::Sender(thread) => ("sender", Some(thread.0)),
+    }
+}
+
 /// What an attempt was told, as a text: an effect's kind, message, op and position and who was woken,
 /// or with whom its thread waits.
 fn tried_text(rt: &HostRuntime, tried: &Tried) -> Result<String, Fail> {
     let text = match *tried {
-        Tried::Refused(side) => format!(in rt.alloc(); "waits with the {side:?}")?,
+        Tried::Refused(side) => format!(in rt.alloc(); "waits with the {}", side_name(side))?,
         Tried::Acted(effect, woke) => {
             let words = effect.value.words();
             let (kind, op, pos) = (effect.kind, effect.op, effect.pos);
-            format!(in rt.alloc(); "{kind:?} {words:?} {op} {pos} {woke:?}")?
+            let (list, thread) = woken(woke);
+            format!(in rt.alloc(); "{kind:?} {words:?} {op} {pos} {list} {thread:?}")?
         }
     };
     Ok(text)
@@ -87,13 +106,13 @@ fn rows_go(rt: &HostRuntime, rows: &str) -> Result<(), Fail> {
 /// Three receivers wait at an empty buffer. A close wakes the first, the first the second and the
 /// second the third, who wakes nobody.
 const THREE_RECEIVERS: &str = "\
-0 receive; waits with the Receivers; open
-1 receive; waits with the Receivers; open
-2 receive; waits with the Receivers; open
-3 close; Close [0] 0 0 Receiver(Tid(0)); closed
-0 receive; RecvClosed [0] 1 0 Receiver(Tid(1)); closed
-1 receive; RecvClosed [0] 2 1 Receiver(Tid(2)); closed
-2 receive; RecvClosed [0] 3 2 Nobody; closed";
+0 receive; waits with the receivers; open
+1 receive; waits with the receivers; open
+2 receive; waits with the receivers; open
+3 close; Close [0] 0 0 receiver Some(0); closed
+0 receive; RecvClosed [0] 1 0 receiver Some(1); closed
+1 receive; RecvClosed [0] 2 1 receiver Some(2); closed
+2 receive; RecvClosed [0] 3 2 nobody None; closed";
 
 #[test]
 fn a_close_lets_three_receivers_go(rt: HostRuntime) -> Result<(), Fail> {
@@ -103,15 +122,15 @@ fn a_close_lets_three_receivers_go(rt: HostRuntime) -> Result<(), Fail> {
 /// Two senders wait at a full buffer. A close lets them go, and they put nothing. What was there is
 /// taken after the close, and then a receiver is told that the buffer is closed.
 const TWO_SENDERS: &str = "\
-0 7; Send [7] 0 0 Nobody; open with [7]
-1 8; waits with the Senders; open with [7]
-2 9; waits with the Senders; open with [7]
-3 close; Close [0] 1 0 Sender(Tid(1)); closed with [7]
-1 8; SendClosed [8] 2 1 Sender(Tid(2)); closed with [7]
-2 9; SendClosed [9] 3 2 Nobody; closed with [7]
-0 receive; Recv [7] 4 0 Nobody; closed
-0 receive; RecvClosed [0] 5 1 Nobody; closed
-0 close; Close [0] 6 1 Nobody; closed";
+0 7; Send [7] 0 0 nobody None; open with [7]
+1 8; waits with the senders; open with [7]
+2 9; waits with the senders; open with [7]
+3 close; Close [0] 1 0 sender Some(1); closed with [7]
+1 8; SendClosed [8] 2 1 sender Some(2); closed with [7]
+2 9; SendClosed [9] 3 2 nobody None; closed with [7]
+0 receive; Recv [7] 4 0 nobody None; closed
+0 receive; RecvClosed [0] 5 1 nobody None; closed
+0 close; Close [0] 6 1 nobody None; closed";
 
 #[test]
 fn a_close_lets_two_senders_go(rt: HostRuntime) -> Result<(), Fail> {
@@ -121,14 +140,14 @@ fn a_close_lets_two_senders_go(rt: HostRuntime) -> Result<(), Fail> {
 /// One receiver and one sender wait, and another receiver was woken and has not called again. A close
 /// wakes the receiver, who takes what is there and wakes the sender; and then nobody waits.
 const BOTH_SIDES: &str = "\
-0 receive; waits with the Receivers; open
-1 receive; waits with the Receivers; open
-2 7; Send [7] 0 0 Receiver(Tid(0)); open with [7]
-3 8; waits with the Senders; open with [7]
-2 close; Close [0] 1 0 Receiver(Tid(1)); closed with [7]
-1 receive; Recv [7] 2 0 Sender(Tid(3)); closed
-3 8; SendClosed [8] 3 1 Nobody; closed
-0 receive; RecvClosed [0] 4 1 Nobody; closed";
+0 receive; waits with the receivers; open
+1 receive; waits with the receivers; open
+2 7; Send [7] 0 0 receiver Some(0); open with [7]
+3 8; waits with the senders; open with [7]
+2 close; Close [0] 1 0 receiver Some(1); closed with [7]
+1 receive; Recv [7] 2 0 sender Some(3); closed
+3 8; SendClosed [8] 3 1 nobody None; closed
+0 receive; RecvClosed [0] 4 1 nobody None; closed";
 
 #[test]
 fn a_close_lets_both_sides_go(rt: HostRuntime) -> Result<(), Fail> {
@@ -137,8 +156,8 @@ fn a_close_lets_both_sides_go(rt: HostRuntime) -> Result<(), Fail> {
 
 /// A message of two words comes out whole.
 const TWO_WORDS: &str = "\
-0 7,8; Send [7, 8] 0 0 Nobody; open with [7, 8]
-1 receive; Recv [7, 8] 1 0 Nobody; open";
+0 7,8; Send [7, 8] 0 0 nobody None; open with [7, 8]
+1 receive; Recv [7, 8] 1 0 nobody None; open";
 
 #[test]
 fn a_message_of_two_words_comes_out_whole(rt: HostRuntime) -> Result<(), Fail> {

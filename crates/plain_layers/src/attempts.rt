@@ -15,7 +15,7 @@ use std::marker::Model;
 use thread_blocks::ThreadQueue;
 
 /// What a thread asks of a buffer.
-#[derive(Clone, Copy, Debug, PartialEq, Eq)]
+#[derive(Clone, Copy)]
 pub enum Ask {
     /// To send this message.
     Send(Msg),
@@ -26,7 +26,7 @@ pub enum Ask {
 }
 
 /// A thread's attempt to do what it asks.
-#[derive(Clone, Copy, Debug, PartialEq, Eq)]
+#[derive(Clone, Copy)]
 pub struct Attempt {
     /// The thread that calls.
     pub thread: Tid,
@@ -35,7 +35,7 @@ pub struct Attempt {
 }
 
 /// What an attempt answers.
-#[derive(Clone, Copy, Debug, PartialEq, Eq)]
+#[derive(Clone, Copy)]
 pub enum Tried {
     /// The buffer allowed it this effect, and it woke this thread.
     Acted(Effect, Wake),

@@ -38,7 +38,7 @@ e 0 0 send 0 7 0 0
 left 0 7
 end
 --
-Some(AllEnded) Ended
+all ended; ended None
 quiet true, closed false, busy None
 ==
 # The same send after thirty polls: the thread owns the buffer, and has not sent.
@@ -55,7 +55,7 @@ cap 0 1
 left 0
 end
 --
-None Running(CpuId(0))
+goes on; running Some(0)
 quiet false, closed false, busy Some(Tid(0))
 ==
 # A receiver on CPU 0 waits. A thread on CPU 1 sends 7, wakes it and sends it home, and it receives.
@@ -78,8 +78,8 @@ e 0 0 recv 0 7 1 0
 left 0
 end
 --
-Some(AllEnded) Ended
-Some(AllEnded) Ended
+all ended; ended None
+all ended; ended None
 quiet true, closed false, busy None
 "#;
 

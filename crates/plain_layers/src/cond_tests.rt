@@ -115,10 +115,10 @@ where
     let Some(PollSection::Sleeps) = calls::<G, C>(zero, m, at, &wait, section) else {
         return false;
     };
-    if zero.current().is_some() || C::wait_list_in(m, at, Tid(0)) != Some(WaitList::Receivers) {
+    let Some(WaitList::Receivers) = C::wait_list_in(m, at, Tid(0)) else {
         return false;
-    }
-    if C::owner_in(m, at) != Some(None) {
+    };
+    if zero.current().is_some() || C::owner_in(m, at) != Some(None) {
         return false;
     }
     let Some(PollSection::Answered(second)) = calls::<G, C>(

@@ -44,6 +44,8 @@ mod backoff;
 #[cfg(test)]
 mod backoff_tests;
 #[cfg(test)]
+mod beneath_tests;
+#[cfg(test)]
 mod cond_sections;
 #[cfg(test)]
 mod cond_tests;

@@ -130,7 +130,7 @@ where
     };
     matches!(acquired.out, QOut::Acquired)
         && one.current().is_none()
-        && Q::wait_list_in(m, at, Tid(1)) == Some(WaitList::Sleepers)
+        && matches!(Q::wait_list_in(m, at, Tid(1)), Some(WaitList::Sleepers))
 }
 
 /// Thread 0's Release leaves thread 1 the owner and in CPU 0's hand after the polls of a section,

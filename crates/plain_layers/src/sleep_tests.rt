@@ -307,9 +307,10 @@ fn is_observed<S: OwnedThreadLayer<SleepLaw<Nap>>>(home: &mut S, m: &mut S::Mach
     if !switches(home, m) || ends_at(home, m, sleep(Tid(0))).is_none() {
         return false;
     }
-    if S::wait_list_in(m, BufId(0), Tid(0)) != Some(WaitList::Receivers)
-        || S::block_in(m, BufId(0)) != Some(&7)
-    {
+    let Some(WaitList::Receivers) = S::wait_list_in(m, BufId(0), Tid(0)) else {
+        return false;
+    };
+    if S::block_in(m, BufId(0)) != Some(&7) {
         return false;
     }
     if home.wait_list_here(BufId(0), Tid(0)).is_some() || home.block_here(BufId(0)).is_some() {

@@ -9,7 +9,7 @@ use boot::Boot;
 use cpu::System;
 use event_log::{BufId, CpuId, NoMemory, Tid};
 use ipc_calls::{Ipc, OpensBuffers, WholeBuffers, calls_are_whole};
-use layer_traits::{Owned, Prompt};
+use layer_traits::{Owned, Place, Prompt, Reason};
 use std::alloc::Global;
 use std::process::Abort;
 use std::test::Fail;
@@ -33,7 +33,7 @@ cap 0 1
 left 0
 end
 --
-None Running(CpuId(0))
+goes on; running Some(0)
 quiet false, closed false, busy None
 ==
 # It sends and ends.
@@ -51,7 +51,7 @@ e 0 0 send 0 7 0 0
 left 0 7
 end
 --
-Some(AllEnded) Ended
+all ended; ended None
 quiet true, closed false, busy None
 ==
 # The same with as many steps as the tower takes for it: a CPU whose threads have all ended takes no more.
@@ -69,7 +69,7 @@ e 0 0 send 0 7 0 0
 left 0 7
 end
 --
-Some(AllEnded) Ended
+all ended; ended None
 quiet true, closed false, busy None
 ==
 # One thread that sends 7 twice into a buffer with room for one. The second send finds it full, and its thread waits.
@@ -87,7 +87,7 @@ e 0 0 send 0 7 0 0
 left 0 7
 end
 --
-None WaitSend(BufId(0))
+goes on; waits to send Some(0)
 quiet true, closed false, busy None
 ==
 # A receiver on CPU 0, and on CPU 1 a thread that sends 7. The receiver of an empty buffer waits.
@@ -107,8 +107,8 @@ cap 0 1
 left 0
 end
 --
-None WaitRecv(BufId(0))
-None Ready(CpuId(1))
+goes on; waits to receive Some(0)
+goes on; ready Some(1)
 quiet false, closed false, busy None
 ==
 # The receiver waits, the sender wakes it and sends it home, and it receives.
@@ -130,8 +130,8 @@ e 0 0 recv 0 7 1 0
 left 0
 end
 --
-Some(AllEnded) Ended
-Some(AllEnded) Ended
+all ended; ended None
+all ended; ended None
 quiet true, closed false, busy None
 ==
 # One thread that sends two words as one message, and receives them as they were sent.
@@ -150,7 +150,7 @@ e 0 0 recv 0 7,8 1 0
 left 0
 end
 --
-Some(AllEnded) Ended
+all ended; ended None
 quiet true, closed false, busy None
 ==
 # A receiver on CPU 0, and on CPU 1 a thread that closes the buffer. The receiver waits, the close wakes it and sends it home,
@@ -173,8 +173,8 @@ e 0 0 recvc 0 - 1 0
 left 0
 end
 --
-Some(AllEnded) Ended
-Some(AllEnded) Ended
+all ended; ended None
+all ended; ended None
 quiet true, closed true, busy None
 ==
 # One thread that sends 7, closes the buffer, sends again and receives twice. A closed buffer takes no message, gives the one that
@@ -197,7 +197,7 @@ e 0 0 recvc 0 - 4 1
 left 0
 end
 --
-Some(AllEnded) Ended
+all ended; ended None
 quiet true, closed true, busy None
 ==
 # Three receivers, each on a CPU of its own, and on CPU 3 a thread that closes the buffer. The close wakes the first, the first
@@ -228,10 +228,10 @@ e 2 2 recvc 0 - 3 2
 left 0
 end
 --
-Some(AllEnded) Ended
-Some(AllEnded) Ended
-Some(AllEnded) Ended
-Some(AllEnded) Ended
+all ended; ended None
+all ended; ended None
+all ended; ended None
+all ended; ended None
 quiet true, closed true, busy None
 ==
 # A thread that sends 7 twice into room for one, another that sends 8, and on CPU 2 one that closes the buffer and receives twice.
@@ -261,9 +261,9 @@ e 2 2 recvc 0 - 5 1
 left 0
 end
 --
-Some(AllEnded) Ended
-Some(AllEnded) Ended
-Some(AllEnded) Ended
+all ended; ended None
+all ended; ended None
+all ended; ended None
 quiet true, closed true, busy None
 "#;
 
@@ -302,6 +302,30 @@ where
     Ok(system)
 }
 
+/// Why a CPU takes no step, or that it goes on.
+fn reason_text(halted: Option<Reason>) -> &'static str {
+    match halted {
+        None => "goes on",
+        Some(Reason::AllEnded) => "all ended",
+        Some(Reason::TraceFull) => "trace full",
+        Some(Reason::StepsUsed) => "steps used",
+    }
+}
+
+/// Where a thread stands, and the number of the CPU or the buffer that it stands at, if it has not ended.
+fn place_text(place: Place) -> (&'static str, Option<u8>) {
+    match place {
+        Place::Running(cpu) => ("running", Some(cpu.0)),
+        Place::Ready(cpu) => ("ready", Some(cpu.0)),
+        Place::Pending(cpu) => ("pending", Some(cpu.0)),
+        Place::Hand(cpu) => ("in the hand", Some(cpu.0)),
+        Place::LockSleeper(buffer) => ("sleeps", Some(buffer.0)),
+        Place::WaitRecv(buffer) => ("waits to receive", Some(buffer.0)),
+        Place::WaitSend(buffer) => ("waits to send", Some(buffer.0)),
+        Place::Ended => ("ended", None),
+    }
+}
+
 /// Whether the system stands as these lines say: a line for each number, and one for all.
 fn stands<I: Owned + Drop>(
     alloc: Global,
@@ -320,9 +344,9 @@ where
         let Some((line, after)) = rest.split_once('\n') else {
             return Ok(false);
         };
-        let halted = system.halted(CpuId(number));
-        let place = system.place(Tid(number));
-        let Ok(told) = format!(in alloc; "{halted:?} {place:?}") else {
+        let halted = reason_text(system.halted(CpuId(number)));
+        let (place, at) = place_text(system.place(Tid(number)));
+        let Ok(told) = format!(in alloc; "{halted}; {place} {at:?}") else {
             return Err(NoMemory);
         };
         if told.as_str() != line {
@@ -444,7 +468,7 @@ fn one_step_systems_run_as_the_tower_does(rt: HostRuntime) -> Result<(), Fail> {
     Ok(())
 }
 
-// To be run with each allocation refused in turn, as bench/refuse.sh does.
+// To be run with each allocation refused in turn, as tests/refuse.sh does.
 #[test]
 fn a_refused_allocation_of_a_system_is_no_memory(rt: HostRuntime) {
     match one_step_systems_go(&rt, rt.alloc()) {

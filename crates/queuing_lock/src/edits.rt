@@ -10,7 +10,7 @@ use layer_traits::{
 };
 
 /// A call on a queuing lock, as a section of the layer that lets threads sleep.
-#[derive(Clone, Copy, Debug, PartialEq, Eq)]
+#[derive(Clone, Copy)]
 pub struct QLockEdit<F, R> {
     /// The call.
     pub edit: QEdit<F, R>,

@@ -10,7 +10,7 @@ use layer_traits::{Edit, Moves, Outcome, Payload, Sleeps, SplitEdit, WaitList, W
 use thread_blocks::ThreadQueue;
 
 /// An edit of the layer above, with what it makes of the waiting lists.
-#[derive(Clone, Copy, Debug, PartialEq, Eq)]
+#[derive(Clone, Copy)]
 pub struct SleepEdit<E> {
     /// The edit.
     pub edit: E,

@@ -33,10 +33,3 @@ pub use laws::yes_is_right;
 pub use sinks::{Sink, WriteFault};
 pub use verdicts::{Reason, Verdict};
 pub use writing::write_trace;
-
-#[cfg(test)]
-mod checking_tests;
-#[cfg(test)]
-mod slow_tests;
-#[cfg(test)]
-mod writing_tests;

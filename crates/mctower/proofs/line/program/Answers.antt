@@ -1,14 +1,15 @@
 use Rattle.std.proofs.Common.{◌∙◌, ap}
 use Rattle.std.proofs.lemmas.Result.{IfOk-weaker}
 use Rattle.clap.specs.Simple.{app_of_fields, on_top}
-use Rattle.mctower.specs.Line.{program, without_binary_name}
+use Rattle.mctower.specs.Line.{program, with_version, without_binary_name}
 use Rattle.mctower.proofs.LineLemmas.{grown}
 use Rattle.mctower.proofs.line.program.Goals as goal
 
 pub returns : goal.returns
 unfolding program
 returns c =
-    let bare = ap app_of_fields c.no_binary_name.ensures ∙ ap (on_top without_binary_name) c.new.ensures.app in
+    let nameless = ap app_of_fields c.no_binary_name.ensures ∙ ap (on_top without_binary_name) c.new.ensures.app in
+    let bare = ap app_of_fields c.version.ensures ∙ ap (on_top with_version) nameless in
     let count = c.in_ok-count_command.ensures in
     let run = c.in_ok-run_command.ensures in
     let threads = c.in_ok-threads_command.ensures in

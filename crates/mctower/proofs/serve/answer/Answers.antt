@@ -10,7 +10,7 @@ returns-in-Ok-clause-served g c =
     c.in-Ok-Run.ensures ∙ ap (λ o. Some (ghost_by o)) c.in-Ok-Run.field-0-is in
     let asked : steps_asked (option_map string_bytes c.in-Ok-Run.schedule) ≡ Some c.as_slice.result.now =
     c.in-Ok.ensures ∙ ap Some (sym c.as_slice.ensures.value) in
-    subst (λ (ghost_of : Option Ghost). Serves ghost_of (g.R.Read.remaining c.args.input.now)
+    subst (λ (ghost_of : Option Ghost). Serves (map (λ w. w.now) c.args.words.now) ghost_of (g.R.Read.remaining c.args.input.now)
     c.serve_run.result (between g.O.Write.contents c.args.out.now c.serve_run.new.out)) (sym means)
     (subst (λ (steps : Option (List CpuId)). RunsAsked steps
     (g.R.Read.remaining c.args.input.now) c.serve_run.result (between g.O.Write.contents c.args.out.now c.serve_run.new.out)) (sym asked)

@@ -1,0 +1,100 @@
+#!/usr/bin/env python3
+"""Runs a command, as .ci/run, and tells what the prover took in it for each crate: minutes of processor time for the crate's proof, for its tests, for
+its must-fail edits and for its wrong bodies, and the most memory that one check held. These are the figures of docs/GATE.md.
+
+    tools/gate-minutes.py COMMAND..
+
+It looks at all processes once a second, so that it misses up to a second of each; each check takes many. The table goes to standard error at the end, and
+to the end of the file that MINUTES names, if it names one.
+"""
+import argparse
+import collections
+import os
+import re
+import subprocess
+import sys
+import threading
+
+KINDS = ("proof", "tests", "edits", "wrong")
+TICKS, PAGE = os.sysconf("SC_CLK_TCK"), os.sysconf("SC_PAGE_SIZE")
+
+
+def processes():
+    """Returns of each process its parent, its seconds of processor time, its memory in bytes and when it started."""
+    found = {}
+    for it in filter(str.isdigit, os.listdir("/proc")):
+        try:
+            words = open(f"/proc/{it}/stat").read().rpartition(")")[2].split()
+        except OSError:
+            continue
+        found[int(it)] = int(words[1]), (int(words[11]) + int(words[12])) / TICKS, int(words[21]) * PAGE, words[19]
+    return found
+
+
+def check_of(pid):
+    """Returns the crate and the kind of the check that a process runs, or None where it is no prover of its own."""
+    try:
+        words = open(f"/proc/{pid}/cmdline").read().split("\0")
+        at = os.readlink(f"/proc/{pid}/cwd")
+    except OSError:
+        return None
+    if not words[0].endswith("/rattle") or "--crate-name" not in words:
+        return None
+    kind = "edits" if "/rt-edit-" in at else "wrong" if "/wrong-bodies-" in at else "tests" if "--test" in words else "proof"
+    return words[words.index("--crate-name") + 1], kind
+
+
+class Tally:
+    def __init__(self):
+        self.known, self.seconds, self.memory = {}, {}, collections.Counter()
+
+    def look(self):
+        now, held = processes(), collections.Counter()
+        for pid, (_, seconds, memory, since) in now.items():
+            check, at = None, pid
+            while check is None and at in now and at > 1:
+                key = at, now[at][3]
+                # what is no prover yet may become one
+                self.known[key] = self.known.get(key) or check_of(at)
+                check, root, at = self.known[key], key, now[at][0]
+            if check:
+                self.seconds[check, pid, since] = seconds
+                held[check[0], root] += memory
+        for (crate, _), memory in held.items():
+            self.memory[crate] = max(self.memory[crate], memory)
+
+    def table(self):
+        total = collections.Counter()
+        for (check, _, _), seconds in self.seconds.items():
+            total[check] += seconds / 60
+        yield f"{'crate':16}" + "".join(f"{kind:>8}" for kind in KINDS) + "      GB"
+        for crate in sorted({crate for crate, _ in total}):
+            yield f"{crate:16}" + "".join(f"{total[crate, kind]:8.1f}" for kind in KINDS) + f"{self.memory[crate] / 1e9:8.1f}"
+        yield f"{'sum':16}" + "".join(f"{sum(total[crate, kind] for crate in self.memory):8.1f}" for kind in KINDS)
+
+
+def main():
+    read = argparse.ArgumentParser(description=__doc__, formatter_class=argparse.RawDescriptionHelpFormatter)
+    read.add_argument("command", nargs=argparse.REMAINDER)
+    given = read.parse_args()
+    tally, ended = Tally(), threading.Event()
+
+    def watch():
+        while not ended.wait(1):
+            tally.look()
+
+    watcher = threading.Thread(target=watch)
+    watcher.start()
+    status = subprocess.run(given.command).returncode
+    ended.set()
+    watcher.join()
+    table = "\n".join(tally.table())
+    print(table, file=sys.stderr)
+    if "MINUTES" in os.environ:
+        with open(os.environ["MINUTES"], "a") as minutes:
+            print(table, file=minutes)
+    return status
+
+
+if __name__ == "__main__":
+    sys.exit(main())
