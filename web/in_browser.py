@@ -34,7 +34,8 @@ RUN_TIMES = """(() => { let slowest = ['', 0]; for (const [name, plan] of Object
   if (fastest > slowest[1]) slowest = [name, fastest]; } return slowest; })()"""
 
 # Each step of a run of more than 1,000, forth and then back, as the arrow keys go, in milliseconds: the median, and the mean.
-STEP_TIMES = """(() => { page.loadStored('ledger'); const times = []; const timed = act => { const start = performance.now(); act(); document.body.getBoundingClientRect(); times.push(performance.now() - start); };
+STEP_TIMES = """(() => { page.loadStored('ledger'); const times = [];
+  const timed = act => { const start = performance.now(); act(); document.body.getBoundingClientRect(); times.push(performance.now() - start); };
   while (page.at < page.run.length) timed(() => page.player.move(1)); while (page.at > 0) timed(() => page.player.move(-1));
   times.sort((x, y) => x - y); return [times.length, times[times.length >> 1], times.reduce((sum, one) => sum + one, 0) / times.length]; })()"""
 
@@ -186,14 +187,15 @@ class Checks:
         self.browser.click("[data-panel=planPanel]")
         self.set_value("#planText", "document.querySelector('#planText').value.replace('send 0', 'sned 0')")
         self.browser.click("#runPlan")
-        self.holds("a plan that is typed in is refused", self.text("#planRefused"), "error: Guest(23) thread 1 line 1 UnknownWord(10) line 13: program = [\"set r0 7\", \"sned 0 r0\"] "
+        self.holds("a plan that is typed in is refused", self.text("#planRefused"),
+                   "error: Guest(23) thread 1 line 1 UnknownWord(10) line 13: program = [\"set r0 7\", \"sned 0 r0\"] "
                    "an instruction begins with one of set, add, sub, jnz, send, sendm, recv, recvm, close, yield, exit; near it: send")
         self.set_value("#planText", "'cpus = 2\\n<script>window.ran = 1</script>'")
         self.browser.click("#runPlan")
         self.holds("a text with <script> is text", ["<script>window.ran = 1</script>" in self.text("#planRefused"), self.browser.read("window.ran ?? null")], [True, None])
         self.set_value("#planText", f"'{OWN_PLAN}'")
         self.browser.click("#runPlan")
-        self.holds("a plan of one's own is shown", [self.browser.read("document.querySelector('#planPanel').open"), self.browser.read("document.querySelector('#plan').value")], [False, "your own"])
+        self.holds("a plan of one's own is shown", self.browser.read("[document.querySelector('#planPanel').open, document.querySelector('#plan').value]"), [False, "your own"])
         self.keys("shift 0")
         self.holds("and runs", [self.at()[0] > 5, self.browser.read("page.session.evidence.at(page.at)")], [True, True])
         link, at = self.link(), self.at()
@@ -255,7 +257,8 @@ class Checks:
 
     def policy(self):
         self.open()
-        self.holds("nothing beyond the page's own policy", self.browser.read(BREACHES), [None, ["connect-src", "eval", "img-src", "script-src", "script-src-elem", "style-src-attr"]])
+        forbidden = ["connect-src", "eval", "img-src", "script-src", "script-src-elem", "style-src-attr"]
+        self.holds("nothing beyond the page's own policy", self.browser.read(BREACHES), [None, forbidden])
 
     def broken_module(self, room):
         page = (ROOT / "web/tower.html").read_text(encoding="utf-8")

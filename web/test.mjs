@@ -167,7 +167,8 @@ function firstOther(text, told, scripts) {
 
 // The model tells the same cells as plans/kernel.py, with each rule and without it.
 function modelCells() {
-  const scripts = sources(ROOT)('({ RunRecord, Run, planOf, stepsOf, readSchedule })'), told = spawnSync('python3', [join(ROOT, 'web/records.py')], { encoding: 'utf8', maxBuffer: 1 << 29 });
+  const scripts = sources(ROOT)('({ RunRecord, Run, planOf, stepsOf, readSchedule })');
+  const told = spawnSync('python3', [join(ROOT, 'web/records.py')], { encoding: 'utf8', maxBuffer: 1 << 29 });
   if (told.status !== 0) throw new Error(`web/records.py: ${told.stderr}`);
   for (const line of told.stdout.trimEnd().split('\n')) {
     const [name, text, record] = JSON.parse(line), other = firstOther(text, record, scripts);

@@ -1,33 +1,37 @@
 "use strict";
 // What the page says of itself: signs and keys, what is proved, what is only compared, and of which sources the program is.
 
-const COMPARED = html`<p>✓ <b>Said by the proved program too</b>, here in this page, after this step: each thread's place, which CPUs are halted, quiet, each call that took effect with its op and
-  pos, what is left in each buffer. <b>Told by the page's own model alone</b>, which is not proved: sections, lines of programs, registers, owners, orders in queues and lines,
-  words of locks, and whether a law holds.</p>`;
+const COMPARED = html`<p>✓ <b>Said by the proved program too</b>, here in this page, after this step: each thread's place, which CPUs are halted, quiet, each call
+  that took effect with its op and pos, what is left in each buffer. <b>Told by the page's own model alone</b>, which is not proved: sections, lines of programs,
+  registers, owners, orders in queues and lines, words of locks, and whether a law holds.</p>`;
 
 const LANES = html`<p>A CPU's lane: <b>+</b> takes a ticket, <b>…</b> looks in vain, light grey enters, dark grey edits and leaves. ● a call takes effect.</p>`;
 
-const KEYS = html`<p>Keys: ← → on and back, with shift by sections; Page Up and Page Down by effects; Home, End; space plays; a digit steps that CPU, with shift until it blocks;
-  Backspace takes a change back; r goes on at random; c copies the schedule.</p>`;
+const KEYS = html`<p>Keys: ← → on and back, with shift by sections; Page Up and Page Down by effects; Home, End; space plays; a digit steps that CPU, with shift
+  until it blocks; Backspace takes a change back; r goes on at random; c copies the schedule.</p>`;
 
 const NOT_PROVED = [
-  "the two compilers' path from the proved program to WebAssembly: the kit's clang and linker, a small C library (web/libc.c), and a script that makes addresses 32 bits wide (web/lower.py)",
+  "the way from the proved program to WebAssembly: clang, its linker, a small C library (web/libc.c), and a script that makes addresses 32 bits wide (web/lower.py)",
   "this page's own script: what it draws, the model that tells sections and queues, and what it says beside a refusal",
   "the browser",
 ];
 
 function commitOf({ commit, changed, kit, bytes, sha256 }) {
-  return html`The program is of commit <code>${commit.slice(0, 12)}</code>${changed ? " with changes that were not committed" : ""}, built with ${kit}: ${bytes} bytes of WebAssembly,
+  const more = changed ? " with changes that were not committed" : "";
+  return html`The program is of commit <code>${commit.slice(0, 12)}</code>${more}, built with ${kit}: ${bytes} bytes of WebAssembly,
     SHA-256 <code>${sha256.slice(0, 16)}…</code>.`;
 }
 
-const aboutPage = facts => html`<p><b>Proved</b>, in Rattle (Rust with contracts), function by function: the program <code>mctower</code>. By its contract, what <code>run</code> prints is the trace text
-  and the state lines of the step table's system after these steps; <code>check</code> says yes only to a text that spells a run of first-in first-out buffers; a refusal names the first
-  fault. And for every schedule, the calls that took effect have one order, which is a run of first-in first-out buffers: in each buffer <b>sent = received ++ left</b>.</p>
+const aboutPage = facts => html`
+  <p><b>Proved</b>, in Rattle (Rust with contracts), function by function: the program <code>mctower</code>. By its contract, what <code>run</code> prints is the
+  trace text and the state lines of the step table's system after these steps; <code>check</code> says yes only to a text that spells a run of first-in first-out
+  buffers; a refusal names the first fault. And for every schedule, the calls that took effect have one order, which is a run of first-in first-out buffers: in
+  each buffer <b>sent = received ++ left</b>.</p>
   <p>Nothing is promised of progress, of fairness, of freedom from deadlock, or of time.</p>
   <p><b>Not proved</b>: ${NOT_PROVED.map((one, i) => html`${i ? "; " : ""}${one}`)}.</p>
-  <p><b>Compared instead</b>: before a change of the program is merged, this page's module has to print what the program itself prints, on every stored plan behind both kinds of lock, on random plans, and on
-  damaged plans, schedules and texts. And in this page, each time a ✓ stands: the model and the program print the same text after this step.</p>
+  <p><b>Compared instead</b>: before a change of the program is merged, this page's module has to print what the program itself prints, on every stored plan behind
+  both kinds of lock, on random plans, and on damaged plans, schedules and texts. And in this page, each time a ✓ stands: the model and the program print the same
+  text after this step.</p>
   <p>With a rule left out, nothing is proved: that kernel is the model's alone.</p>
   <p>${commitOf(facts.program)}</p>`;
 

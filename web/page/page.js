@@ -70,8 +70,8 @@ class Page {
   link() {
     const { name, text, rule, steps, at } = this.session, isStored = this.plans[name] === text;
     const parts = { plan: isStored ? name : "", rule: rule ?? "", schedule: spelledSchedule(steps), step: at, text: isStored || text.length > MOST_LINK ? "" : text };
-    const spelled = Object.entries(parts).filter(([key, value]) => value !== "" || key === "schedule").map(([key, value]) => `${key}=${encodeURIComponent(value).replaceAll("%2C", ",")}`);
-    return `#${spelled.join("&")}`;
+    const kept = Object.entries(parts).filter(([key, value]) => value !== "" || key === "schedule");
+    return `#${kept.map(([key, value]) => `${key}=${encodeURIComponent(value).replaceAll("%2C", ",")}`).join("&")}`;
   }
 
   // Puts the link of what is shown into the address, a little later: a browser takes only so many changes of it at a time.
@@ -134,7 +134,8 @@ class Page {
     byId("count").textContent = `step ${at} of ${run.length}`;
     Object.assign(byId("slide"), { max: run.length, value: at });
     for (const [id, isOff] of [["first", isFirst], ["back", isFirst], ["on", isLast], ["last", isLast], ["undo", session.past.length === 0]]) byId(id).disabled = isOff;
-    fill("choices", html`${counted(session.plan.cpus).map(c => html`<button data-choose="${c}" aria-label="step CPU ${c}" title="key ${c}: what stands behind is dropped">${c}</button>`)}`);
+    const choice = c => html`<button data-choose="${c}" aria-label="step CPU ${c}" title="key ${c}: what stands behind is dropped">${c}</button>`;
+    fill("choices", html`${counted(session.plan.cpus).map(choice)}`);
     byId("plan").value = this.plans[session.name] === session.text ? session.name : OWN_PLAN;
     byId("rule").value = session.rule ?? "";
     if (document.activeElement !== byId("schedule")) byId("schedule").value = spelledSchedule(session.steps);
@@ -144,7 +145,8 @@ class Page {
 
   showLesson() {
     const { name, rule } = this.session, lesson = this.lessons.find(one => one.plan === name && one.rule === rule);
-    fill("lesson", lesson ? html`<b>Lesson ${lesson.lesson}</b> ${lesson.look} <button id="broken">where a law breaks</button> <button id="empty">begin with no steps</button>` : "");
+    const buttons = html`<button id="broken">where a law breaks</button> <button id="empty">begin with no steps</button>`;
+    fill("lesson", lesson ? html`<b>Lesson ${lesson.lesson}</b> ${lesson.look} ${buttons}` : "");
   }
 
   showEvidence() {
@@ -181,7 +183,8 @@ class Page {
 
   showPrinted() {
     const { schedule, output, errors } = this.session.printedHere(), words = schedule ? ` run --schedule '${schedule}'` : " run";
-    fill("printed", html`<pre>mctower${words} &lt; ${this.session.name}</pre><p>On standard output, the trace text:</p><pre>${output}</pre><p>On standard error, the state lines:</p><pre>${errors}</pre>`);
+    fill("printed", html`<pre>mctower${words} &lt; ${this.session.name}</pre><p>On standard output, the trace text:</p><pre>${output}</pre>
+      <p>On standard error, the state lines:</p><pre>${errors}</pre>`);
   }
 
   takeTrace() {

@@ -96,7 +96,8 @@ class PlanPlaces {
     const table = t === null ? this.top : this.thread(t), allowed = (t === null ? PLAN_KEYS : THREAD_KEYS)[name], node = table.get(name);
     if (node) return { ...this.at(node.keyAt ?? node.at, name), says: `${name} is ${allowed}` };
     const strays = [...table.keys()].filter(key => nearWords(key, [name]).length), near = table.get(strays[0]);
-    const ignored = strays.length ? `; ${strays.join(", ")} is near it and is ignored` : "", where = near ? this.at(near.keyAt ?? near.at, strays[0]) : t === null ? {} : this.head(t);
+    const ignored = strays.length ? `; ${strays.join(", ")} is near it and is ignored` : "", other = t === null ? {} : this.head(t);
+    const where = near ? this.at(near.keyAt ?? near.at, strays[0]) : other;
     return { ...where, says: `${t === null ? "the plan" : `thread ${t}`} has no key ${name}: ${allowed}${ignored}` };
   }
 
@@ -151,7 +152,7 @@ function whereInSchedule(text, refusal, cpus) {
 // Beside the judge's no, such as `no 6 EmptyTake(35)`.
 function whereInTrace(text, verdict) {
   const [, number, reason] = /^no (\d+) (\w+)/.exec(verdict), lines = text.split("\n"), line = lines[number - 1] ?? "";
-  const hints = [text.includes("\r") ? "its lines end in a carriage return, which no line may have" : "", text !== "" && !text.endsWith("\n") ? "its last line has no line feed" : ""];
+  const hints = [text.includes("\r") ? "its lines end in a carriage return, which no line may have" : "", /[^\n]$/.test(text) ? "its last line has no line feed" : ""];
   return { line: Number(number), text: line, says: [TRACE_REASONS[reason], ...hints].filter(Boolean).join("; ") };
 }
 
