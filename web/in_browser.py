@@ -33,10 +33,10 @@ RUN_TIMES = """(() => { let slowest = ['', 0]; for (const [name, plan] of Object
   for (let i = 0; i < 20; i++) { const start = performance.now(); page.program.runPlan(plan, schedule); fastest = Math.min(fastest, performance.now() - start); }
   if (fastest > slowest[1]) slowest = [name, fastest]; } return slowest; })()"""
 
-# Each step of a run of 1,000, forth and then back, as the arrow keys go: the mean and the slowest, in milliseconds.
+# Each step of a run of more than 1,000, forth and then back, as the arrow keys go, in milliseconds: the median, and the mean.
 STEP_TIMES = """(() => { page.loadStored('ledger'); const times = []; const timed = act => { const start = performance.now(); act(); document.body.getBoundingClientRect(); times.push(performance.now() - start); };
   while (page.at < page.run.length) timed(() => page.player.move(1)); while (page.at > 0) timed(() => page.player.move(-1));
-  return [times.length, times.reduce((sum, one) => sum + one, 0) / times.length, Math.max(...times)]; })()"""
+  times.sort((x, y) => x - y); return [times.length, times[times.length >> 1], times.reduce((sum, one) => sum + one, 0) / times.length]; })()"""
 
 # What of a page the policy has to forbid: an image from elsewhere, a script that is put in, a style attribute, a text that is run.
 BREACHES = """(async () => { const seen = []; document.addEventListener('securitypolicyviolation', event => seen.push(event.effectiveDirective));
@@ -244,10 +244,10 @@ class Checks:
 
     def times(self):
         name, run_ms = self.browser.read(RUN_TIMES)
-        count, mean, slowest = self.browser.read(STEP_TIMES)
-        print(f"in a browser: the slowest run of a book plan is {name}'s, {run_ms:.1f} ms; {count} steps forth and back take {mean:.1f} ms each, the slowest {slowest:.0f}")
-        self.holds(f"a run of {name} takes at most {MOST_RUN_MS} ms", run_ms <= MOST_RUN_MS, True)
-        self.holds(f"a step takes {mean} ms in the mean", mean <= MOST_STEP_MS, True)
+        count, median, mean = self.browser.read(STEP_TIMES)
+        print(f"in a browser: the longest run of a stored plan is {name}'s, {run_ms:.1f} ms; of {count} steps forth and back the median is {median:.1f} ms, the mean {mean:.1f}")
+        self.holds(f"a run of {name} takes {run_ms} ms", run_ms <= MOST_RUN_MS, True)
+        self.holds(f"a step takes {median} ms", median <= MOST_STEP_MS, True)
 
     def is_clean(self):
         self.holds("no request leaves the page", self.browser.requests(), [])

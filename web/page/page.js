@@ -149,8 +149,8 @@ class Page {
 
   showEvidence() {
     const { evidence, record, rule, breakdown } = this.session, differs = evidence.firstDifference(), all = record.printed.length;
-    const counted = `compared after ${evidence.counted} of ${all} beginnings of this schedule`;
-    fill("evidence", rule ? html`<p>not the proved kernel; ${counted} with the proved program</p>` : html`<p>${differs === null ? "✓ the proved program prints the same" : "the proved program differs"}: ${counted}</p>`);
+    const same = rule ? "not the proved kernel" : differs === null ? "✓ the proved program prints the same" : "the proved program differs";
+    fill("evidence", html`<p>${same}</p><p>compared: ${evidence.counted} of ${all} beginnings</p>`);
     const other = differs === null ? "" : ` The proved program prints something else${evidence.counted < all ? "" : ` from step ${differs} on`}.`;
     const said = differs === null && evidence.counted === all ? " In this run the proved program prints the same." : other;
     fill("warn", rule ? `NOT the proved kernel: rule ${rule} is left out, so ${this.facts.rules[rule]}.${said} ${breakdown ?? ""}`
