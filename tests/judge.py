@@ -6,6 +6,7 @@ calls it; it takes seconds.
 
 Without a name it runs each build of mctower that `rt ci` or `rt run` left. The last line is 'judge: N passed, M failed'.
 """
+import argparse
 import subprocess
 import sys
 from collections import Counter, namedtuple
@@ -180,7 +181,9 @@ def faults_of(program):
 
 
 def main():
-    named = [Path(it).resolve() for it in sys.argv[1:]] or [ROOT / it for it in BUILDS if (ROOT / it).exists()]
+    read = argparse.ArgumentParser(description=__doc__, formatter_class=argparse.RawDescriptionHelpFormatter)
+    read.add_argument("programs", nargs="*", metavar="PROGRAM")
+    named = [Path(it).resolve() for it in read.parse_args().programs] or [ROOT / it for it in BUILDS if (ROOT / it).exists()]
     results = [fault for program in named for fault in faults_of(str(program))]
     for fault in filter(None, results):
         print(f"judge: {fault}")
