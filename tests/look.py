@@ -324,7 +324,7 @@ def main():
         return 0
     tally = Tally("--write" in sys.argv)
     if not record.program_is_there():
-        sys.exit(f"look: there is no program at {PROGRAM}: build it with bench/prove-all.py, or name one")
+        sys.exit(f"look: there is no program at {PROGRAM}: build it with tools/prove-all.py, or name one")
     told = pages(tally)
     words(tally, told)
     for part in (page_size, markup, reports, rules, lessons, merged, false_program, threads, colours, browser):
