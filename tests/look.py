@@ -70,10 +70,17 @@ class Tally:
         self.holds(text == kept, f"{path.relative_to(ROOT)} says `{there}`, and what comes is `{here}`")
 
 
-def run_of(path, wrong=None):
+def run_of(path):
     """The record of a plan's run, held beside the proved program."""
     text, plan = record.read_plan(path)
-    return explore.run_of(path.name, text, plan, steps_of(schedule_in(text)), wrong)
+    return explore.run_of(path.name, text, plan, steps_of(schedule_in(text)))
+
+
+def broken_run(path, wrong):
+    """The record of a plan's run without a rule, with no program beside it."""
+    text, plan = record.read_plan(path)
+    told, _ = record.record(plan, steps_of(schedule_in(text)), wrong)
+    return {"plan": path.name, "source": text, "checked": False, **told}
 
 
 def pages(tally):
@@ -249,7 +256,7 @@ def words(tally, told):
     node = shutil.which("node")
     if not node:
         return tally.holds(False, "there is no node here, which runs the script of the pages")
-    runs = told + [run_of(ROOT / f"{BREAKS[rule]}.toml", rule) for rule in WRONG]
+    runs = told + [broken_run(ROOT / f"{BREAKS[rule]}.toml", rule) for rule in WRONG]
     with tempfile.NamedTemporaryFile("w", suffix=".js", encoding="utf-8") as script:
         script.write((ROOT / "plans/look.js").read_text(encoding="utf-8") + NODE)
         script.flush()
