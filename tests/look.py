@@ -190,17 +190,9 @@ def walks_alike(plain, pieces, choose, steps=150):
     return True
 
 
-FALSE_PROGRAM = f"""#!{sys.executable}
-import sys
-sys.path.insert(0, {str(ROOT / "plans")!r})
-from kernel import Kernel
-from reading import read_plan
-from schedules import steps_of
-system = Kernel(read_plan(sys.stdin.buffer.read()), "close-drops-the-items")
-for c in steps_of("".join(sys.argv[3:])):
-    system.step(c)
-sys.stdout.write(system.text())
-sys.stderr.write(system.states())
+# The proved program, but for a message that is left.
+FALSE_PROGRAM = f"""#!/bin/sh
+{PROGRAM} "$@" | sed 's/^left 0 7$/left 0/'
 """
 
 
@@ -214,7 +206,7 @@ def false_program(tally):
         row = "tests/rows/closed-with-an-item.toml"
         for command in (["plans/explore.py", row, "0*26"], ["plans/explore.py", row, "--find", "effects 2"], ["plans/picture.py", row, "0*26"]):
             ran = subprocess.run([sys.executable, *command], cwd=ROOT, env=environment, capture_output=True, text=True, check=False)
-            says = "after step 26 kernel.py and the proved program differ: kernel.py prints `left 0 7`, the proved program `left 0`"
+            says = "after step 11 kernel.py and the proved program differ: kernel.py prints `left 0 7`, the proved program `left 0`"
             tally.holds(ran.returncode == 1 and ran.stdout == "" and says in ran.stderr, f"{' '.join(command)} with a false program: {ran.returncode} {ran.stderr}")
 
 
