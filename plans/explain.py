@@ -5,8 +5,8 @@
     plans/explain.py --check TEXT       as `mctower check` judges it
 
 The first line is `mctower`'s own, and the exit status too: 0, 1 after a refusal, 2 where the schedule is none, 3 after a no. PLAN or TEXT
-is a file, or - for standard input. With --beside the first line is left out, for use behind a run that printed it. Nothing here is proved: tests/explain.py
-holds it against the program. It needs Python alone, 3.9 or later, and no built program.
+is a file, or - for standard input. With --beside it tells a refusal without its first line, for use behind a run that printed that.
+Nothing here is proved: tests/explain.py holds it against the program. It needs Python alone, 3.9 or later, and no built program.
 """
 import argparse
 import sys
@@ -54,7 +54,7 @@ def told(asked):
 def main(words):
     parser = argparse.ArgumentParser(description=__doc__, formatter_class=argparse.RawDescriptionHelpFormatter, usage=argparse.SUPPRESS, allow_abbrev=False)
     parser.add_argument("--check", action="store_true", help="the file is a trace text")
-    parser.add_argument("--beside", action="store_true", help="leave out the first line")
+    parser.add_argument("--beside", action="store_true", help="tell a refusal alone, without its first line")
     parser.add_argument("file")
     parser.add_argument("schedule", nargs="?")
     asked = parser.parse_args(words)
@@ -62,7 +62,9 @@ def main(words):
         parser.exit(2, f"explain: there is nothing at {asked.file}\n")
     status, first, beside = told(asked)
     sys.stdout.reconfigure(encoding="utf-8", errors="backslashreplace")
-    for line in beside if asked.beside else [first, *beside]:
+    if not asked.beside:
+        print(first)
+    for line in beside if status or not asked.beside else []:
         print(line)
     return status
 

@@ -33,7 +33,7 @@ ODD_PIECES = [*WORDS, "r0", "r7", "r8", "R0", "r00", *ODD_NUMBERS]
 
 def some_program(pick, buffers):
     """Some right instructions."""
-    makers = [lambda: f"set r{pick.randrange(8)} {pick.choice([0, 1, 7, 2**64 - 1])}", lambda: f"add r{pick.randrange(8)} r{pick.randrange(8)}",
+    makers = [lambda: f"set r{pick.randrange(8)} {pick.choice([0, 1, 7, 2**64 - 1])}", lambda: f"{pick.choice(['add', 'sub'])} r{pick.randrange(8)} r{pick.randrange(8)}",
               lambda: f"send {pick.randrange(buffers)} r{pick.randrange(8)}", lambda: f"recv {pick.randrange(buffers)} r{pick.randrange(8)} 0",
               lambda: f"sendm {pick.randrange(buffers)} {pick.randint(1, 8)}", lambda: f"recvm {pick.randrange(buffers)}",
               lambda: f"close {pick.randrange(buffers)}", lambda: f"jnz r{pick.randrange(8)} 0", lambda: "yield", lambda: "exit"]

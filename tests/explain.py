@@ -90,6 +90,15 @@ def hold_run(to, what, plan, schedule):
         to.hold(f"{what} by kernel.py", case, came, (status, out, err))
 
 
+def odd_lines(to):
+    """Holds a right plan with each odd value, and with each odd line in front and behind."""
+    for value in damaged.ODD_VALUES:
+        hold_run(to, "odd lines", f"extra = {value}\n{mistakes.PLAN}".encode(), "0*6")
+    for line in damaged.ODD_LINES:
+        hold_run(to, "odd lines", f"{line}\n{mistakes.PLAN}".encode(), "0*6")
+        hold_run(to, "odd lines", f"{mistakes.PLAN}{line}\n".encode(), "0*6")
+
+
 def plans(to, pick, many):
     for _ in range(many):
         plan = damaged.often(pick, damaged.near_a_plan, damaged.some_plan(pick), [0, 1, 1, 1, 2, 3])
@@ -173,6 +182,10 @@ def command_lines(to):
     to.hold("commands", "a folder", command(["plans/explain.py", "plans"], to), (1, "error: ReadFault(7)\nplans: Is a directory\n", ""))
     status, out, err = command(["plans/kernel.py", "--wrong", "other-side-only", "--wrong", "take-skips-the-turn", "plans/one-send.toml"], to)
     to.hold("commands", "a second rule", (status, out, err.splitlines()[-1]), (2, "", "kernel.py: error: --wrong stands twice"))
+    early = ["--wrong", "look-always-hits", "plans/woken-from-afar.toml", "0*6,1*4,0*2,1,0*2"]  # a receive that is in no line tries
+    status, _, err = command(["plans/kernel.py", *early], to)
+    to.hold("commands", early, (status, err.splitlines()[-1]), (0, "quiet no"))
+    to.hold("commands", "explain.py --beside", command(["plans/explain.py", "--beside", "plans/one-send.toml"], to), (0, "", ""))
     to.hold("commands", "many steps", (schedule_of([0] * 70000 + [1]), steps_of("0*2,1")), ("0*70000,1", [0, 0, 1]))
 
 
@@ -185,6 +198,7 @@ def main(words):
     with tempfile.TemporaryDirectory() as folder:
         to, pick = Comparisons(program, Path(folder)), random.Random(1)
         told_mistakes(to)
+        odd_lines(to)
         command_lines(to)
         in_rounds(to)
         plans(to, pick, many["plans"])

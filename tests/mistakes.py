@@ -262,6 +262,15 @@ BEHIND_A_CLOSE = [
     ("e 1 1 recv 0 7 2 0\ne 1 1 recvc 0 7 3 1\n", ':7: the value of recvc is "7": wanted -'),
     ("e 1 1 recv 0 7 2 0\ne 1 1 sendc 0 - 3 1\n", ':7: "-" is no word of a message: wanted a number, in digits without a leading zero'),
 ]
+# The words of a message that is sent and left, and what is told of the text.
+WIDE = "mctower-trace 3\nbuffers 1\ncap 0 2\ne 0 0 send 0 {words} 0 0\nleft 0 {words}\nend\n"
+MESSAGES = [
+    ("1,2,3,4,5,6,7,8", None),
+    ("1,2,3,4,5,6,7,8,9", ":4: the message has 9 words: at most 8"),
+    ("1,02", ':4: "02" is no word of a message: wanted a number, in digits without a leading zero'),
+    ("1,18446744073709551616", ":4: 18446744073709551616 is no word of 64 bits: at most 18446744073709551615"),
+    ("1", ":6: the head is mctower-trace 3, and mctower-trace 1 can spell this text: that has to be the head"),
+]
 
 
 def told(name, words):
@@ -283,5 +292,7 @@ def of_texts():
     """Each mistake in a trace text: the text, and the lines that are told."""
     for old, new, words in TEXTS:
         yield (new if old == TEXT else TEXT.replace(old, new)).encode(), told("my.txt", words)
+    for message, words in MESSAGES:
+        yield WIDE.format(words=message).encode(), told("my.txt", words)
     for lines, words in BEHIND_A_CLOSE:
         yield (CLOSED + lines).encode(), told("my.txt", words)

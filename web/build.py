@@ -27,7 +27,7 @@ import record  # noqa: E402
 SCRIPTS = [ROOT / "plans/look.js", *(PARTS / f"{name}.js" for name in ("markup", "schedule", "program", "toml", "plan", "twin", "laws", "record", "where", "session",
                                                                        "player", "about", "page"))]
 POLICY = "default-src 'none'; script-src {scripts} 'wasm-unsafe-eval'; style-src {styles}; base-uri 'none'; form-action 'none'"
-PROGRAM = re.compile(r'<script type="text/plain" id="program">(.*?)</script>', re.S)
+PROGRAM = re.compile(r'<script type="text/plain" id="packed">(.*?)</script>', re.S)
 
 
 def git(*words):
@@ -83,7 +83,7 @@ def assembled(program, about):
         "LESSONS": as_json(json.loads((PARTS / "lessons.json").read_text(encoding="utf-8"))),
         "FACTS": as_json({"program": about, "places": record.PLACES, "rules": kernel.WRONG}),
         "PROGRAM": program,
-        "SCRIPTS": "\n".join(f'<script id="{path.stem}">{text}</script>' for path, text in zip(SCRIPTS, scripts)),
+        "SCRIPTS": "\n".join(f'<script id="script-{path.stem}">{text}</script>' for path, text in zip(SCRIPTS, scripts)),
     }
     page = (PARTS / "tower.html").read_text(encoding="utf-8")
     return re.sub(r"\{\{([A-Z]+)\}\}", lambda found: pieces[found.group(1)], page)

@@ -28,23 +28,23 @@ CHIPS = """(() => { const wrong = []; for (const name of Object.keys(page.plans)
     if (/undefined|NaN|\\[object/.test(document.body.innerText)) wrong.push([name, step, 'text']); } }
   return wrong.slice(0, 5); })()"""
 
-# What a run of each stored plan takes in a new instance, in milliseconds: the slowest of the means of 20. The longest schedules are not the book's.
-RUN_TIMES = """(() => { let slowest = ['', 0]; for (const [name, plan] of Object.entries(page.plans)) { const schedule = scheduleIn(plan); if (stepsOf(readSchedule(schedule).items).length > 500) continue;
-  page.program.runPlan(plan, schedule); const start = performance.now(); for (let i = 0; i < 20; i++) page.program.runPlan(plan, schedule);
-  const mean = (performance.now() - start) / 20; if (mean > slowest[1]) slowest = [name, mean]; } return slowest; })()"""
+# What a run of each stored plan takes in a new instance, in milliseconds: of the plan that takes longest, the fastest of 20, since the machine may be busy.
+RUN_TIMES = """(() => { let slowest = ['', 0]; for (const [name, plan] of Object.entries(page.plans)) { const schedule = scheduleIn(plan); let fastest = Infinity;
+  for (let i = 0; i < 20; i++) { const start = performance.now(); page.program.runPlan(plan, schedule); fastest = Math.min(fastest, performance.now() - start); }
+  if (fastest > slowest[1]) slowest = [name, fastest]; } return slowest; })()"""
 
-# Each step of a run of 1,000, forth and then back, as the arrow keys go: the mean and the slowest, in milliseconds.
+# Each step of a run of more than 1,000, forth and then back, as the arrow keys go, in milliseconds: the median, and the mean.
 STEP_TIMES = """(() => { page.loadStored('ledger'); const times = []; const timed = act => { const start = performance.now(); act(); document.body.getBoundingClientRect(); times.push(performance.now() - start); };
   while (page.at < page.run.length) timed(() => page.player.move(1)); while (page.at > 0) timed(() => page.player.move(-1));
-  return [times.length, times.reduce((sum, one) => sum + one, 0) / times.length, Math.max(...times)]; })()"""
+  times.sort((x, y) => x - y); return [times.length, times[times.length >> 1], times.reduce((sum, one) => sum + one, 0) / times.length]; })()"""
 
 # What of a page the policy has to forbid: an image from elsewhere, a script that is put in, a style attribute, a text that is run.
 BREACHES = """(async () => { const seen = []; document.addEventListener('securitypolicyviolation', event => seen.push(event.effectiveDirective));
   document.body.insertAdjacentHTML('beforeend', '<img src="http://127.0.0.1:9/x.png"><p id="styled" style="color: red">x</p>');
   const script = document.createElement('script'); script.textContent = 'window.ran = 1'; document.body.append(script);
   try { await fetch('http://127.0.0.1:9/'); seen.push('fetched'); } catch {}
-  try { eval('window.ran = 2'); } catch {}
-  await new Promise(done => setTimeout(done, 200)); return [window.ran ?? null, [...new Set(seen)].sort()]; })()"""
+  setTimeout(() => { try { eval('window.ran = 2'); } catch { seen.push('eval'); } });
+  await new Promise(done => setTimeout(done, 300)); return [window.ran ?? null, [...new Set(seen)].sort()]; })()"""
 
 
 class Checks:
@@ -186,7 +186,7 @@ class Checks:
         self.browser.click("[data-panel=planPanel]")
         self.set_value("#planText", "document.querySelector('#planText').value.replace('send 0', 'sned 0')")
         self.browser.click("#runPlan")
-        self.holds("a plan that is typed in is refused", self.text("#planRefused"), "error: Guest(23) thread 1 line 1 UnknownWord(10) line 12: program = [\"set r0 7\", \"sned 0 r0\"] "
+        self.holds("a plan that is typed in is refused", self.text("#planRefused"), "error: Guest(23) thread 1 line 1 UnknownWord(10) line 13: program = [\"set r0 7\", \"sned 0 r0\"] "
                    "an instruction begins with one of set, add, sub, jnz, send, sendm, recv, recvm, close, yield, exit; near it: send")
         self.set_value("#planText", "'cpus = 2\\n<script>window.ran = 1</script>'")
         self.browser.click("#runPlan")
@@ -244,10 +244,10 @@ class Checks:
 
     def times(self):
         name, run_ms = self.browser.read(RUN_TIMES)
-        count, mean, slowest = self.browser.read(STEP_TIMES)
-        print(f"in a browser: the slowest run of a book plan is {name}'s, {run_ms:.1f} ms; {count} steps forth and back take {mean:.1f} ms each, the slowest {slowest:.0f}")
-        self.holds(f"a run of {name} takes at most {MOST_RUN_MS} ms", run_ms <= MOST_RUN_MS, True)
-        self.holds(f"a step takes {mean} ms in the mean", mean <= MOST_STEP_MS, True)
+        count, median, mean = self.browser.read(STEP_TIMES)
+        print(f"in a browser: the longest run of a stored plan is {name}'s, {run_ms:.1f} ms; of {count} steps forth and back the median is {median:.1f} ms, the mean {mean:.1f}")
+        self.holds(f"a run of {name} takes {run_ms} ms", run_ms <= MOST_RUN_MS, True)
+        self.holds(f"a step takes {median} ms", median <= MOST_STEP_MS, True)
 
     def is_clean(self):
         self.holds("no request leaves the page", self.browser.requests(), [])
@@ -255,11 +255,11 @@ class Checks:
 
     def policy(self):
         self.open()
-        self.holds("nothing beyond the page's own policy", self.browser.read(BREACHES), [None, ["connect-src", "img-src", "script-src-elem", "style-src-attr"]])
+        self.holds("nothing beyond the page's own policy", self.browser.read(BREACHES), [None, ["connect-src", "eval", "img-src", "script-src", "script-src-elem", "style-src-attr"]])
 
     def broken_module(self, room):
         page = (ROOT / "web/tower.html").read_text(encoding="utf-8")
-        start = page.index('id="program">') + 4000
+        start = page.index('id="packed">') + 4000
         broken = Path(room, "broken.html")
         broken.write_text(page[:start] + "AAAAAAAA" + page[start + 8:], encoding="utf-8")
         self.browser.open(broken.as_uri())

@@ -157,11 +157,11 @@ static long fails(int error) {
 }
 
 /* Puts word i at the start of a buffer. Returns its length, -1 if there is no such word, and -2 if it does not fit; then the buffer is full. Each
-   word is ended by a line feed. */
+   word is ended by a 0. */
 long rattle_arg(size i, byte *buffer, size room) {
   size start = 0, length;
   for (; start < words.length; start += length + 1, i--) {
-    for (length = 0; words.at[start + length] != '\n'; length++) {
+    for (length = 0; words.at[start + length] != 0; length++) {
     }
     if (i > 0) continue;
     __builtin_memcpy(buffer, words.at + start, length < room ? length : room);

@@ -21,8 +21,8 @@ export function scriptsOf(texts) {
 
 // A built page: {program, facts, lessons, evaluate}.
 export async function taken(path) {
-  const page = readFileSync(path, 'utf8'), evaluate = scriptsOf(SCRIPTS.map(id => elementOf(page, id)));
-  const program = await evaluate('text => Program.unpacked(text)')(elementOf(page, 'program'));
+  const page = readFileSync(path, 'utf8'), evaluate = scriptsOf(SCRIPTS.map(name => elementOf(page, `script-${name}`)));
+  const program = await evaluate('text => Program.unpacked(text)')(elementOf(page, 'packed'));
   return { program, evaluate, facts: JSON.parse(elementOf(page, 'facts')), lessons: JSON.parse(elementOf(page, 'lessons')) };
 }
 

@@ -149,10 +149,10 @@ class Page {
 
   showEvidence() {
     const { evidence, record, rule, breakdown } = this.session, differs = evidence.firstDifference(), all = record.printed.length;
-    const counted = `compared after ${evidence.counted} of ${all} beginnings of this schedule`;
-    fill("evidence", rule ? html`<p>${counted} with the proved program</p>` : html`<p>✓ the proved program prints the same: ${counted}</p>`);
-    const said = differs === null ? (evidence.counted === all ? " In this run the proved program prints the same." : "")
-      : ` The proved program prints something else${evidence.counted < all ? "" : ` from step ${differs} on`}.`;
+    const same = rule ? "not the proved kernel" : differs === null ? "✓ the proved program prints the same" : "the proved program differs";
+    fill("evidence", html`<p>${same}</p><p>compared: ${evidence.counted} of ${all} beginnings</p>`);
+    const other = differs === null ? "" : ` The proved program prints something else${evidence.counted < all ? "" : ` from step ${differs} on`}.`;
+    const said = differs === null && evidence.counted === all ? " In this run the proved program prints the same." : other;
     fill("warn", rule ? `NOT the proved kernel: rule ${rule} is left out, so ${this.facts.rules[rule]}.${said} ${breakdown ?? ""}`
       : differs === null ? "" : `The page's model and the proved program differ after step ${differs}: believe what is printed, and tell who made this page.`);
   }
@@ -284,7 +284,7 @@ class Page {
   }
 }
 
-Program.unpacked(byId("program").textContent).then(program => { window.page = new Page(program); }).catch(fault => {
+Program.unpacked(byId("packed").textContent).then(program => { window.page = new Page(program); }).catch(fault => {
   const needs = "It needs a browser of 2023 or later, with WebAssembly and DecompressionStream, and the whole file.";
   fill("warn", `The program in this page is broken or this browser cannot run it: ${fault}. ${needs}`);
 });

@@ -24,7 +24,7 @@ class Program {
   run(words, input) {
     const end = status => { throw new Ended(status); };
     const exports = new WebAssembly.Instance(this.module, { page: { exit: end } }).exports;
-    Program.give(exports, exports.page_words, ["mctower", ...words].map(word => `${word}\n`).join(""));
+    Program.give(exports, exports.page_words, ["mctower", ...words].map(word => `${word}\0`).join(""));
     Program.give(exports, exports.page_input, input);
     try {
       const status = Program.statusOf(exports);
