@@ -14,7 +14,7 @@ from pathlib import Path
 import lower
 
 ROOT = Path(__file__).resolve().parent.parent
-sys.path[:0] = [str(ROOT / "tools"), str(ROOT / "bench")]
+sys.path.append(str(ROOT / "tools"))
 import kit  # noqa: E402
 
 # The flags that rattle gives its clang for wasm64, and the linker's.

@@ -1,10 +1,4 @@
 #!/usr/bin/env node
-// Holds the page web/tower.html against this tree: the program in it against the native program, the model in it against both and plans/kernel.py.
-//
-//     web/test.mjs [--many N]     N times as many random and damaged runs
-//
-// It takes the program out of the page. It fails if the page answers otherwise than crates/mctower/out/mctower (MCTOWER names another), and not if it
-// is merely of an older commit. It needs node 20 or later, python3, and the built program. The last line counts; the status is 1 on any difference.
 import { spawnSync } from 'node:child_process';
 import { existsSync, mkdtempSync, readFileSync, readdirSync, rmSync } from 'node:fs';
 import { tmpdir } from 'node:os';
@@ -13,6 +7,13 @@ import { fileURLToPath } from 'node:url';
 import { chooser, damaged } from './damage.mjs';
 import { refusals } from './refusals.mjs';
 import { sources, taken } from './taken.mjs';
+
+const HELP = `Holds the page web/tower.html against this tree: the program in it against the native program, the model in it against both and plans/kernel.py.
+
+    web/test.mjs [--many N]     N times as many random and damaged runs
+
+It takes the program out of the page. It fails if the page answers otherwise than crates/mctower/out/mctower (MCTOWER names another), and not if it
+is merely of an older commit. It needs node 20 or later, python3, and the built program. The last line counts; the status is 1 on any difference.`;
 
 const ROOT = dirname(dirname(fileURLToPath(import.meta.url))), NATIVE = process.env.MCTOWER ?? join(ROOT, 'crates/mctower/out/mctower');
 const RANDOM_SMALL = 240, RANDOM_LARGE = 60, SMALL_STEPS = 1000, LARGE_STEPS = 3000, DAMAGED = 400, MODEL_BEGINNINGS = 60;
@@ -85,9 +86,8 @@ class Held {
 
   // Random plans behind both locks, by turns.
   randomRuns(folder, many) {
-    const script = ['tests/random_plan.py', 'bench/random_plan.py'].map(path => join(ROOT, path)).find(existsSync);
     for (const [first, count, steps, ...size] of [[1, RANDOM_SMALL * many, SMALL_STEPS], [100001, RANDOM_LARGE * many, LARGE_STEPS, 'large']]) {
-      const made = spawnSync('python3', [script, folder, first, count, steps, ...size].map(String), { stdio: 'inherit' });
+      const made = spawnSync('python3', [join(ROOT, 'tests/random_plan.py'), folder, first, count, steps, ...size].map(String), { stdio: 'inherit' });
       if (made.status !== 0) throw new Error('no random plans');
       for (let seed = first; seed < first + count; seed++) this.randomRun(readFileSync(`${folder}/${seed}.toml`, 'utf8'), seed);
     }
@@ -178,7 +178,7 @@ function modelCells() {
 async function main() {
   const words = process.argv.slice(2), many = words[0] === '--many' ? Number(words[1]) : 1;
   if (words.includes('--help') || !(many >= 1)) {
-    console.log(readFileSync(fileURLToPath(import.meta.url), 'utf8').split('\n').slice(1).filter((line, i, all) => all.slice(0, i + 1).every(one => one.startsWith('//'))).map(line => line.slice(3)).join('\n'));
+    console.log(HELP);
     process.exit(words.includes('--help') ? 0 : 2);
   }
   if (!existsSync(NATIVE)) throw new Error(`build the program first: there is none at ${NATIVE}`);
