@@ -70,10 +70,17 @@ class Tally:
         self.holds(text == kept, f"{path.relative_to(ROOT)} says `{there}`, and what comes is `{here}`")
 
 
-def run_of(path, wrong=None):
+def run_of(path):
     """The record of a plan's run, held beside the proved program."""
     text, plan = record.read_plan(path)
-    return explore.run_of(path.name, text, plan, steps_of(schedule_in(text)), wrong)
+    return explore.run_of(path.name, text, plan, steps_of(schedule_in(text)))
+
+
+def broken_run(path, wrong):
+    """The record of a plan's run without a rule, with no program beside it."""
+    text, plan = record.read_plan(path)
+    told, _ = record.record(plan, steps_of(schedule_in(text)), wrong)
+    return {"plan": path.name, "source": text, "checked": False, **told}
 
 
 def pages(tally):
@@ -183,17 +190,9 @@ def walks_alike(plain, pieces, choose, steps=150):
     return True
 
 
-FALSE_PROGRAM = f"""#!{sys.executable}
-import sys
-sys.path.insert(0, {str(ROOT / "plans")!r})
-from kernel import Kernel
-from reading import read_plan
-from schedules import steps_of
-system = Kernel(read_plan(sys.stdin.buffer.read()), "close-drops-the-items")
-for c in steps_of("".join(sys.argv[3:])):
-    system.step(c)
-sys.stdout.write(system.text())
-sys.stderr.write(system.states())
+# The proved program, but for a message that is left.
+FALSE_PROGRAM = f"""#!/bin/sh
+{PROGRAM} "$@" | sed 's/^left 0 7$/left 0/'
 """
 
 
@@ -207,7 +206,7 @@ def false_program(tally):
         row = "tests/rows/closed-with-an-item.toml"
         for command in (["plans/explore.py", row, "0*26"], ["plans/explore.py", row, "--find", "effects 2"], ["plans/picture.py", row, "0*26"]):
             ran = subprocess.run([sys.executable, *command], cwd=ROOT, env=environment, capture_output=True, text=True, check=False)
-            says = "after step 26 kernel.py and the proved program differ: kernel.py prints `left 0 7`, the proved program `left 0`"
+            says = "after step 11 kernel.py and the proved program differ: kernel.py prints `left 0 7`, the proved program `left 0`"
             tally.holds(ran.returncode == 1 and ran.stdout == "" and says in ran.stderr, f"{' '.join(command)} with a false program: {ran.returncode} {ran.stderr}")
 
 
@@ -249,7 +248,7 @@ def words(tally, told):
     node = shutil.which("node")
     if not node:
         return tally.holds(False, "there is no node here, which runs the script of the pages")
-    runs = told + [run_of(ROOT / f"{BREAKS[rule]}.toml", rule) for rule in WRONG]
+    runs = told + [broken_run(ROOT / f"{BREAKS[rule]}.toml", rule) for rule in WRONG]
     with tempfile.NamedTemporaryFile("w", suffix=".js", encoding="utf-8") as script:
         script.write((ROOT / "plans/look.js").read_text(encoding="utf-8") + NODE)
         script.flush()
@@ -324,7 +323,7 @@ def main():
         return 0
     tally = Tally("--write" in sys.argv)
     if not record.program_is_there():
-        sys.exit(f"look: there is no program at {PROGRAM}: build it with bench/prove-all.py, or name one")
+        sys.exit(f"look: there is no program at {PROGRAM}: build it with tools/prove-all.py, or name one")
     told = pages(tally)
     words(tally, told)
     for part in (page_size, markup, reports, rules, lessons, merged, false_program, threads, colours, browser):

@@ -5,7 +5,6 @@
 
 It needs a Chromium (tests/browser.py), and says so where none is. The last line is 'look_browser: N passed, M failed'.
 """
-import os
 import subprocess
 import sys
 import tempfile
@@ -17,7 +16,6 @@ from browser import Browser, find_browser
 ROOT = Path(__file__).resolve().parent.parent
 PAGES = {
     "run": ["plans/two-receivers.toml"],
-    "three": ["plans/closed-for-two.toml", "--all"],
     "all": ["plans/woken-from-afar.toml", "--all"],
     "broken": ["plans/receives-twice.toml", "--wrong", "pend-keeps-the-hand"],
     "lost": ["plans/two-receivers.toml", "0*13,1*13,2*43,1*6,0*23", "--wrong", "other-side-only"],
@@ -60,11 +58,9 @@ class Checks:
 
 
 def make_pages(room):
-    """Makes the pages; that of thousands of states without the program beside it, which takes its time."""
     for name, words in PAGES.items():
-        environment = {**os.environ, "MCTOWER": "/dev/null"} if name == "three" else os.environ
         with open(room / f"{name}.html", "w", encoding="utf-8") as page:
-            subprocess.run([sys.executable, "plans/explore.py", *words], cwd=ROOT, env=environment, stdout=page, check=True)
+            subprocess.run([sys.executable, "plans/explore.py", *words], cwd=ROOT, stdout=page, check=True)
 
 
 def keys(checks):
@@ -153,16 +149,15 @@ def chips(checks):
 def looks(checks):
     """What stands in 1280 by 720; names for a screen reader; nothing goes out."""
     browser = checks.browser
-    for page in ("run", "three", "all", "lost"):
+    for page in ("run", "all", "lost"):
         checks.open(page)
         checks.holds(f"{page}: controls without a name", browser.read(NAMELESS), [])
         checks.holds(f"{page}: the page has a language and a title", browser.read("document.documentElement.lang + ' ' + !!document.title"), "en true")
-    for page in ("run", "three"):
-        checks.open(page)
-        low = browser.read(LOWEST)
-        warned = browser.read("element('warn').offsetHeight")
-        checks.holds(f"{page}: three CPUs, three threads and a buffer stand above 720 ({low - warned:.0f})", low - warned <= 720, True)
-        checks.holds(f"{page}: nothing is wider than the page", browser.read("document.documentElement.scrollWidth <= innerWidth"), True)
+    tools = browser.read("(() => { element('tools').hidden = false; return element('tools').offsetHeight; })()")  # of a page of all states
+    checks.open("run")
+    low = browser.read(LOWEST) - browser.read("element('warn').offsetHeight") + tools
+    checks.holds(f"three CPUs, three threads and a buffer stand above 720, also below the row of tools ({low:.0f})", low <= 720, True)
+    checks.holds("nothing is wider than the page", browser.read("document.documentElement.scrollWidth <= innerWidth"), True)
 
 
 def choosing(checks):
@@ -223,7 +218,7 @@ def policy(checks):
 
 def pictures(checks, folder):
     """Pictures of the pages, to be looked at."""
-    for page, link in (("run", "#step=85"), ("all", "#schedule=0*13,1*24&step=30"), ("lost", "#step=98"), ("three", "#step=60")):
+    for page, link in (("run", "#step=85"), ("all", "#schedule=0*13,1*24&step=30"), ("lost", "#step=98")):
         checks.open(page, link)
         checks.browser.picture(Path(folder) / f"{page}.png")
 

@@ -228,7 +228,7 @@ class Trial:
         if any(self.lib.STALE.search(it) for it in lines):
             return "the kept work of a library could not be used"
         if not re.match(r"only=\d+ proved=\d+", lines[-1]):
-            told = next((it for it in lines if "error" in it), lines[-1])
+            told = next((it for it in lines if "error: " in it), lines[-1])
             return f"the check ended without a verdict: {told}"
         return ""
 
