@@ -4,11 +4,12 @@ its must-fail edits and for its wrong bodies, and the most memory that one check
 
     tools/gate-minutes.py COMMAND..
 
-It looks at all processes once a second, so that it misses up to a second of each; each check takes many. The table goes to standard error at the end, and
-to the end of the file that MINUTES names, if it names one.
+It looks once a second at the command's processes and at theirs, and at no other check on the machine, so that it misses up to a second of each; each check
+takes many. The table goes to standard error at the end, and to the end of the file that MINUTES names, if it names one.
 """
 import argparse
 import collections
+import ctypes
 import os
 import re
 import subprocess
@@ -44,6 +45,19 @@ def check_of(pid):
     return words[words.index("--crate-name") + 1], kind
 
 
+def keep_orphans():
+    """Makes this process the parent of each process beneath it whose own parent ends first."""
+    set_child_subreaper = 36  # of linux/prctl.h
+    ctypes.CDLL(None, use_errno=True).prctl(set_child_subreaper, 1, 0, 0, 0)
+
+
+def is_beneath(pid, now, root):
+    """Whether a process is one of `root`'s, or one of theirs."""
+    while pid != root and pid in now:
+        pid = now[pid][0]
+    return pid == root
+
+
 class Tally:
     def __init__(self):
         self.known, self.seconds, self.memory = {}, {}, collections.Counter()
@@ -51,6 +65,8 @@ class Tally:
     def look(self):
         now, held = processes(), collections.Counter()
         for pid, (_, seconds, memory, since) in now.items():
+            if not is_beneath(pid, now, os.getpid()):
+                continue
             check, at = None, pid
             while check is None and at in now and at > 1:
                 key = at, now[at][3]
@@ -83,6 +99,7 @@ def main():
         while not ended.wait(1):
             tally.look()
 
+    keep_orphans()
     watcher = threading.Thread(target=watch)
     watcher.start()
     status = subprocess.run(given.command).returncode
