@@ -40,4 +40,4 @@ pub use logs::EventLog;
 pub use messages::{Msg, WORDS};
 pub use refusals::{LogFull, NoMemory};
 pub use rings::Ring;
-pub use runs::{run_by_index, run_grows, run_has_op_order};
+pub use runs::{run_by_index, run_grows, run_has_op_order, taken_is_put};
