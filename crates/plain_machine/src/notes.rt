@@ -109,7 +109,7 @@ impl<M> Notes<M> {
             lock,
             atom: Atom::Free,
         });
-        self.marks.push(mark).unwrap();
+        self.marks.push_reserved(mark);
     }
 
     /// Puts `note` at the end of the notes.
@@ -120,6 +120,6 @@ impl<M> Notes<M> {
         ensures room { room_of self.new.notes ≡ room_of self.old.notes }
         ensures marks { self.new.marks ≡ self.old.marks }
     {
-        self.notes.push(note).unwrap();
+        self.notes.push_reserved(note);
     }
 }
