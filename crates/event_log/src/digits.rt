@@ -1,8 +1,9 @@
 //! Numbers written in decimal digits, as programs, schedules and trace texts spell them. No call
 //! takes memory or waits.
 
-ghost use Rattle.std.specs.Prelude.{◌≡◌, ◌≤◌, ◌<◌, ◌^◌, ℕ, List, Some, decimal, IfSome};
-ghost use Rattle.std.specs.{Char.is_ascii_digit, List.list_all};
+ghost use Rattle.std.specs.Prelude.{◌≡◌, ◌≤◌, ◌<◌, ◌^◌, ℕ, List, Some, decimal, false, length, slice_index, take, true, IfSome};
+ghost use Rattle.std.specs.{Char.is_ascii_digit, List.list_all, Str.all_ascii_digits, Str.Parse.digits_value};
+ghost use Rattle.event_log.specs.declared.digits.TheConstants.{SHORT};
 ghost use Rattle.event_log.specs.Digits.{is_number, number_to};
 
 /// Whether `text` spells a number, of any size: it is `0`, or digits of which the first is not `0`.
@@ -25,18 +26,40 @@ fn has_only_digits(text: &[u8]) -> bool
     text.iter().all(|byte| byte.is_ascii_digit())
 }
 
-/// The number that `text` spells, if it spells one of at most `most`: `0`, or digits of which the
-/// first is not `0`. Any other text gives `None`, a sign or a leading zero included.
-pub fn number_to(text: &[u8], most: u64) -> Option<u64>
+/// How many digits `leading_digits` reads at most: so many stay below 2^64, with no look at the size
+/// of their number.
+pub const SHORT: usize = 19;
+
+/// The digits that the text begins with, `SHORT` at most: how many they are, and their number, which
+/// is 0 where there is none. They may begin with zeros.
+#[inline(always)]
+pub fn leading_digits(text: &[u8]) -> (usize, u64)
+    ensures few { result.0 ≤ SHORT }
+    ensures inside { result.0 ≤ length text.now }
+    ensures digits { all_ascii_digits (take result.0 text.now) ≡ true }
+    ensures number { result.1 ≡ digits_value 10 (take result.0 text.now) }
+    ensures longest { result.0 < SHORT → result.0 < length text.now → is_ascii_digit (slice_index text.now result.0) ≡ false }
+{
+    let most = text.len().min(SHORT);
+    let mut number: u64 = 0;
+    for count in 0..most {
+        let byte = text[count];
+        if !byte.is_ascii_digit() {
+            return (count, number);
+        }
+        number = number * 10 + u64::from(byte - b'0');
+    }
+    (most, number)
+}
+
+/// The number of at most `most` that a text of any length spells: a digit is taken only where the
+/// number stays that small.
+fn long_number(text: &[u8], most: u64) -> Option<u64>
+    requires some { 0 < length text.now }
+    requires lead { slice_index text.now 0 ≡ 48 → length text.now ≡ 1 }
     ensures number { result ≡ number_to most text.now }
     ensures within { IfSome result (λ number. number ≤ most) }
 {
-    if text.is_empty() {
-        return None;
-    }
-    if text[0] == b'0' && text.len() > 1 {
-        return None;
-    }
     let tenth = most / 10;
     let mut number: u64 = 0;
     for byte in text {
@@ -52,6 +75,28 @@ pub fn number_to(text: &[u8], most: u64) -> Option<u64>
             return None;
         }
         number = tens + digit;
+    }
+    Some(number)
+}
+
+/// The number that `text` spells, if it spells one of at most `most`: `0`, or digits of which the
+/// first is not `0`. Any other text gives `None`, a sign or a leading zero included.
+pub fn number_to(text: &[u8], most: u64) -> Option<u64>
+    ensures number { result ≡ number_to most text.now }
+    ensures within { IfSome result (λ number. number ≤ most) }
+{
+    if text.is_empty() {
+        return None;
+    }
+    if text[0] == b'0' && text.len() > 1 {
+        return None;
+    }
+    let (count, number) = leading_digits(text);
+    if count < text.len() {
+        return long_number(text, most);
+    }
+    if number > most {
+        return None;
     }
     Some(number)
 }

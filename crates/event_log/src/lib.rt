@@ -26,7 +26,7 @@ mod rings;
 mod runs;
 
 pub use cells::{Cells, Ticks};
-pub use digits::{is_number, number_has_one_spelling, number_to};
+pub use digits::{SHORT, is_number, leading_digits, number_has_one_spelling, number_to};
 pub use entries::{Entry, Kind};
 pub use events::Event;
 pub use grants::GrantEvent;

@@ -1,7 +1,8 @@
--- Each early return has a text that spells no number of at most `most`.
-use Rattle.std.proofs.Common.{◌≡◌, ◌+◌, ◌*◌, ◌-◌, ◌<◌, ◌≤◌, length, get_or, arith, sym, ◌∙◌}
+-- A text that is digits to its end spells the number that was read; any other is read again, one digit at a time.
+use Rattle.std.proofs.Common.{◌≡◌, ◌<◌, length, get_or, arith, sym, ◌∙◌, ap, Some, take_all}
+use Rattle.std.specs.Str.Parse.{digits_value}
 use Rattle.std.proofs.lemmas.Bool.Decides.{nat_tests}
-use Rattle.event_log.proofs.DigitsLemmas.{number_to-empty, number_to-leading_zero, number_to-not_a_digit, number_to-too_large, reads_one_more, reads_all}
+use Rattle.event_log.proofs.DigitsLemmas.{IsSpelled, digits_spelled, number_to-beyond, number_to-empty, number_to-leading_zero, number_to-spelled}
 use Rattle.event_log.proofs.digits.number_to.Goals.{else-text-eq48-via-then-text-eq48+else-text-gt1, else-text-eq48-via-else-text-eq48}
 use Rattle.event_log.proofs.digits.number_to.Goals as goal
 
@@ -11,38 +12,16 @@ returns-then-is_empty-clause-number c = sym (number_to-empty c.args.most c.args.
 pub returns-then-text-gt1-clause-number : goal.returns-then-text-gt1-clause-number
 returns-then-text-gt1-clause-number c = sym (number_to-leading_zero c.args.most c.args.text.now c.if-text-eq48.true c.if-text-gt1.true)
 
-pub returns-then-not-is_ascii_digit-clause-number : goal.returns-then-not-is_ascii_digit-clause-number
-returns-then-not-is_ascii_digit-clause-number c =
-    sym (number_to-not_a_digit c.args.most c.args.text.now c.loop-byte.byte-index c.loop-byte-test.true
-    (sym c.is_ascii_digit.ensures.value ∙ c.if-not-is_ascii_digit.true))
+pub returns-then-number-most-clause-number : goal.returns-then-number-most-clause-number
+returns-then-number-most-clause-number c =
+    let text = c.args.text.now in
+    let value : c.leading_digits-count.result.1 ≡ digits_value 10 text =
+    c.leading_digits-count.ensures.number ∙ ap (digits_value 10) (take_all c.leading_digits-count.result.0 text c.if-count-text.false) in
+    sym (number_to-beyond c.args.most text (omega (arith, value, c.if-number-most.true)))
 
-pub returns-then-number-tenth-clause-number : goal.returns-then-number-tenth-clause-number
-returns-then-number-tenth-clause-number c =
-    let large : c.args.most < c.loop-byte.number * 10 + (get_or c.args.text.now c.loop-byte.byte-index 0 - 48) =
-    omega (arith, c.if-number-tenth.true) in
-    sym (number_to-too_large c.args.most c.args.text.now c.loop-byte.byte-index c.loop-byte.number c.loop-byte.invariant c.loop-byte-test.true
-    (sym c.is_ascii_digit.ensures.value ∙ c.if-not-is_ascii_digit.false) large)
-
-pub returns-then-digit-most-clause-number : goal.returns-then-digit-most-clause-number
-returns-then-digit-most-clause-number c =
-    let large : c.args.most < c.loop-byte.number * 10 + (get_or c.args.text.now c.loop-byte.byte-index 0 - 48) =
-    omega (arith, c.if-digit-most.true) in
-    sym (number_to-too_large c.args.most c.args.text.now c.loop-byte.byte-index c.loop-byte.number c.loop-byte.invariant c.loop-byte-test.true
-    (sym c.is_ascii_digit.ensures.value ∙ c.if-not-is_ascii_digit.false) large)
-
-pub loop-byte-preserved : goal.loop-byte-preserved
-loop-byte-preserved c =
-    let fits : c.loop-byte.number * 10 + (get_or c.args.text.now c.loop-byte.byte-index 0 - 48) ≤ c.args.most =
-    omega (arith, c.if-number-tenth.false, c.if-digit-most.false) in
-    rw c.from-digit.ensures (reads_one_more c.args.most c.args.text.now c.loop-byte.byte-index c.loop-byte.number c.loop-byte.invariant c.loop-byte-test.true
-    (sym c.is_ascii_digit.ensures.value ∙ c.if-not-is_ascii_digit.false) fits)
-
-some : (c : goal.After-loop-byte) → 0 < length c.args.text.now
-some c = grind (arith, nat_tests)
-
-lead : (c : goal.After-loop-byte) → get_or c.args.text.now 0 0 ≡ 48 → length c.args.text.now ≡ 1
+lead : (c : goal.Else-number-most) → get_or c.args.text.now 0 0 ≡ 48 → length c.args.text.now ≡ 1
 lead c e =
-    let more = some c in
+    let more : 0 < length c.args.text.now = grind (arith, nat_tests) in
     elim c.else-text-eq48.branch [
       | else-text-eq48-via-then-text-eq48+else-text-gt1 w ↦ let short = w.if-text-gt1.false in omega arith
       | else-text-eq48-via-else-text-eq48 w ↦ absurd (w.if-text-eq48.false e)
@@ -50,4 +29,9 @@ lead c e =
 
 pub returns-clause-number : goal.returns-clause-number
 returns-clause-number c =
-    sym (reads_all c.args.most c.args.text.now c.loop-byte.byte-index c.loop-byte.number c.loop-byte.invariant c.loop-byte-test.false (some c) (lead c))
+    let text = c.args.text.now in
+    let some : 0 < length text = grind (arith, nat_tests) in
+    let value : c.leading_digits-count.result.1 ≡ digits_value 10 text =
+    c.leading_digits-count.ensures.number ∙ ap (digits_value 10) (take_all c.leading_digits-count.result.0 text c.if-count-text.false) in
+    let spelled : IsSpelled text = digits_spelled text c.leading_digits-count.result.0 c.leading_digits-count.ensures.digits c.if-count-text.false some (lead c) in
+    sym (number_to-spelled c.args.most text spelled (omega (arith, value, c.if-number-most.false)) ∙ ap Some (sym value))
