@@ -1,11 +1,18 @@
 //! The layer of sections that put threads to sleep and wake them.
 
+ghost use Rattle.std.specs.Prelude.{◌≡◌, ◌<◌, IsSome, OnSome};
+ghost use Rattle.layer_traits.specs.{declared.passes.Pass.TheVariants.MakeReady, Framed.Framed, Payloads.sched_told, Payloads.told_by, Plans.Follows};
+ghost use Rattle.layer_traits.specs.{Plans.table_of, Polls.until_answered, QueueBlocks.homes_in, QueueRules.queue_rules, Scheds.MaySched, Scheds.SchedPolled};
+ghost use Rattle.layer_traits.specs.{Queues.kernel, Scheds.sched_plan};
+ghost use Rattle.layer_traits.specs.declared.scheds.SchedCall.TheVariants as call;
+ghost use Rattle.sleep_wakeup.specs.Nested.{nested_moves, nested_rules, nested_told};
+
 use crate::deferred::{DeferredOutcome, complete, done, kept_edit, section};
 use crate::edits::{SleepEdit, wait_list_in_block};
 use event_log::{BufId, CpuId, Tid};
 use layer_traits::{
-    BufferCall, Layer, Outcome, OwnThreads, OwnedLayer, OwnedThreadLayer, Pass, Payload, SchedCall,
-    SchedLaw, SleepLaw, Sleeps, ThreadLayer, WaitList,
+    BufferCall, Layer, Outcome, OwnThreads, OwnedLayer, OwnedThreadLayer, Pass, Payload,
+    SchedAnswer, SchedCall, SchedLaw, SleepLaw, Sleeps, ThreadLayer, WaitList,
 };
 
 /// One CPU's part of sleep and wakeup over a part of a scheduler (Gu et al., PLDI 2018): the
@@ -15,6 +22,32 @@ use layer_traits::{
 pub struct Sleeper<E: Sleeps, S> {
     lower: S,
     deferred: Option<DeferredOutcome<E, E::Brought>>,
+}
+
+/// Polls the scheduler for the pass that sends the thread in its hand home. It stands out of line, as
+/// few sections wake a thread of another CPU: a poll that holds two polls of all beneath it is too
+/// large to be put into its caller.
+#[inline(never)]
+fn send_home<E: Sleeps, S: Layer<SchedLaw<SleepEdit<E>>>>(
+    lower: &mut S,
+    m: &mut S::Machine,
+    t: Tid,
+    payload: &mut Payload,
+) -> Option<SchedAnswer<Outcome<E::Brought>>>
+    requires fits { S.Fits lower.old m.old }
+    requires room { 0 < S.room m.old }
+    requires call { MaySched (kernel (nested_rules E.rules) (nested_moves E.rules) (S.opening m.old)) (S.cpu_of lower.old) (S.seen m.old) (S.own lower.old) (S.under_way lower.old) (call.Pass (MakeReady t)) }
+    ensures call { S.under_way lower.new ≡ until_answered result (call.Pass (MakeReady t)) }
+    ensures prompt { S.IsWhole → IsSome result }
+    ensures seen { SchedPolled (kernel (nested_rules E.rules) (nested_moves E.rules) (S.opening m.old)) (S.ActsFor m.old) (S.cpu_of lower.old) (call.Pass (MakeReady t))
+        (told_by (sched_told (nested_told E.told)) result payload.new) (S.seen m.old) (S.seen m.new) (S.own lower.old) (S.own lower.new) }
+    ensures framed { Framed S.Fits S.cpu_of S.opening S.site S.room S.ActsFor S.MayHold lower.old lower.new m.old m.new }
+    ensures outside { OnSome result (S.IsOutside m.new (S.cpu_of lower.old)) }
+    ensures follows { S.IsStepwise → Follows (S.ActsFor m.old) (table_of (queue_rules (nested_rules E.rules) (nested_moves E.rules))) (S.opening m.old)
+        (S.cpu_of lower.old) (sched_plan (nested_moves E.rules) (homes_in (S.opening m.old)) (S.cpu_of lower.old) (call.Pass (MakeReady t)) (S.own lower.old))
+        (S.acts m.old) (S.acts m.new) (record { own = S.own lower.new; answer = told_by (sched_told (nested_told E.told)) result payload.new }) }
+{
+    lower.poll(m, SchedCall::Pass(Pass::MakeReady(t)), payload)
 }
 
 impl<E: Sleeps, S: Layer<SchedLaw<SleepEdit<E>>>> ThreadLayer<SleepLaw<E>> for Sleeper<E, S> {
@@ -108,10 +141,7 @@ impl<E: Sleeps, S: Layer<SchedLaw<SleepEdit<E>>>> ThreadLayer<SleepLaw<E>> for S
             }
             Some(t) => {
                 let kept = kept_edit::<E>(&edit, payload);
-                match self
-                    .lower
-                    .poll(m, SchedCall::Pass(Pass::MakeReady(t)), payload)
-                {
+                match send_home::<E, S>(&mut self.lower, m, t, payload) {
                     None => None,
                     Some(answer) => {
                         let hand = self.lower.own_here().hand();

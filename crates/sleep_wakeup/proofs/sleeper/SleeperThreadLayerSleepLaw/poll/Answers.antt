@@ -10,7 +10,7 @@ use Rattle.sleep_wakeup.specs.{Laws.NestedLaws.here, Nested.edit_in, Nested.nest
 use Rattle.sleep_wakeup.specs.{Nested.state_of, Parts.Deferred, Parts.DeferredFits, Parts.as_edit, Parts.deferred_told, Parts.outcome_in, Parts.own_of}
 use Rattle.sleep_wakeup.proofs.PollLemmas.{hand_defers, nested_may, nested_sleep_follows, nested_sleeps, reported_is}
 use Rattle.sleep_wakeup.proofs.sleeper.SleeperThreadLayerSleepLaw.poll.{Given.Over, Goals.Start, Goals.In-None, Goals.In-Some, Goals.After-poll}
-use Rattle.sleep_wakeup.proofs.sleeper.SleeperThreadLayerSleepLaw.poll.{Goals.After-complete, Goals.After-complete-in-Some-poll-2}
+use Rattle.sleep_wakeup.proofs.sleeper.SleeperThreadLayerSleepLaw.poll.{Goals.After-complete, Goals.After-complete-in-Some-send_home}
 use Rattle.sleep_wakeup.proofs.sleeper.SleeperThreadLayerSleepLaw.poll.Goals as goal
 
 -- the thread in the hand of these threads
@@ -136,16 +136,16 @@ module _ (g : Over) where
       c.poll.new.payload c.complete.new.payload c.hand-hand.result c.complete.new.deferred c.complete.result
       (c.hand-hand.ensures ∙ ap in_hand c.own_here-in-Some-poll.ensures) c.complete.ensures.deferred c.complete.ensures.answer c.complete.ensures.parcel
 
-  answers_home : (c : After-complete-in-Some-poll-2 g) → (let poll = c.poll-in-Some in let done = c.complete-in-Some-poll-2 in
-      left_at c.args.self.now.deferred poll.new.self poll.result poll.new.payload ≡ kept_at done.new.deferred poll.new.self done.result done.new.payload)
+  answers_home : (c : After-complete-in-Some-send_home g) → (let poll = c.send_home in let done = c.complete-in-Some-send_home in
+      left_at c.args.self.now.deferred poll.new.lower poll.result poll.new.payload ≡ kept_at done.new.deferred poll.new.lower done.result done.new.payload)
   answers_home c =
-      let poll = c.poll-in-Some in
-      let done = c.complete-in-Some-poll-2 in
-      let hand = c.hand-hand-in-Some-poll-2 in
-      ap (λ r. left_at c.args.self.now.deferred poll.new.self r poll.new.payload) c.in-Some-poll-2.is
-      ∙ reported_is g.E.Sleeps.told c.args.self.now.deferred (g.S.Layer.own poll.new.self) c.args.call.buffer c.kept_edit-kept-in-Some.result
-      c.in-Some-poll-2.answer poll.new.payload done.new.payload hand.result done.new.deferred done.result
-      (hand.ensures ∙ ap in_hand c.own_here-in-Some-poll-2.ensures) done.ensures.deferred done.ensures.answer done.ensures.parcel
+      let poll = c.send_home in
+      let done = c.complete-in-Some-send_home in
+      let hand = c.hand-hand-in-Some-send_home in
+      ap (λ r. left_at c.args.self.now.deferred poll.new.lower r poll.new.payload) c.in-Some-send_home.is
+      ∙ reported_is g.E.Sleeps.told c.args.self.now.deferred (g.S.Layer.own poll.new.lower) c.args.call.buffer c.kept_edit-kept-in-Some.result
+      c.in-Some-send_home.answer poll.new.payload done.new.payload hand.result done.new.deferred done.result
+      (hand.ensures ∙ ap in_hand c.own_here-in-Some-send_home.ensures) done.ensures.deferred done.ensures.answer done.ensures.parcel
 
 pub returns-in-None-clause-seen : goal.returns-in-None-clause-seen
 returns-in-None-clause-seen g c =
@@ -164,37 +164,37 @@ returns-in-None-clause-follows g c = λ step.
 some : (g : Over) (c : In-Some g) → Some c.in-Some.t ≡ (g.S.Layer.own c.args.self.now.lower).hand
 some g c = sym c.in-Some.is ∙ (c.hand.ensures ∙ ap in_hand c.own_here.ensures)
 
-pub poll-requires-in-Some-clause-call : goal.poll-requires-in-Some-clause-call
-poll-requires-in-Some-clause-call g c =
-    let at = goal.at.poll-requires-in-Some-clause-call g c in
+pub send_home-requires-clause-call : goal.send_home-requires-clause-call
+send_home-requires-clause-call g c =
+    let at = goal.at.send_home-requires-clause-call g c in
     may g at.Start (Some c.in-Some.t) (some g at.In-Some)
 
-pub returns-in-None-poll-2-clause-seen : goal.returns-in-None-poll-2-clause-seen
-returns-in-None-poll-2-clause-seen g c =
-    let at = goal.at.returns-in-None-poll-2-clause-seen g c in
-    let poll = c.poll-in-Some in
+pub returns-in-None-send_home-clause-seen : goal.returns-in-None-send_home-clause-seen
+returns-in-None-send_home-clause-seen g c =
+    let at = goal.at.returns-in-None-send_home-clause-seen g c in
+    let poll = c.send_home in
     let some = some g at.In-Some in
-    sleeps g at.Start (Some c.in-Some.t) some poll.new.self poll.result poll.new.payload poll.new.m refl
-    (waits g at.Start (Some c.in-Some.t) some poll.new.self poll.result poll.new.payload c.in-None-poll-2.is) poll.ensures.seen
+    sleeps g at.Start (Some c.in-Some.t) some poll.new.lower poll.result poll.new.payload poll.new.m refl
+    (waits g at.Start (Some c.in-Some.t) some poll.new.lower poll.result poll.new.payload c.in-None-send_home.is) poll.ensures.seen
 
-pub returns-in-None-poll-2-clause-follows : goal.returns-in-None-poll-2-clause-follows
-returns-in-None-poll-2-clause-follows g c = λ step.
-    let at = goal.at.returns-in-None-poll-2-clause-follows g c in
-    let poll = c.poll-in-Some in
+pub returns-in-None-send_home-clause-follows : goal.returns-in-None-send_home-clause-follows
+returns-in-None-send_home-clause-follows g c = λ step.
+    let at = goal.at.returns-in-None-send_home-clause-follows g c in
+    let poll = c.send_home in
     let some = some g at.In-Some in
-    follows g at.Start (Some c.in-Some.t) some poll.new.self poll.result poll.new.payload poll.new.m refl
-    (waits g at.Start (Some c.in-Some.t) some poll.new.self poll.result poll.new.payload c.in-None-poll-2.is) (poll.ensures.follows step)
+    follows g at.Start (Some c.in-Some.t) some poll.new.lower poll.result poll.new.payload poll.new.m refl
+    (waits g at.Start (Some c.in-Some.t) some poll.new.lower poll.result poll.new.payload c.in-None-send_home.is) (poll.ensures.follows step)
 
 pub returns-clause-seen : goal.returns-clause-seen
 returns-clause-seen g c =
     let at = goal.at.returns-clause-seen g c in
-    let poll = c.poll-in-Some in
-    sleeps g at.Start (Some c.in-Some.t) (some g at.In-Some) poll.new.self poll.result poll.new.payload poll.new.m refl
-    (answers_home g at.After-complete-in-Some-poll-2) poll.ensures.seen
+    let poll = c.send_home in
+    sleeps g at.Start (Some c.in-Some.t) (some g at.In-Some) poll.new.lower poll.result poll.new.payload poll.new.m refl
+    (answers_home g at.After-complete-in-Some-send_home) poll.ensures.seen
 
 pub returns-clause-follows : goal.returns-clause-follows
 returns-clause-follows g c = λ step.
     let at = goal.at.returns-clause-follows g c in
-    let poll = c.poll-in-Some in
-    follows g at.Start (Some c.in-Some.t) (some g at.In-Some) poll.new.self poll.result poll.new.payload poll.new.m refl
-    (answers_home g at.After-complete-in-Some-poll-2) (poll.ensures.follows step)
+    let poll = c.send_home in
+    follows g at.Start (Some c.in-Some.t) (some g at.In-Some) poll.new.lower poll.result poll.new.payload poll.new.m refl
+    (answers_home g at.After-complete-in-Some-send_home) (poll.ensures.follows step)
