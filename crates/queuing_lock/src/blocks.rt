@@ -13,14 +13,9 @@ use std::alloc::Global;
 pub fn lock_blocks<B: Drop>(alloc: Global, blocks: Vec<B>) -> Result<Vec<QBlock<B>>, NoMemory>
     ensures { IfOk result (λ made. made.items ≡ map unowned blocks.items) }
 {
-    let mut left = blocks;
-    let mut made = Vec::with_capacity(alloc, left.len())?;
-    while !left.is_empty() {
-        made.push(QBlock {
-            busy: None,
-            above: left.remove(0),
-        })
-        .unwrap();
+    let mut made = Vec::with_capacity(alloc, blocks.len())?;
+    for above in blocks {
+        made.push(QBlock { busy: None, above }).unwrap();
     }
     Ok(made)
 }

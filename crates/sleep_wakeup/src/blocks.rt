@@ -14,14 +14,13 @@ use thread_blocks::ThreadQueue;
 pub fn sleep_blocks<B: Drop>(alloc: Global, blocks: Vec<B>) -> Result<Vec<SleepBlock<B>>, NoMemory>
     ensures { IfOk result (λ made. made.items ≡ map resting blocks.items) }
 {
-    let mut left = blocks;
-    let mut made = Vec::with_capacity(alloc, left.len())?;
-    while !left.is_empty() {
+    let mut made = Vec::with_capacity(alloc, blocks.len())?;
+    for above in blocks {
         made.push(SleepBlock {
             sleepers: ThreadQueue::new(),
             receivers: ThreadQueue::new(),
             senders: ThreadQueue::new(),
-            above: left.remove(0),
+            above,
         })
         .unwrap();
     }
