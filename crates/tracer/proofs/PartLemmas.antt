@@ -1,11 +1,11 @@
 -- A text that is read and judged in parts has the verdict of the whole.
-use Rattle.std.proofs.Common.{◌≡◌, ℕ, ◌+◌, ◌-◌, ◌<◌, ◌≤◌, ◌==◌, true, List, [], ◌∷◌, ◌++◌, length, take, drop, Option, Some, None, Ok, Err, IfSome, refl, sym, ap, ◌∙◌}
-use Rattle.std.proofs.Common.{append_assoc, append-nil, eq-eqb, arith, length-append, take_at, drop_at}
+use Rattle.std.proofs.Common.{◌≡◌, ℕ, ◌+◌, ◌-◌, ◌≤◌, ◌==◌, List, [], ◌∷◌, ◌++◌, length, take, drop, Option, Some, None, Ok, Err, IfSome, refl, sym, ap, ◌∙◌}
+use Rattle.std.proofs.Common.{append_assoc, append-nil, eq-eqb, arith, length-append, drop_at}
 use Rattle.std.proofs.lemmas.List.{drop-take, length-drop, length-take, Edits.take-paste, Splits.slice_split_at}
 use lib.Seq.{paste, take-add}
 use Rattle.std.specs.Io.KnownBytes.{Consumes, IsAtEnd, Keeps}
 use Rattle.tracer.specs.{declared.checking.TextJudge.TextJudge, declared.verdicts.Reason.Reason, declared.verdicts.Verdict.Verdict}
-use Rattle.tracer.specs.{declared.verdicts.Verdict.TheVariants.No, declared.verdicts.Verdict.TheVariants.Yes, Judging.Progress, Judging.lines_in, Judging.step}
+use Rattle.tracer.specs.{declared.verdicts.Verdict.TheVariants.No, declared.verdicts.Verdict.TheVariants.Yes, Judging.lines_in, Judging.step}
 use Rattle.tracer.specs.{Judging.verdict_from, Judging.verdict_of, Inputs.IsReadBehind, Lines.IsFirstLine, Parts.verdict_behind, Tallies.progress_of}
 use Rattle.tracer.specs.Verdicts.{IsTraceOfRun, IsVerdictOn}
 use Rattle.tracer.proofs.VerdictLemmas.{line_taken, line_refused}
@@ -65,7 +65,8 @@ moved xs filled count few inside =
     let within : count ≤ filled = omega (arith, length-take filled xs) in
     let parts : filled ≡ count + (filled - count) = omega arith in
     let rest : filled - count ≤ length (drop count xs) = omega (arith, length-drop count xs) in
-    take-paste xs 0 (drop count xs) (filled - count) (omega arith) rest
+    let first : filled - count ≡ 0 + (filled - count) = omega arith in
+    ap (λ n. take n (paste xs 0 (drop count xs) (filled - count))) first ∙ take-paste xs 0 (drop count xs) (filled - count) (omega arith) rest
     ∙ sym (ap (λ n. drop count (take n xs)) parts ∙ drop-take count (filled - count) xs)
 
 -- ---- the lines of a part

@@ -1,10 +1,16 @@
-use Rattle.std.proofs.Common.{Ok, ap, ◌∙◌, sym}
+use Rattle.std.proofs.Common.{◌≡◌, Ok, ap, ◌∙◌}
+use Rattle.std.specs.declared.io.ErrorKind.TheVariants.{Interrupted}
+use Rattle.std.proofs.lemmas.Result.{err_from_is_err_and}
+use Rattle.tracer.specs.declared.checking.InputFault.TheVariants.{ReadFault as FaultOfRead}
 use Rattle.tracer.specs.Parts.{held, verdict_behind}
 use Rattle.tracer.proofs.PartLemmas.{judged_all, judged_part}
 use Rattle.tracer.proofs.checking.check_input.Goals as goal
 
 pub returns-in_err-ended-clause-retried : goal.returns-in_err-ended-clause-retried
-returns-in_err-ended-clause-retried g c = let h = c.from_residual-in_err-ended.ensures in let k = c.in_err-ended.ensures.retried in let m = c.in_err-ended.was in ?
+returns-in_err-ended-clause-retried g c =
+    let failed = err_from_is_err_and c.from_residual-in_err-ended.result c.from_residual-in_err-ended.ensures.1 in
+    let told : failed.0 ≡ FaultOfRead c.in_err-ended.field-0.0 = failed.2 in
+    rw failed.1 (λ same. c.in_err-ended.ensures.retried (let again : failed.0 ≡ FaultOfRead Interrupted = same in cc))
 
 pub returns-then-ended-clause-verdict : goal.returns-then-ended-clause-verdict
 returns-then-ended-clause-verdict g c =

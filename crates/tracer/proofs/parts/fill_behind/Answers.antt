@@ -1,5 +1,5 @@
 -- One read more.
-use Rattle.std.proofs.Common.{◌≡◌, ◌≤◌, ◌+◌, length, take, ap, sym, ◌∙◌, arith}
+use Rattle.std.proofs.Common.{◌+◌, take, ◌∙◌, arith}
 use Rattle.tracer.proofs.PartLemmas.{read_kept, read_more, read_then}
 use Rattle.tracer.proofs.parts.fill_behind.Goals.{in-Ok, in-Err+else-ne}
 use Rattle.tracer.proofs.parts.fill_behind.Goals as goal

@@ -1,23 +1,10 @@
 -- The digits of a short number are the first piece, and the number is theirs.
-use Rattle.std.proofs.Common.{◌≡◌, ◌≢◌, ◌+◌, ◌<◌, ◌≤◌, ℕ, length, get_or, take, drop, Some, ap, arith, sym, ◌∙◌, take_all}
+use Rattle.std.proofs.Common.{◌≢◌, ◌+◌, ◌<◌, ◌≤◌, length, get_or, Some, ap, arith, sym, ◌∙◌, take_all}
 use Rattle.std.proofs.lemmas.List.{take_rest}
 use Rattle.event_log.specs.Digits.{number_to}
-use Rattle.tracer.specs.Judging.{line_pieces}
 use Rattle.tracer.proofs.{NumeralLemmas.front_number, SplitLemmas.digits_cut, SplitLemmas.digits_end}
-use Rattle.tracer.proofs.pieces.short_number.Goals.{Else-text-count-ne32, Then-count-text, else-count-gt1-via-then-count-gt1+else-text-eq48, else-count-gt1-via-else-count-gt1}
+use Rattle.tracer.proofs.pieces.short_number.Goals.{else-count-gt1-via-then-count-gt1+else-text-eq48, else-count-gt1-via-else-count-gt1}
 use Rattle.tracer.proofs.pieces.short_number.Goals as goal
-
-lead-whole : (c : Then-count-text) → 1 < c.leading_digits-count.result.0 → get_or c.args.text.now 0 0 ≢ 48
-lead-whole c more = elim c.else-count-gt1.branch [
-  | else-count-gt1-via-then-count-gt1+else-text-eq48 w ↦ w.if-text-eq48.false
-  | else-count-gt1-via-else-count-gt1 w ↦ absurd (let few = w.if-count-gt1.false in omega arith)
-]
-
-lead-front : (c : Else-text-count-ne32) → 1 < c.leading_digits-count.result.0 → get_or c.args.text.now 0 0 ≢ 48
-lead-front c more = elim c.else-count-gt1.branch [
-  | else-count-gt1-via-then-count-gt1+else-text-eq48 w ↦ w.if-text-eq48.false
-  | else-count-gt1-via-else-count-gt1 w ↦ absurd (let few = w.if-count-gt1.false in omega arith)
-]
 
 pub known-requires : goal.known-requires
 known-requires c =
@@ -25,8 +12,12 @@ known-requires c =
     let count = c.leading_digits-count.result.0 in
     let read = c.leading_digits-count.ensures in
     let some : 0 < count = (let none = c.if-count-eq0.false in omega arith) in
+    let lead : 1 < count → get_or text 0 0 ≢ 48 = λ more. elim c.else-count-gt1.branch [
+      | else-count-gt1-via-then-count-gt1+else-text-eq48 w ↦ w.if-text-eq48.false
+      | else-count-gt1-via-else-count-gt1 w ↦ absurd (let few = w.if-count-gt1.false in omega arith)
+    ] in
     let end : length text ≤ count = omega (arith, c.if-count-text.true) in
-    let number = front_number text count read.digits some read.inside read.few (lead-whole c) in
+    let number = front_number text count read.digits some read.inside read.few lead in
     ap (number_to 18446744073709551615) (sym (take_all count text end)) ∙ number ∙ ap Some (sym read.number)
 
 pub returns-then-count-text : goal.returns-then-count-text
@@ -41,7 +32,11 @@ known-requires-2 c =
     let count = c.leading_digits-count.result.0 in
     let read = c.leading_digits-count.ensures in
     let some : 0 < count = (let none = c.if-count-eq0.false in omega arith) in
-    front_number text count read.digits some read.inside read.few (lead-front c) ∙ ap Some (sym read.number)
+    let lead : 1 < count → get_or text 0 0 ≢ 48 = λ more. elim c.else-count-gt1.branch [
+      | else-count-gt1-via-then-count-gt1+else-text-eq48 w ↦ w.if-text-eq48.false
+      | else-count-gt1-via-else-count-gt1 w ↦ absurd (let few = w.if-count-gt1.false in omega arith)
+    ] in
+    front_number text count read.digits some read.inside read.few lead ∙ ap Some (sym read.number)
 
 pub returns : goal.returns
 returns c =
