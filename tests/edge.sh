@@ -39,6 +39,7 @@ state=$'cpu 0 AllEnded\nthread 0 Ended\nquiet yes\n'
 one_stack='ulimit -s 1000000; ulimit -v 1500000'
 takes='mctower-trace 1\nbuffers 1\ncap 0 2\ne 0 0 recv 0 7 0 0\nleft 0\nend\n'
 before=$'mctower-trace 1\nbuffers 1\ncap 0 1\nleft 0\nend\n'
+sevens="head -c 200000 /dev/zero | tr '\\0' 7"
 version=$'mctower 0.4.0\n'
 waits=$'cpu 0 live\nthread 0 Ready(0)\nquiet no\n'
 # a run whose third entry takes from an empty buffer
@@ -301,6 +302,11 @@ rows() {
   row 0 $'plain 1\ntable 1\n' '' 'mctower count --cpus 1 --times 1 < .'
   row 2 '' $'error: BadSchedule(9)\n' 'mctower run --schedule x < .'
   bad_line 'mctower threads --turns 0 < .' '--turns 0: wanted 1 to 1000000000' threads
+  # an input of several parts: a line longer than a part, behind a good one and behind one with a fault, and one that comes slowly
+  row 3 $'no 4 Range(31)\n' '' "{ printf '${before%left*}e 0 0 send 0 '; $sevens; printf ' 0 0\nleft 0 7\nend\n'; } | mctower check"
+  row 3 $'no 4 Spelling(30)\n' '' "{ printf '${before%left*}x\n'; $sevens; printf '\n'; } | mctower check"
+  row 3 $'no 5 Spelling(30)\n' '' "{ printf '%s' '$sent' | head -n 4; $sevens; } | mctower check"
+  row 0 $'yes\n' '' "{ printf '%s' '$sent' | head -c 40; sleep 0.1; printf '%s' '$sent' | tail -c +41; } | mctower check"
   # a full disk, and a reader that is gone
   row 1 '' $'error: WriteFault(8)\n' 'mctower count --cpus 1 --times 1 > /dev/full'
   row 1 '' $'error: WriteFault(8)\n' "$send > /dev/full"
@@ -387,6 +393,15 @@ waiting() {
     find "crates/$crate/src" -name '*.rt' ! -name '*tests.rt' -exec cat {} + | sed -e 's|//.*||' -e 's/\<Wait(//g' | grep -wE 'Wait|Mutex|Condvar' > /dev/null && echo "$crate"
   done
 }
+# Each file of the folder $1 in which the refusal of an allocation is made up, once for each time: `AllocError` or `AllocFailed` stands there as a value, or is
+# given another name. Comments, imports, types, patterns and the parameter of an `impl From` make nothing up.
+made_up() {
+  local file made='(AllocError|AllocFailed)'
+  find "$1" -path '*/src/*' -name '*.rt' ! -path '*/out/*' | sort | while read -r file; do
+    sed 's|//.*||' "$file" | sed -zE -e "s/\\<use [^;]*\\<$made as [^;]*;/\\1/g" -e 's/\<use [^;]*;//g' -e "s/([<,(]|->)\\s*$made(<[^;{}]*)?\\s*,?\\s*>/\\1>/g" \
+      -e 's/AllocFailed<//g' -e 's/fn from\(\w+: AllocError\)//g' -e 's/\<Err\(AllocError\) =>//g' | grep -owE "$made" | sed "s|.*|${file#"$1"/}|"
+  done
+}
 
 [ $# -gt 0 ] || set -- crates/mctower/out/mctower crates/mctower/out/mctower.by-rattle
 for program; do
@@ -409,6 +424,21 @@ source_row 'who names Wait, Mutex or Condvar' $'cpu_workers\nmctower' "$(waiting
 source_row 'what each error says of itself' "$named" "$(errors)"
 # What starts threads and joins them stands in the crate of the workers.
 source_row 'who stands on crossbeam_utils' cpu_workers "$(sed -n 's/^\([a-z_]*\):.*\<crossbeam_utils\>.*/\1/p' crates.txt)"
+# Who says NoMemory was refused memory: the type is made from the allocator's refusal alone. Such a refusal is made up at two places, where a library of the kit
+# tells of it without a value: toml's parser by a flag, and the table of atomic words by a type of its own.
+source_row 'who makes up a refused allocation' $'boot/src/plans.rt\ntable_machine/src/open.rt' "$(made_up crates)"
+mkdir -p "$room/of/src"
+cat > "$room/of/src/right.rt" <<'END'
+use std::alloc::{AllocError, AllocFailed, Global};
+// Err(AllocError)
+impl From<AllocError> for E { fn from(error: AllocError) -> E { E::NoMemory(NoMemory::from(error)) } }
+impl<T: Drop> From<AllocFailed<T>> for E { fn from(error: AllocFailed<T>) -> E { E::NoMemory(NoMemory::from(error)) } }
+fn f(alloc: Global) -> Result<Vec<Key<E>>, AllocError> { match g(alloc)? { Err(AllocError) => h(alloc), Ok(made) => Ok(made) } }
+END
+wrong=('Err(NoMemory::from(AllocError))' 'return Err(AllocError)' '.map_err(|_| AllocError)?' 'let error = AllocError' 'Err(E::from(AllocError {}))' 'g(AllocError, 0)'
+  'Err(AllocFailed { value: 0 })' 'use std::alloc::{AllocError as Refused}' 'fn refused() -> AllocError { AllocError }' 'E { error: AllocError }')
+for at in "${!wrong[@]}"; do echo "${wrong[at]};" > "$room/of/src/wrong$at.rt"; done
+source_row 'who makes one up in lines that are right and lines that are wrong' "$(cd "$room/of" && ls src/wrong*)" "$(made_up "$room/of" | uniq)"
 
 echo "edge: $passed passed, $failed failed"
 [ "$failed" = 0 ]

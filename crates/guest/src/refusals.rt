@@ -35,7 +35,7 @@ pub enum GuestFault {
 #[derive(Clone, Copy, Debug, PartialEq, Eq, Error)]
 pub enum GuestError {
     /// An allocation was refused.
-    #[error("{0}")]
+    #[error("NoMemory(1)")]
     NoMemory(NoMemory),
     /// The first line with a fault, counted from 0, and its first fault.
     #[error("line {0} {1}")]
