@@ -39,6 +39,7 @@ state=$'cpu 0 AllEnded\nthread 0 Ended\nquiet yes\n'
 one_stack='ulimit -s 1000000; ulimit -v 1500000'
 takes='mctower-trace 1\nbuffers 1\ncap 0 2\ne 0 0 recv 0 7 0 0\nleft 0\nend\n'
 before=$'mctower-trace 1\nbuffers 1\ncap 0 1\nleft 0\nend\n'
+sevens="head -c 200000 /dev/zero | tr '\\0' 7"
 version=$'mctower 0.4.0\n'
 waits=$'cpu 0 live\nthread 0 Ready(0)\nquiet no\n'
 # a run whose third entry takes from an empty buffer
@@ -301,6 +302,11 @@ rows() {
   row 0 $'plain 1\ntable 1\n' '' 'mctower count --cpus 1 --times 1 < .'
   row 2 '' $'error: BadSchedule(9)\n' 'mctower run --schedule x < .'
   bad_line 'mctower threads --turns 0 < .' '--turns 0: wanted 1 to 1000000000' threads
+  # an input of several parts: a line longer than a part, behind a good one and behind one with a fault, and one that comes slowly
+  row 3 $'no 4 Range(31)\n' '' "{ printf '${before%left*}e 0 0 send 0 '; $sevens; printf ' 0 0\nleft 0 7\nend\n'; } | mctower check"
+  row 3 $'no 4 Spelling(30)\n' '' "{ printf '${before%left*}x\n'; $sevens; printf '\n'; } | mctower check"
+  row 3 $'no 5 Spelling(30)\n' '' "{ printf '%s' '$sent' | head -n 4; $sevens; } | mctower check"
+  row 0 $'yes\n' '' "{ printf '%s' '$sent' | head -c 40; sleep 0.1; printf '%s' '$sent' | tail -c +41; } | mctower check"
   # a full disk, and a reader that is gone
   row 1 '' $'error: WriteFault(8)\n' 'mctower count --cpus 1 --times 1 > /dev/full'
   row 1 '' $'error: WriteFault(8)\n' "$send > /dev/full"

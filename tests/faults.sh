@@ -93,10 +93,12 @@ outputs() {
   is_true
   count $? "CUT_OUT=$length"
 }
+# A long input fails behind every 499th byte, and behind its last.
 inputs() {
-  local n length
+  local n length step=1
   length=$(wc -c < "$input")
-  for ((n = 0; n <= length; n++)); do
+  if [ "$length" -gt 9999 ]; then step=499; fi
+  for n in $(seq 0 "$step" "$length") "$length"; do
     run "CUT_IN=$n"
     is_refusal 'ReadFault(7)' 0
     count $? "CUT_IN=$n"
@@ -154,6 +156,12 @@ PLAN
 sed 's/^program.*/program = ["exit", "recv 1 r0"]/' plans/one-send.toml > "$room/no-buffer.toml"
 sed 's/^program.*/program = ["set r0 7", "jnz r0 3", "exit"]/' plans/one-send.toml > "$room/no-line.toml"
 printf 'mctower-trace 2\nbuffers 1\ncap 0 1\ne 1 1 close 0 - 0 0\ne 0 0 recvc 0 - 1 0\nleft 0\nend\n' > "$room/closed.txt"
+# Texts that are read in several parts: a good one, one whose fourth line has a fault, and one with a line longer than a part.
+awk 'BEGIN { printf "mctower-trace 1\nbuffers 1\ncap 0 1\n"
+  for (i = 0; i < 4000; i++) printf "e 0 0 send 0 7 %d %d\ne 0 0 recv 0 7 %d %d\n", 2 * i, i, 2 * i + 1, i
+  printf "left 0\nend\n" }' > "$room/long.txt"
+sed '4s/7/x/' "$room/long.txt" > "$room/long-no.txt"
+{ head -n 3 "$room/long.txt"; printf 'e 0 0 send 0 '; head -c 200000 /dev/zero | tr '\0' 7; printf ' 0 0\nleft 0 7\nend\n'; } > "$room/long-line.txt"
 # Two CPUs that send and two that receive through one buffer: whose message comes first differs from run to run.
 {
   printf 'cpus = 4\ntrace = 2\nbuffers = [2]\n'
@@ -172,6 +180,9 @@ command yes no "$room/yes.txt" check
 command yes no "$room/no.txt" check
 command yes no "$room/closed.txt" check
 command no no "$room/empty.txt" check
+command yes no "$room/long.txt" check
+command yes no "$room/long-no.txt" check
+command yes no "$room/long-line.txt" check
 command no no "$room/five.toml" run
 command no no "$room/three.toml" run
 command no no "$room/no-buffer.toml" run

@@ -16,6 +16,8 @@ BUILDS = ("crates/mctower/out/mctower", "crates/mctower/out/mctower.by-rattle")
 TEXTS = 1500
 # How many of the texts have to get a yes, of all versions and of the second and the third: else they show too little.
 LEAST = {"yes": 50, 2: 20, 3: 20}
+# How many bytes of a text `check` reads at a time.
+PART = 65536
 # The call that each kind of effect is one of.
 CALLS = {"send": "send", "sendc": "send", "recv": "recv", "recvc": "recv", "close": "close"}
 
@@ -165,18 +167,42 @@ def some_text(picks):
     return version, capacities, entries, left
 
 
+def long_text(digits):
+    """Returns the text of a run of more than PART bytes. Its first message has so many digits, so all that stands behind it is shifted by them."""
+    words = [int("1" * digits), *range(7, 2000)]
+    entries = [Entry(0, 0, kind, 0, [word], 2 * at + (kind == "recv"), at) for at, word in enumerate(words) for kind in ("send", "recv")]
+    return spelled(1, [1], entries, [[]])
+
+
+def parted_texts():
+    """Yields texts that are read in two parts, and their verdicts: with the border at each place of a line, and with a fault at each place round the border."""
+    for digits in range(1, 21):
+        text = long_text(digits)
+        assert PART < len(text) < 2 * PART
+        yield text, "yes\n"
+    for at in range(PART - 50, PART + 50):
+        yield f"{text[:at]}x{text[at + 1:]}", f"no {text[:at].count(chr(10)) + 1} Spelling(30)\n"
+
+
+def verdict_of(program, text):
+    """Returns what `check` prints of a text."""
+    return subprocess.run([program, "check"], input=text.encode(), stdout=subprocess.PIPE, timeout=60).stdout.decode()
+
+
 def faults_of(program):
     """Judges all texts. Yields for each None, or where the two judges differ; then the same for how many got a yes."""
     picks, got = Picks(1), Counter()
     for _ in range(TEXTS):
         told = some_text(picks)
         text, wanted = spelled(*told), slow_judge(*told)
-        ran = subprocess.run([program, "check"], input=text.encode(), stdout=subprocess.PIPE, timeout=60)
-        came = ran.stdout.decode()
+        came = verdict_of(program, text)
         got.update(["yes", told[0]] if came == "yes\n" else [])
         yield None if came == wanted else f"{text}  wanted: {wanted}  came: {came}"
     for what, least in LEAST.items():
         yield None if got[what] > least else f"only {got[what]} texts of '{what}' got a yes"
+    for text, wanted in parted_texts():
+        came = verdict_of(program, text)
+        yield None if came == wanted else f"a text of {len(text)} bytes, read in two parts; wanted: {wanted}  came: {came}"
 
 
 def main():

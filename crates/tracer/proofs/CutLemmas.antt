@@ -1,20 +1,36 @@
 -- A text cut at the first place of a byte.
 use Rattle.std.proofs.Common.{◌≡◌, ℕ, ◌+◌, ◌-◌, ◌<◌, ◌≤◌, ◌==◌, true, false, ⊎_elim, List, [], ◌∷◌, ◌++◌, length, get_or, take, drop, sym, ap, ◌∙◌, arith}
 use Rattle.std.specs.{Array.IsFirstChunk, List.list_any, List.slice_split}
+use Rattle.tracer.specs.Lines.{IsFirstLine}
 use Rattle.std.proofs.lemmas.Bool.{cases_lt, false_from_ne_true, true≢false}
 use Rattle.std.proofs.lemmas.List.{take-append-drop, take_rest, drop_more, get_or-take, get_or-drop, length-take, length-drop, get_or_default}
 use Rattle.std.proofs.lemmas.List.{Folds.list_any_at, Splits.slice_split_at, Splits.slice_split_none}
 
-pub cut_at : (at : ℕ) (text : List ℕ) (i : ℕ) → i < length text → ((k : ℕ) → k < i → (get_or text k 0 == at) ≡ false) → (get_or text i 0 == at) ≡ true
-    → slice_split (λ b. b == at) text ≡ take i text ∷ slice_split (λ b. b == at) (drop (i + 1) text)
-cut_at at text i lt before here =
-    let whole : take i text ++ get_or text i 0 ∷ drop (i + 1) text ≡ text = rw (← drop_more text i 0 lt) (take-append-drop i text) in
-    let none : (k : ℕ) (d : ℕ) → k < length (take i text) → (get_or (take i text) k d == at) ≡ false = λ k d inside.
+-- before the first place the byte does not stand
+before_first : (at : ℕ) (text : List ℕ) (i : ℕ) → i < length text → ((k : ℕ) → k < i → (get_or text k 0 == at) ≡ false)
+    → (k d : ℕ) → k < length (take i text) → (get_or (take i text) k d == at) ≡ false
+before_first at text i lt before k d inside =
     let below : k < i = omega (arith, length-take i text) in
     let within : k < length text = omega arith in
     let same : get_or (take i text) k d ≡ get_or text k 0 = get_or-take i text k d below ∙ get_or_default text k d 0 within in
-    rw same (before k below) in
-    ap (slice_split (λ b. b == at)) (sym whole) ∙ slice_split_at (λ b. b == at) (take i text) (get_or text i 0) (drop (i + 1) text) none here
+    rw same (before k below)
+
+cut_whole : (text : List ℕ) (i : ℕ) → i < length text → take i text ++ get_or text i 0 ∷ drop (i + 1) text ≡ text
+cut_whole text i lt = rw (← drop_more text i 0 lt) (take-append-drop i text)
+
+pub cut_at : (at : ℕ) (text : List ℕ) (i : ℕ) → i < length text → ((k : ℕ) → k < i → (get_or text k 0 == at) ≡ false) → (get_or text i 0 == at) ≡ true
+    → slice_split (λ b. b == at) text ≡ take i text ∷ slice_split (λ b. b == at) (drop (i + 1) text)
+cut_at at text i lt before here =
+    ap (slice_split (λ b. b == at)) (sym (cut_whole text i lt))
+    ∙ slice_split_at (λ b. b == at) (take i text) (get_or text i 0) (drop (i + 1) text) (before_first at text i lt before) here
+
+-- the text up to its first line feed
+pub line_at : (text : List ℕ) (i : ℕ) → i < length text → ((k : ℕ) → k < i → (get_or text k 0 == 10) ≡ false) → get_or text i 0 ≡ 10
+    → IsFirstLine text (take i text) (drop (i + 1) text)
+line_at text i lt before here = record {
+  whole = sym (cut_whole text i lt) ∙ ap (λ b. take i text ++ b ∷ drop (i + 1) text) here;
+  first = before_first 10 text i lt before;
+}
 
 pub cut_none : (at : ℕ) (text : List ℕ) → ((k : ℕ) → k < length text → (get_or text k 0 == at) ≡ false) → slice_split (λ b. b == at) text ≡ text ∷ []
 cut_none at text before =

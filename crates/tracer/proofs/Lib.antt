@@ -6,6 +6,7 @@ pub mod CutLemmas
 pub mod PieceLemmas
 pub mod TallyLemmas
 pub mod VerdictLemmas
+pub mod PartLemmas
 pub mod SplitLemmas
 pub mod NumeralLemmas
 pub mod ReadLemmas

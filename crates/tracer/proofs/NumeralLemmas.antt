@@ -1,9 +1,9 @@
 -- What a piece's number of 64 bits tells: whether the piece spells a number, and the number in a range.
-use Rattle.std.proofs.Common.{◌≡◌, ℕ, ◌<◌, ◌≤◌, true, List, Some, None, Ok, Err, ap, ◌∙◌, arith, inl, inr}
-use Rattle.std.specs.Str.Parse.{digits_value}
-use Rattle.std.proofs.lemmas.Bool.{cases_Bool, cases_lt}
+use Rattle.std.proofs.Common.{◌≡◌, ◌≢◌, ℕ, ◌^◌, ◌<◌, ◌≤◌, true, List, Some, None, Ok, Err, length, get_or, take, ap, sym, ◌∙◌, arith, inl, inr}
+use Rattle.std.specs.{Str.all_ascii_digits, Str.Parse.digits_value}
+use Rattle.std.proofs.lemmas.{Bool.cases_Bool, Bool.cases_lt, List.get_or-take, List.length-take, Str.Parse.digits_value_short}
 use Rattle.event_log.specs.Digits.{is_number, number_to}
-use Rattle.event_log.proofs.DigitsLemmas.{is_number-spelled, number_to-beyond, number_to-not, number_to-Some, number_to-spelled, spelled_number}
+use Rattle.event_log.proofs.DigitsLemmas.{IsSpelled, ascii_digits, is_number-spelled, number_to-beyond, number_to-not, number_to-Some, number_to-spelled, spelled_number}
 use Rattle.tracer.specs.{declared.verdicts.Reason.TheVariants.Range, Judging.in_range, Judging.or_range}
 
 pub is_number_read : (text : List ℕ) (n : ℕ) → number_to 18446744073709551615 text ≡ Some n → is_number text ≡ true
@@ -29,3 +29,18 @@ in_range_unread most text le none = ap or_range (elim (cases_Bool (is_number tex
   ]
   | inr not ↦ number_to-not most text not
 ])
+
+-- digits at the front of a text, at most 19, are the number that they write
+pub front_number : (text : List ℕ) (count : ℕ) → all_ascii_digits (take count text) ≡ true → 0 < count → count ≤ length text → count ≤ 19
+    → (1 < count → get_or text 0 0 ≢ 48) → number_to 18446744073709551615 (take count text) ≡ Some (digits_value 10 (take count text))
+front_number text count digits some inside few lead =
+    let front = take count text in
+    let long : length front ≡ count = length-take count text ∙ omega arith in
+    let first : get_or front 0 0 ≡ get_or text 0 0 = get_or-take count text 0 0 some in
+    let alone : get_or front 0 0 ≡ 48 → length front ≡ 1 = λ zero. elim (cases_lt 1 count) [
+      | inl more ↦ absurd (lead more (sym first ∙ zero))
+      | inr one ↦ omega arith
+    ] in
+    let spelled : IsSpelled front = record { digits = digits; some = omega arith; lead = alone } in
+    let small : digits_value 10 front < 10 ^ 19 = digits_value_short ascii_digits front 19 digits (omega arith) in
+    number_to-spelled 18446744073709551615 front spelled (omega arith)

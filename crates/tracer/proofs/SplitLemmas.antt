@@ -1,9 +1,10 @@
 -- What is joined by a byte that no piece has is cut again into its pieces.
-use Rattle.std.proofs.Common.{◌≡◌, ℕ, ◌+◌, ◌<◌, ◌^◌, ◌==◌, true, false, List, [], ◌∷◌, ◌++◌, Ok, refl, ap, ◌∙◌, append_assoc, eq-eqb, arith}
+use Rattle.std.proofs.Common.{◌≡◌, ℕ, ◌+◌, ◌<◌, ◌≤◌, ◌^◌, ◌==◌, true, false, List, [], ◌∷◌, ◌++◌, Ok, length, get_or, take, drop, refl, ap, sym, ◌∙◌, append_assoc, eq-eqb, arith}
+use Rattle.std.proofs.Common.{take_all}
 use Rattle.std.specs.Prelude.{decimal}
 use Rattle.std.specs.{Char.is_ascii_digit, Str.all_ascii_digits, List.AllByRecursion, List.slice_split, List.join_with_byte}
 use Rattle.std.proofs.lemmas.{Bool.Decides.nat_tests, List.Elements.All-from_recursion, List.Splits.slice_split_at, List.Splits.slice_split_none}
-use Rattle.std.proofs.lemmas.{Bool.and_parts}
+use Rattle.std.proofs.lemmas.{Bool.and_parts, List.drop_more, List.take-append-drop}
 use Rattle.event_log.proofs.DigitsLemmas.{decimal-spelled}
 use Rattle.tracer.specs.{TraceText.text_line, Judging.Progress, Judging.line_pieces, Judging.lines_in, Judging.step, Judging.verdict_from}
 use Rattle.tracer.proofs.VerdictLemmas.{line_taken}
@@ -47,6 +48,18 @@ decimal_lacks at n lt small = digits_lack at (decimal n) lt (decimal-spelled n s
 -- a text of digits is not cut at another byte
 pub digits_alone : (at : ℕ) (cs : List ℕ) → at < 48 → all_ascii_digits cs ≡ true → slice_split (λ b. b == at) cs ≡ cs ∷ []
 digits_alone at cs lt digits = split_alone at cs (digits_lack at cs lt digits)
+
+-- digits and a space behind them are the first piece
+pub digits_cut : (text : List ℕ) (count : ℕ) → all_ascii_digits (take count text) ≡ true → count < length text → get_or text count 0 ≡ 32
+    → line_pieces text ≡ take count text ∷ line_pieces (drop (count + 1) text)
+digits_cut text count digits inside space =
+    let whole : take count text ++ get_or text count 0 ∷ drop (count + 1) text ≡ text = rw (← drop_more text count 0 inside) (take-append-drop count text) in
+    let joined : take count text ++ 32 ∷ drop (count + 1) text ≡ text = rw space at whole in
+    ap line_pieces (sym joined) ∙ split_behind 32 (take count text) (drop (count + 1) text) (digits_lack 32 (take count text) (omega arith) digits)
+
+-- digits to the end of the text are its one piece
+pub digits_end : (text : List ℕ) (count : ℕ) → all_ascii_digits (take count text) ≡ true → length text ≤ count → line_pieces text ≡ text ∷ []
+digits_end text count digits end = digits_alone 32 text (omega arith) (ap all_ascii_digits (sym (take_all count text end)) ∙ digits)
 
 -- no piece has a space or a line feed
 pub record IsLine (ps : List (List ℕ)) : Type 0 where

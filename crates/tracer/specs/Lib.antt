@@ -8,3 +8,5 @@ pub mod Lines
 pub mod Tallies
 pub mod Verdicts
 pub mod Reasons
+pub mod Inputs
+pub mod Parts

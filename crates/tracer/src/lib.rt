@@ -18,6 +18,7 @@ mod laws;
 mod lines;
 mod next_lines;
 mod numerals;
+mod parts;
 mod pieces;
 mod sinks;
 mod tally;
@@ -26,7 +27,7 @@ mod versions;
 mod words;
 mod writing;
 
-pub use checking::check;
+pub use checking::{InputFault, check, check_input};
 pub use event_log::{Entry, Kind};
 pub use gathering::{GatherError, gather, gathered_is_a_run};
 pub use laws::yes_is_right;

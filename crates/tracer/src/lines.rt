@@ -6,7 +6,7 @@ ghost use Rattle.tracer.specs.{Judging.GivesOrReason, Judging.kind_in, Judging.h
 ghost use Rattle.tracer.specs.{Judging.entry_in, Judging.capacity_digits, Judging.left_digits, Judging.count_digits, Lines.left_of, Lines.digits_of};
 
 use crate::numerals::Numeral;
-use crate::pieces::{Pieces, digits, ended, is_value, piece, word};
+use crate::pieces::{Pieces, digits, ended, is_value, numeral, piece, word};
 use crate::verdicts::Reason;
 use crate::versions::Version;
 use crate::words::{are_messages, message_in, spells_message};
@@ -96,7 +96,7 @@ pub fn entry_digits(pieces: Pieces<'_>) -> Result<EntryDigits<'_>, Reason>
     let (word, rest) = piece(rest)?;
     let kind = kind_in(word)?;
     let (buffer, rest) = digits(rest)?;
-    let (value, rest) = piece(rest)?;
+    let (value, rest) = numeral(rest)?;
     let (op, rest) = digits(rest)?;
     let (pos, rest) = digits(rest)?;
     ended(rest)?;
@@ -105,7 +105,7 @@ pub fn entry_digits(pieces: Pieces<'_>) -> Result<EntryDigits<'_>, Reason>
         thread,
         kind,
         buffer,
-        value: Numeral::of(value),
+        value,
         op,
         pos,
     })

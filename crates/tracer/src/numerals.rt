@@ -1,6 +1,6 @@
 //! Pieces read as numbers. No call takes memory or waits.
 
-ghost use Rattle.std.specs.Prelude.{◌≡◌, ◌≤◌, IfOk};
+ghost use Rattle.std.specs.Prelude.{◌≡◌, ◌≤◌, Some, IfOk};
 ghost use Rattle.event_log.specs.Digits.{is_number, number_to};
 ghost use Rattle.tracer.specs.Judging.{in_range};
 
@@ -25,6 +25,18 @@ impl<'a> Numeral<'a> {
         Numeral {
             text,
             number: number_to(text, u64::MAX),
+        }
+    }
+
+    /// A piece that spells this number.
+    #[inline(always)]
+    pub fn known(text: &'a [u8], number: u64) -> Numeral<'a>
+        requires { number_to 18446744073709551615 text.now ≡ Some number }
+        ensures { result.text.now ≡ text.now }
+    {
+        Numeral {
+            text,
+            number: Some(number),
         }
     }
 

@@ -3,11 +3,11 @@
 ghost use Rattle.std.specs.Prelude.{◌≡◌, ◌+◌, ◌<◌, ◌≤◌, ◌==◌, ◌∷◌, [], ℕ, false, length, get_or, IfNone, IfSome, IfOk};
 ghost use Rattle.std.specs.List.{list_any, slice_split};
 ghost use Rattle.tracer.specs.{Judging.GivesOrReason, Judging.piece_at, Judging.word_at, Judging.digits_at, Judging.ended, Judging.in_range, Judging.is_value};
-ghost use Rattle.tracer.specs.{Lines.left_of};
+ghost use Rattle.tracer.specs.{Judging.line_pieces, Lines.IsFirstLine, Lines.left_of};
 
 use crate::numerals::Numeral;
 use crate::verdicts::Reason;
-use event_log::number_to;
+use event_log::{leading_digits, number_to};
 
 /// What stands before the first byte `at` of the text, and what stands behind it.
 #[inline(always)]
@@ -61,6 +61,7 @@ pub fn cut_line(text: &[u8]) -> Option<(&[u8], &[u8])>
     ensures none { IfNone result (slice_split (λ b. b == 10) text.now ≡ text.now ∷ []) }
     ensures some { IfSome result (λ p. slice_split (λ b. b == 10) text.now ≡ p.0.now ∷ slice_split (λ b. b == 10) p.1.now) }
     ensures shorter { IfSome result (λ p. length p.0.now + 1 + length p.1.now ≡ length text.now) }
+    ensures line { IfSome result (λ p. IsFirstLine text.now p.0.now p.1.now) }
 {
     for end in chunk_with(text, b'\n')..text.len() {
         if text[end] == b'\n' {
@@ -105,6 +106,48 @@ pub fn word<'a>(word: &[u8], pieces: Pieces<'a>) -> Result<Pieces<'a>, Reason>
     Ok(rest)
 }
 
+/// The first piece of the text where it is a number of at most `SHORT` digits, and the pieces behind
+/// it: it is cut and read in one pass. `None` where it is no such number.
+#[inline(always)]
+fn short_number(text: &[u8]) -> Option<(Numeral<'_>, Pieces<'_>)>
+    ensures { IfSome result (λ x. line_pieces text.now ≡ x.0.text.now ∷ left_of x.1) }
+{
+    let (count, number) = leading_digits(text);
+    if count == 0 {
+        return None;
+    }
+    if count > 1 && text[0] == b'0' {
+        return None;
+    }
+    if count == text.len() {
+        return Some((Numeral::known(text, number), Pieces { rest: None }));
+    }
+    if text[count] != b' ' {
+        return None;
+    }
+    let rest = Some(&text[count + 1..]);
+    Some((Numeral::known(&text[..count], number), Pieces { rest }))
+}
+
+/// The next piece, read as a number where it is one, and the pieces behind it.
+///
+/// Errors: `Spelling` if no piece is left.
+#[inline(always)]
+pub fn numeral(pieces: Pieces<'_>) -> Result<(Numeral<'_>, Pieces<'_>), Reason>
+    ensures { GivesOrReason (λ x. (x.0.text.now, left_of x.1)) result (piece_at (left_of pieces.entry)) }
+{
+    let Some(text) = pieces.rest else {
+        return Err(Reason::Spelling);
+    };
+    match short_number(text) {
+        Some(read) => Ok(read),
+        None => {
+            let (front, rest) = piece(pieces)?;
+            Ok((Numeral::of(front), rest))
+        }
+    }
+}
+
 /// The next piece, a number, and the pieces behind it.
 ///
 /// Errors: `Spelling` if no piece is left, or the next one spells no number.
@@ -112,12 +155,11 @@ pub fn word<'a>(word: &[u8], pieces: Pieces<'a>) -> Result<Pieces<'a>, Reason>
 pub fn digits(pieces: Pieces<'_>) -> Result<(Numeral<'_>, Pieces<'_>), Reason>
     ensures { GivesOrReason (λ x. (x.0.text.now, left_of x.1)) result (digits_at (left_of pieces.entry)) }
 {
-    let (front, rest) = piece(pieces)?;
-    let numeral = Numeral::of(front);
-    if !numeral.is_number() {
+    let (front, rest) = numeral(pieces)?;
+    if !front.is_number() {
         return Err(Reason::Spelling);
     }
-    Ok((numeral, rest))
+    Ok((front, rest))
 }
 
 /// Tests that no piece is left.

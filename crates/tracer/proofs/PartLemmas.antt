@@ -1,0 +1,181 @@
+-- A text that is read and judged in parts has the verdict of the whole.
+use Rattle.std.proofs.Common.{◌≡◌, ℕ, ◌+◌, ◌-◌, ◌≤◌, ◌==◌, List, [], ◌∷◌, ◌++◌, length, take, drop, Option, Some, None, Ok, Err, IfSome, refl, sym, ap, ◌∙◌}
+use Rattle.std.proofs.Common.{append_assoc, append-nil, eq-eqb, arith, length-append, drop_at}
+use Rattle.std.proofs.lemmas.List.{drop-take, length-drop, length-take, Edits.take-paste, Splits.slice_split_at}
+use lib.Seq.{paste, take-add}
+use Rattle.std.specs.Io.KnownBytes.{Consumes, IsAtEnd, Keeps}
+use Rattle.tracer.specs.{declared.checking.TextJudge.TextJudge, declared.verdicts.Reason.Reason, declared.verdicts.Verdict.Verdict}
+use Rattle.tracer.specs.{declared.verdicts.Verdict.TheVariants.No, declared.verdicts.Verdict.TheVariants.Yes, Judging.lines_in, Judging.step}
+use Rattle.tracer.specs.{Judging.verdict_from, Judging.verdict_of, Inputs.IsReadBehind, Lines.IsFirstLine, Parts.verdict_behind, Tallies.progress_of}
+use Rattle.tracer.specs.Verdicts.{IsTraceOfRun, IsVerdictOn}
+use Rattle.tracer.proofs.VerdictLemmas.{line_taken, line_refused}
+
+-- ---- the bytes of a reader
+
+pub consumes_none : (from : Option (List ℕ)) → Consumes from from []
+consumes_none None = tt
+consumes_none (Some xs) = refl
+
+pub consumes_then : (from mid now : Option (List ℕ)) (xs ys : List ℕ) → Consumes from mid xs → Consumes mid now ys → Consumes from now (xs ++ ys)
+consumes_then None mid now xs ys first second = tt
+consumes_then (Some a) None now xs ys first second = absurd first
+consumes_then (Some a) (Some b) None xs ys first second = absurd second
+consumes_then (Some a) (Some b) (Some c) xs ys first second = first ∙ ap (λ (t : List ℕ). xs ++ t) second ∙ sym (append_assoc xs ys c)
+
+pub consumes_kept : (from mid now : Option (List ℕ)) (xs : List ℕ) → Consumes from mid xs → Keeps mid now → Consumes from now xs
+consumes_kept None mid now xs first kept = tt
+consumes_kept (Some a) None now xs first kept = absurd first
+consumes_kept (Some a) (Some b) None xs first kept = absurd kept
+consumes_kept (Some a) (Some b) (Some c) xs first kept = first ∙ ap (λ (t : List ℕ). xs ++ t) (sym kept)
+
+-- a reader that is at its end gave all that it had
+all_consumed : (from now : Option (List ℕ)) (seen : List ℕ) → Consumes from now seen → IsAtEnd now → IfSome from (λ known. seen ≡ known)
+all_consumed None now seen read end = tt
+all_consumed (Some a) None seen read end = absurd read
+all_consumed (Some a) (Some b) seen read end = sym (read ∙ ap (λ (t : List ℕ). seen ++ t) end ∙ append-nil seen)
+
+pub read_none : (old : List ℕ) (from : Option (List ℕ)) → IsReadBehind old old from from
+read_none old from = record { more = []; read = consumes_none from; grown = sym (append-nil old) }
+
+pub read_then : (old mid new : List ℕ) (from between now : Option (List ℕ)) → IsReadBehind old mid from between → IsReadBehind mid new between now
+    → IsReadBehind old new from now
+read_then old mid new from between now first second = record {
+  more = first.more ++ second.more;
+  read = consumes_then from between now first.more second.more first.read second.read;
+  grown = second.grown ∙ ap (λ (t : List ℕ). t ++ second.more) first.grown ∙ append_assoc old first.more second.more;
+}
+
+pub read_kept : (old new : List ℕ) (from between now : Option (List ℕ)) → IsReadBehind old new from between → Keeps between now → IsReadBehind old new from now
+read_kept old new from between now first kept =
+    record { more = first.more; read = consumes_kept from between now first.more first.read kept; grown = first.grown }
+
+-- one read behind the first `at` bytes, which stay
+pub read_more : (xs ys : List ℕ) (at n : ℕ) (mid now : Option (List ℕ)) → take at ys ≡ take at xs → Consumes mid now (take n (drop at ys))
+    → IsReadBehind (take at xs) (take (at + n) ys) mid now
+read_more xs ys at n mid now front read = record {
+  more = take n (drop at ys);
+  read = read;
+  grown = take-add at n ys ∙ ap (λ (t : List ℕ). t ++ take n (drop at ys)) front;
+}
+
+-- what stands behind the first `count` bytes is moved to the front
+pub moved : (xs : List ℕ) (filled count : ℕ) → count ≤ length (take filled xs) → filled ≤ length xs
+    → take (filled - count) (paste xs 0 (drop count xs) (filled - count)) ≡ drop count (take filled xs)
+moved xs filled count few inside =
+    let within : count ≤ filled = omega (arith, length-take filled xs) in
+    let parts : filled ≡ count + (filled - count) = omega arith in
+    let rest : filled - count ≤ length (drop count xs) = omega (arith, length-drop count xs) in
+    let first : filled - count ≡ 0 + (filled - count) = omega arith in
+    ap (λ n. take n (paste xs 0 (drop count xs) (filled - count))) first ∙ take-paste xs 0 (drop count xs) (filled - count) (omega arith) rest
+    ∙ sym (ap (λ n. drop count (take n xs)) parts ∙ drop-take count (filled - count) xs)
+
+-- ---- the lines of a part
+
+-- a judge that found no fault
+live_verdict : (judge : TextJudge) (text : List ℕ) → judge.fault ≡ None → verdict_behind judge text ≡ verdict_from (progress_of judge.judge) judge.line (lines_in text)
+live_verdict judge text none = rw none refl
+
+first_line : (text line behind more : List ℕ) → IsFirstLine text line behind → lines_in (text ++ more) ≡ line ∷ lines_in (behind ++ more)
+first_line text line behind more is =
+    ap (λ (t : List ℕ). lines_in (t ++ more)) is.whole ∙ ap lines_in (append_assoc line (10 ∷ behind) more)
+    ∙ slice_split_at (λ b. b == 10) line 10 (behind ++ more) is.first (eq-eqb 10 10 refl)
+
+-- the rest of the part is still to be judged, by a judge that found no fault
+pub record IsTakenTo (old : TextJudge) (part : List ℕ) (now : TextJudge) (rest : List ℕ) : Type 0 where
+  pub front : List ℕ
+  pub whole : part ≡ front ++ rest
+  pub judged : (more : List ℕ) → verdict_behind old (part ++ more) ≡ verdict_behind now (rest ++ more)
+  pub live : now.fault ≡ None
+  pub counted : now.line + length rest ≤ old.line + length part
+
+pub none_taken : (old : TextJudge) (part : List ℕ) → old.fault ≡ None → IsTakenTo old part old part
+none_taken old part none = record { front = []; whole = refl; judged = (λ more. refl); live = none; counted = omega arith }
+
+-- one line more
+pub one_taken : (old : TextJudge) (part : List ℕ) (now new : TextJudge) (rest line behind : List ℕ) → IsTakenTo old part now rest → IsFirstLine rest line behind
+    → step (progress_of now.judge) line ≡ Ok (progress_of new.judge) → new.line ≡ now.line + 1 → new.fault ≡ now.fault → IsTakenTo old part new behind
+one_taken old part now new rest line behind taken is stepped next fault =
+    let live_now = taken.live in
+    let live_new : new.fault ≡ None = fault ∙ live_now in
+    let long = ap length is.whole ∙ length-append line (10 ∷ behind) in
+    let counted = taken.counted in
+    record {
+      front = taken.front ++ (line ++ 10 ∷ []);
+      whole = taken.whole ∙ ap (λ (t : List ℕ). taken.front ++ t) (is.whole ∙ sym (append_assoc line (10 ∷ []) behind))
+          ∙ sym (append_assoc taken.front (line ++ 10 ∷ []) behind);
+      judged = (λ more.
+          taken.judged more ∙ live_verdict now (rest ++ more) live_now
+          ∙ line_taken (progress_of now.judge) (progress_of new.judge) now.line (rest ++ more) line (behind ++ more) (first_line rest line behind more is) stepped
+          ∙ ap (λ n. verdict_from (progress_of new.judge) n (lines_in (behind ++ more))) (sym next) ∙ sym (live_verdict new (behind ++ more) live_new));
+      live = live_new;
+      counted = omega arith;
+    }
+
+-- a line with a fault
+pub refused : (old : TextJudge) (part : List ℕ) (now new : TextJudge) (rest line behind : List ℕ) (reason : Reason) → IsTakenTo old part now rest
+    → IsFirstLine rest line behind → step (progress_of now.judge) line ≡ Err reason → new.line ≡ now.line → new.fault ≡ Some reason
+    → (more : List ℕ) → verdict_behind old (part ++ more) ≡ verdict_behind new (drop (length part) part ++ more)
+refused old part now new rest line behind reason taken is stepped same fault more =
+    taken.judged more ∙ live_verdict now (rest ++ more) taken.live
+    ∙ line_refused (progress_of now.judge) now.line (rest ++ more) line (behind ++ more) reason (first_line rest line behind more is) stepped
+    ∙ ap (λ n. No n reason) (sym same) ∙ (rw fault refl)
+
+-- a judge that found a fault before
+pub passed : (judge : TextJudge) (reason : Reason) (xs ys : List ℕ) → judge.fault ≡ Some reason → verdict_behind judge xs ≡ verdict_behind judge ys
+passed judge reason xs ys fault = rw fault refl
+
+-- what is left of the part, by how much of it was taken
+pub rest_of : (old : TextJudge) (part : List ℕ) (now : TextJudge) (rest : List ℕ) → IsTakenTo old part now rest → drop (length part - length rest) part ≡ rest
+rest_of old part now rest taken =
+    let long = ap length taken.whole ∙ length-append taken.front rest in
+    let count : length taken.front ≡ length part - length rest = omega arith in
+    ap (drop (length part - length rest)) taken.whole ∙ drop_at taken.front rest (length part - length rest) count
+
+-- ---- an input that is judged as far as it was read
+
+pub record IsJudgedTo (from now : Option (List ℕ)) (judge : TextJudge) (held : List ℕ) : Type 0 where
+  pub seen : List ℕ
+  pub read : Consumes from now seen
+  pub judged : (more : List ℕ) → verdict_of (seen ++ more) ≡ verdict_behind judge (held ++ more)
+
+pub none_judged : (from : Option (List ℕ)) (judge : TextJudge) (held : List ℕ) → ((text : List ℕ) → verdict_behind judge text ≡ verdict_of text) → held ≡ []
+    → IsJudgedTo from from judge held
+none_judged from judge held opening none = record {
+  seen = [];
+  read = consumes_none from;
+  judged = (λ more. rw none (sym (opening more)));
+}
+
+pub judged_read : (from mid now : Option (List ℕ)) (judge : TextJudge) (held longer : List ℕ) → IsJudgedTo from mid judge held → IsReadBehind held longer mid now
+    → IsJudgedTo from now judge longer
+judged_read from mid now judge held longer before read = record {
+  seen = before.seen ++ read.more;
+  read = consumes_then from mid now before.seen read.more before.read read.read;
+  judged = (λ more.
+      ap verdict_of (append_assoc before.seen read.more more) ∙ before.judged (read.more ++ more)
+      ∙ ap (verdict_behind judge) (sym (append_assoc held read.more more) ∙ ap (λ (t : List ℕ). t ++ more) (sym read.grown)));
+}
+
+pub judged_lines : (from now : Option (List ℕ)) (old new : TextJudge) (held rest : List ℕ) → IsJudgedTo from now old held
+    → ((more : List ℕ) → verdict_behind old (held ++ more) ≡ verdict_behind new (rest ++ more)) → IsJudgedTo from now new rest
+judged_lines from now old new held rest before taken =
+    record { seen = before.seen; read = before.read; judged = (λ more. before.judged more ∙ taken more) }
+
+-- one part more: it is read, its lines are judged, and what is left is kept
+pub judged_part : (from mid now : Option (List ℕ)) (old new : TextJudge) (held longer part rest : List ℕ) (taken : ℕ) → IsJudgedTo from mid old held
+    → IsReadBehind held longer mid now → part ≡ longer
+    → ((more : List ℕ) → verdict_behind old (part ++ more) ≡ verdict_behind new (drop taken part ++ more)) → rest ≡ drop taken longer → IsJudgedTo from now new rest
+judged_part from mid now old new held longer part rest taken before read same lines left =
+    rw left (judged_lines from now old new longer (drop taken longer) (judged_read from mid now old held longer before read) (rw same at lines))
+
+pub judged_all : (from now : Option (List ℕ)) (judge : TextJudge) (held : List ℕ) (verdict : Verdict) → IsJudgedTo from now judge held → IsAtEnd now
+    → verdict ≡ verdict_behind judge held → ((text : List ℕ) → verdict_of text ≡ Yes → IsTraceOfRun text) → IsVerdictOn from verdict
+judged_all from now judge held verdict before end is sound =
+    let same : verdict ≡ verdict_of before.seen =
+    is ∙ ap (verdict_behind judge) (sym (append-nil held)) ∙ sym (before.judged []) ∙ ap verdict_of (append-nil before.seen) in
+    record {
+      text = before.seen;
+      whole = all_consumed from now before.seen before.read end;
+      judged = same;
+      run = (λ yes. sound before.seen (sym same ∙ yes));
+    }

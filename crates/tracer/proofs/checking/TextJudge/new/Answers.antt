@@ -1,0 +1,7 @@
+use Rattle.std.proofs.Common.{ap}
+use Rattle.tracer.specs.Judging.{lines_in, verdict_from, verdict_of}
+use Rattle.tracer.proofs.checking.TextJudge.new.Goals as goal
+
+pub returns-clause-judged : goal.returns-clause-judged
+unfolding verdict_of
+returns-clause-judged c = λ text. ap (λ s. verdict_from s 1 (lines_in text)) c.new.ensures

@@ -1,0 +1,15 @@
+-- A text that is read and judged in parts.
+use Rattle.std.specs.Prelude.{ℕ, List, Some, None, take}
+use Rattle.tracer.specs.{declared.parts.Part.Part, declared.checking.TextJudge.TextJudge, declared.verdicts.Verdict.Verdict}
+use Rattle.tracer.specs.{declared.verdicts.Verdict.TheVariants.No, Judging.lines_in, Judging.verdict_from, Tallies.progress_of}
+
+-- the bytes that are read and not yet judged
+abbrev pub held : Part → List ℕ
+held part = take part.filled part.bytes.items
+
+-- the verdict, where this text comes behind the lines that were judged
+abbrev pub verdict_behind : TextJudge → List ℕ → Verdict
+verdict_behind judge text = elim judge.fault [
+  | None ↦ verdict_from (progress_of judge.judge) judge.line (lines_in text)
+  | Some reason ↦ No judge.line reason
+]
