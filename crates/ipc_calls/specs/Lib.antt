@@ -1,3 +1,4 @@
 pub mod Parts
 pub mod PlaceLaws
+pub mod Scripts
 pub mod Laws
