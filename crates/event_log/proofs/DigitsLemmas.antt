@@ -1,11 +1,11 @@
 -- Numbers in digits: what `number_to` reads, and the one text that spells a number.
 use Rattle.std.proofs.Common.{ne_eqb, ◌≢◌, ◌==◌, zero, ap₂, lit<, ◌≡◌, ℕ, suc, ◌+◌, ◌*◌, ◌^◌, ◌<◌, ◌≤◌, ◌-◌, Bool, true, false, ◌&&◌, List, [], ◌∷◌, length}
-use Rattle.std.proofs.Common.{get_or, take, nat_le, Some, None, if◌then◌else◌, decimal, refl, sym, ◌∙◌, ap, arith, take_all}
+use Rattle.std.proofs.Common.{get_or, take, nat_le, Some, None, if◌then◌else◌, decimal, refl, sym, ◌∙◌, ap, arith, inl, inr, take_all}
 use Rattle.std.specs.{Int.IsInRange, List.list_all, Str.all_ascii_digits, Char.is_ascii_digit, Char.digit_value, Str.Parse.digits_value, Str.Parse.AllDigits}
 use Rattle.std.proofs.lemmas.{Bool.Decides.nat_tests, Str.Parse.IsNumeralModel, Str.Parse.numerals_by_value, Str.Parse.tells_all_ascii_digits}
 use Rattle.std.proofs.lemmas.{Str.Parse.digits_value-take-le, Str.Parse.digit_at, Str.digit_value_digit, Int.Digits.digits_value_more, Int.Digits.digits_more}
 use Rattle.std.proofs.lemmas.{Fmt.decimal-digits_value, Fmt.digits_decimal, Fmt.digits_value-decimal, Fmt.decimal_nonempty, Fmt.first_decimal}
-use Rattle.std.proofs.lemmas.{Fmt.decimal_digit, Bool.and_parts, List.length-take, Str.Parse.digits_value_short}
+use Rattle.std.proofs.lemmas.{Fmt.decimal_digit, Bool.and_parts, Bool.cases_Bool, Bool.cases_lt, List.length-take, Str.Parse.digits_value_short}
 use Rattle.event_log.specs.Digits.{is_number, number_to}
 
 -- the digits of the library, in the words of `is_number`
@@ -208,3 +208,24 @@ short_stays_below text i n r h few is =
 pub digits_spelled : (text : List ℕ) (count : ℕ) → all_ascii_digits (take count text) ≡ true → length text ≤ count → 0 < length text
     → (get_or text 0 0 ≡ 48 → length text ≡ 1) → IsSpelled text
 digits_spelled text count digits end some lead = record { digits = rw take_all at digits; some = some; lead = lead }
+
+-- a number of 64 bits, or none, tells of a smaller range
+pub number_to-narrow : (most : ℕ) (text : List ℕ) (n : ℕ) → number_to 18446744073709551615 text ≡ Some n → n ≤ most → number_to most text ≡ Some n
+number_to-narrow most text n is le =
+    let read = number_to-Some 18446744073709551615 text n is in
+    let value = read.value in
+    number_to-spelled most text read.spelled (omega arith) ∙ ap Some value
+
+pub number_to-past : (most : ℕ) (text : List ℕ) (n : ℕ) → number_to 18446744073709551615 text ≡ Some n → most < n → number_to most text ≡ None
+number_to-past most text n is lt =
+    let value = (number_to-Some 18446744073709551615 text n is).value in
+    number_to-beyond most text (omega arith)
+
+pub number_to-none : (most : ℕ) (text : List ℕ) → most ≤ 18446744073709551615 → number_to 18446744073709551615 text ≡ None → number_to most text ≡ None
+number_to-none most text le none = elim (cases_Bool (is_number text)) [
+  | inl spells ↦ elim (cases_lt 18446744073709551615 (digits_value 10 text)) [
+    | inl beyond ↦ number_to-beyond most text (omega arith)
+    | inr within ↦ absurd (let some = number_to-spelled 18446744073709551615 text (spelled_number text spells) within in cc)
+  ]
+  | inr not ↦ number_to-not most text not
+]
