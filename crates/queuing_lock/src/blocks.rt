@@ -13,16 +13,11 @@ use std::alloc::Global;
 pub fn lock_blocks<B: Drop>(alloc: Global, blocks: Vec<B>) -> Result<Vec<QBlock<B>>, NoMemory>
     ensures { IfOk result (λ made. made.items ≡ map unowned blocks.items) }
 {
-    let mut left = blocks;
-    let Ok(mut made) = Vec::with_capacity(alloc, left.len()) else {
+    let Ok(mut made) = Vec::with_capacity(alloc, blocks.len()) else {
         return Err(NoMemory);
     };
-    while !left.is_empty() {
-        made.push(QBlock {
-            busy: None,
-            above: left.remove(0),
-        })
-        .unwrap();
+    for above in blocks {
+        made.push(QBlock { busy: None, above }).unwrap();
     }
     Ok(made)
 }
