@@ -47,7 +47,7 @@ fn empty_queues<B: Drop>(
 /// Errors: `NoMemory` if an allocation was refused; then the blocks are gone.
 pub fn queue_blocks<B: Drop>(
     alloc: Global,
-    mut blocks: Vec<B>,
+    blocks: Vec<B>,
     cpus: u8,
     homes: &[CpuId],
 ) -> Result<Vec<(LockId, QueueBlock<B>)>, NoMemory>
@@ -58,13 +58,14 @@ pub fn queue_blocks<B: Drop>(
     ensures queues { IfOk result (λ locks. (c : _) → c.0 < cpus → IsSome (opened locks.items (Pending c))) }
     ensures blocks { IfOk result (λ locks. (b : _) → inner (opened locks.items) (Buffer b) ≡ slice_get blocks.items b.0) }
 {
-    let count = blocks.len();
-    let mut locks = empty_queues(alloc, cpus, homes, count)?;
-    for i in 0..count {
-        let block = BlockBox::new(alloc, blocks.remove(0))?;
+    let mut locks = empty_queues(alloc, cpus, homes, blocks.len())?;
+    let mut number = 0u8;
+    for above in blocks {
+        let block = BlockBox::new(alloc, above)?;
         locks
-            .push((LockId::Buffer(BufId(i as u8)), QueueBlock::Above(block)))
+            .push((LockId::Buffer(BufId(number)), QueueBlock::Above(block)))
             .unwrap();
+        number += 1;
     }
     Ok(locks)
 }

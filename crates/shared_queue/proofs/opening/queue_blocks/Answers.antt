@@ -1,4 +1,6 @@
-use Rattle.std.proofs.Common.{◌≡◌, ◌<◌, ◌++◌, IsSome, length, sym, subst, arith, slice_get}
+use Rattle.std.proofs.Common.{◌≡◌, ◌<◌, ◌++◌, IsSome, length, sym, subst, arith, rules, slice_get}
+use Rattle.std.proofs.lemmas.Grind.{common_steps}
+use Rattle.std.specs.Vec.Iter.{into_iter_items}
 use Rattle.event_log.specs.declared.ids.LockId.TheVariants.{Pending, Buffer}
 use Rattle.layer_traits.specs.{OneLock.AreDistinct, OneLock.opened, QueueBlocks.StartsWell, QueueBlocks.homes_in, QueueBlocks.inner}
 use Rattle.shared_queue.proofs.OpeningLemmas.{all_there, blocks_there, homes_read, locks_distinct, queues_there, starts_well}
@@ -12,9 +14,9 @@ returns g c =
     let blocks = c.args.blocks.items in
     let homes = c.args.homes.now in
     let are = c.in_ok-locks.ensures.queues in
-    let none : length c.loop-i.blocks.items ≡ 0 = omega (arith, c.loop-i.invariant.2, c.loop-i-test.false) in
-    let all : c.loop-i.locks.items ≡ locks.items ++ buffers_from 0 blocks
-    = all_there homes c.loop-i.i c.loop-i.locks.items (locks.items ++ buffers_from 0 blocks) c.loop-i.blocks.items none c.loop-i.invariant.0 in
+    let none : length (into_iter_items c.loop-above.above-iterator) ≡ 0 = first_of (omega (arith, c.loop-above.above-iterator.rest.ok.0), grind (arith, common_steps), search rules) in
+    let all : c.loop-above.locks.items ≡ locks.items ++ buffers_from 0 blocks
+    = all_there homes c.loop-above.number c.loop-above.locks.items (locks.items ++ buffers_from 0 blocks) (into_iter_items c.loop-above.above-iterator) none c.loop-above.invariant.0 in
     let count : length locks.items ≡ c.args.cpus = omega (arith, c.in_ok-locks.ensures.count, locks.ok.0) in
     let queues : AreQueues (length locks.items) homes (length blocks) = subst (λ n. AreQueues n homes (length blocks)) (sym count) c.requires in
     record {

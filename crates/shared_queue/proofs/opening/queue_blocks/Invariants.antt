@@ -1,7 +1,9 @@
 use Rattle.std.proofs.Common.{◌≡◌, ◌+◌, ◌≤◌, ◌++◌, length, vec_len, vec_capacity}
+use Rattle.std.specs.Vec.Iter.{into_iter_items, into_iter_len}
 use Rattle.shared_queue.specs.Opening.{buffers_from}
 use Rattle.shared_queue.proofs.opening.queue_blocks.Given as goal
 
-abbrev pub invariant-loop-i : goal.invariant-loop-i
-invariant-loop-i g l = (l.locks.items ++ buffers_from l.i l.blocks.items ≡ l.initial.locks.items ++ buffers_from 0 l.fn.blocks.items)
-    × (vec_len l.locks ≡ l.cpus + l.i) × (l.i + length l.blocks.items ≡ l.count) × (l.cpus + l.count ≤ vec_capacity l.locks)
+abbrev pub invariant-loop-above : goal.invariant-loop-above
+invariant-loop-above g l = (l.locks.items ++ buffers_from l.number (into_iter_items l.above-iterator) ≡ l.initial.locks.items ++ buffers_from 0 l.fn.blocks.items)
+    × (vec_len l.locks ≡ l.cpus + l.number) × (l.number + length (into_iter_items l.above-iterator) ≡ length l.fn.blocks.items)
+    × (l.cpus + length l.fn.blocks.items ≤ vec_capacity l.locks)
