@@ -200,6 +200,7 @@ rows() {
   row 1 '' $'error: OutOfRange(22) cpus\n' 'echo cpus = 17 | mctower run'
   row 1 '' $'error: OutOfRange(22) cpus\n' 'echo cpus = 17 | mctower threads --turns 9'
   row 1 '' $'error: BadToml(20)\n' "printf '# \\xff\\n' | mctower run"
+  row 1 '' $'error: BadToml(20)\n' "printf '# \\xff\\n' | mctower threads --turns 9"
   # each change of a trace text alone, and the first line with a fault
   verdict '1 Spelling(30)' 'head -c 0'
   verdict '1 Spelling(30)' "sed '1s/\$/\\r/'"
@@ -318,6 +319,16 @@ rows() {
   # the longest schedule where there is memory: eight CPUs, whose messages get through all sixteen buffers
   patience=60 row 0 $'yes\n35264\n' '~cpu 0 live' \
     "bench/make.py plan through | mctower run --schedule \"\$(bench/make.py schedule)\" > '$room/long' && mctower check < '$room/long' && grep -c '^e ' '$room/long'"
+  # the longest traces: the threads of nine CPUs fill them, and the order of all their entries is gathered and judged
+  {
+    printf 'cpus = 9\ntrace = 65536\nbuffers = [32, 32, 32, 32, 32, 32, 32, 32, 32]\n'
+    for cpu in {0..8}; do
+      printf '[[thread]]\ncpu = %d\nprogram = ["set r0 7", "set r1 1", "send %d r0", "jnz r1 2"]\n' "$cpu" "$cpu"
+      printf '[[thread]]\ncpu = %d\nprogram = ["set r1 1", "recv %d r0", "jnz r1 1"]\n' "$cpu" "$cpu"
+    done
+  } > "$room/full"
+  patience=120 row 0 $'yes\n589815\n' "$(printf 'cpu %d TraceFull\n' {0..8})"$'\n' \
+    "mctower threads --turns 1000000000 < '$room/full' > '$room/long' && mctower check < '$room/long' && grep -c '^e ' '$room/long'"
   # room for one thread's stack, and not for two; no room for the longest schedule
   row 0 $'plain 3\ntable 3\n' '' "$one_stack; mctower count --cpus 1 --times 3"
   row 1 '' $'error: NoThread(5)\n' "$one_stack; mctower count --cpus 2 --times 3"

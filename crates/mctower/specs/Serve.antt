@@ -1,12 +1,12 @@
 -- What serving an order gives: the answer, what is on standard output and on standard error, and whether the input is read.
 use Rattle.std.specs.Prelude.{◌≡◌, ◌*◌, ◌++◌, ◌⊎◌, ℕ, Bool, true, false, List, [], ◌∷◌, Option, Some, None, Result, Ok, Err, Vec, IfSome, IsUtf8, codes}
-use Rattle.std.specs.Prelude.{decimal, if◌then◌else◌, is_some}
+use Rattle.std.specs.Prelude.{decimal, if◌then◌else◌, is_some, map, string_bytes, String}
 use Rattle.std.specs.{Global.Global, declared.io.ErrorKind.ErrorKind, declared.io.ErrorKind.TheVariants.OutOfMemory}
 use Rattle.clap.specs.Walk.{Text}
 use Rattle.event_log.specs.{declared.ids.CpuId.CpuId, Streams.IsFirstInFirstOut}
 use Rattle.boot.specs.{declared.refusals.BootError.BootError, declared.refusals.BootError.TheVariants.BadToml, Plan.BootPlan, Plan.plan_of}
 use Rattle.tracer.specs.{declared.verdicts.Verdict.Verdict, Judging.verdict_of, Verdicts.IsTraceOfRun}
-use Rattle.mctower.specs.{Line.Ghost, Line.count, Line.run, Line.threads, Line.check, Output.IsPut, Output.IsUntouched, Output.Output, Refusals.PutsRefusal}
+use Rattle.mctower.specs.{Line.Ghost, Line.count, Line.order_of, Line.run, Line.threads, Line.check, Output.IsPut, Output.IsUntouched, Output.Output, Refusals.PutsRefusal}
 use Rattle.mctower.specs.{Refusals.status_of_refusal, declared.refusals.Refusal.Refusal, Running.AreCpus, Running.IsRunOf}
 use Rattle.mctower.specs.{Faults.IsFault, Faults.IsWhy, Help.help_of, Help.topic_of, declared.faults.LineFault.LineFault, declared.faults.NoOrder.TheVariants.AsksHelp}
 use Rattle.mctower.specs.{declared.faults.NoOrder.TheVariants.AsksVersion, declared.help.TheConstants.VERSION}
@@ -186,18 +186,17 @@ Reports words (Ok (Ran state)) out = IsPut out (text_of_state state)
 Reports words (Ok (Worked stops)) out = IsPut out (stop_text stops.items)
 Reports words (Err refusal) out = PutsRefusal words refusal out
 
--- there is one answer by which the exit status and standard error are
-pub record EndsReported (words : List Text) (status : ℕ) (err : Output) : Type 0 where
-  pub answer : Result Done Refusal
-  pub ends : status ≡ status_of answer
-  pub told : Reports words answer err
-
 -- A command line is served: there is one answer by which the exit status, standard output and standard error are.
 pub record Ends (words : List Text) (ghost_of : Option Ghost) (input : Option (List ℕ)) (status : ℕ) (out err : Output) : Type 0 where
   pub answer : Result Done Refusal
   pub ends : status ≡ status_of answer
   pub served : Serves words ghost_of input answer out
   pub told : Reports words answer err
+
+-- The process ends: its words are served. Or they could not be had: nothing is out, and what tells that is on standard error.
+abbrev pub EndsProcess : {A B : Type 0} → Result (Vec (String A) B) Refusal → Option (List ℕ) → ℕ → Output → Output → Type 0
+EndsProcess (Ok words) input status out err = Ends (map string_bytes words.items) (order_of (map string_bytes words.items)) input status out err
+EndsProcess (Err refusal) input status out err = (status ≡ status_of_refusal refusal) × IsUntouched out × PutsRefusal [] refusal err
 
 -- ---- standard input
 

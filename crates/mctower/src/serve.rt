@@ -100,7 +100,7 @@ fn serve_count<O: Write, T: Threads + Wait + Sync>(
 }
 
 /// What a failed read refuses, by its kind.
-fn read_refused(kind: io::ErrorKind) -> Refusal
+pub(crate) fn read_refused(kind: io::ErrorKind) -> Refusal
     ensures { result ≡ kind_refused kind }
 {
     match kind {
