@@ -1,10 +1,11 @@
 //! Counting in threads: each of several CPUs adds 1 to one number, in critical sections at one
 //! table of shared words. `count_table` and `count_or_leave` take memory, start threads and wait
-//! for them. `number_left` does none of it.
+//! for them. `number_in` and `number_left` do none of it.
 
 ghost use Rattle.std.specs.Prelude.{◌≡◌};
 ghost use Rattle.cpu_workers.specs.Counts.{counting};
 
+mod counted;
 mod keys;
 pub(crate) mod sections;
 mod tables;
@@ -13,7 +14,8 @@ mod threads;
 use event_log::{BufId, LockId};
 use layer_traits::{Edit, LockLaw, Payload, SectionOf, SplitEdit};
 use std::marker::PhantomData;
-pub use tables::{NotCounted, count_or_leave, count_table, number_left};
+pub use counted::{Counted, LockOfKind, number_in, number_left};
+pub use tables::{NotCounted, count_or_leave, count_table};
 use thiserror::Error;
 
 /// The lock that guards the number.
