@@ -6,17 +6,16 @@ ghost use Rattle.std.specs.Prelude.{◌≡◌};
 ghost use Rattle.cpu_workers.specs.Counts.{counting};
 
 mod counted;
-mod keys;
 pub(crate) mod sections;
 mod tables;
-mod threads;
+mod tasks;
 
 use event_log::{BufId, LockId};
 use layer_traits::{Edit, LockLaw, Payload, SectionOf, SplitEdit};
 use std::marker::PhantomData;
+pub use crate::refusals::WorkerError as CountFault;
 pub use counted::{Counted, LockOfKind, number_in, number_left};
 pub use tables::{NotCounted, count_or_leave, count_table};
-use thiserror::Error;
 
 /// The lock that guards the number.
 pub const NUMBER: LockId = LockId::Buffer(BufId(0));
@@ -63,15 +62,4 @@ impl Edit for AddOne {
     fn bring_back(brought: u64, _payload: &mut Payload) -> u64 {
         brought
     }
-}
-
-/// Why `count` gave up. No section was done.
-#[derive(Clone, Copy, Debug, PartialEq, Eq, Error)]
-pub enum CountFault {
-    /// Memory was refused.
-    #[error("NoMemory(1)")]
-    NoMemory,
-    /// A thread could not be started.
-    #[error("NoThread(5)")]
-    NoThread,
 }

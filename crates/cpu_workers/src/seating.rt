@@ -10,7 +10,8 @@ ghost use Rattle.cpu_workers.specs.{Reports.Both, Seating.HasLeft, Seating.IsApa
 ghost use Rattle.cpu_workers.specs.{Seating.tower_acts};
 
 use crate::gates::Gate;
-use crate::starting::{Came, WorkerError, work_all};
+use crate::refusals::WorkerError;
+use crate::starting::{Came, work_all};
 use crate::turns::Did;
 use crate::worker::Worker;
 use boot::Boot;

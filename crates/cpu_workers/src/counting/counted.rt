@@ -5,17 +5,15 @@ ghost use Rattle.std.specs.Prelude.{◌≡◌, ◌*◌, ◌%◌, ◌^◌, ◌<�
 ghost use Rattle.event_log.specs.{declared.ids.CpuId.CpuId, declared.ids.TheConstants.CPUS, Actions.gives, Actions.phase, Actions.Rests};
 ghost use Rattle.table_machine.specs.SeatViews.{new_seat_views};
 ghost use Rattle.cpu_workers.specs.{Counts.AllHaveMade, Counts.IsNumberOfFrees, Counts.counting};
-ghost use Rattle.boot.specs.declared.locks.LockKind.TheVariants as kind;
 
 use crate::counting::{AddOne, NUMBER};
 use crate::plan_words::PlanWords;
 use boot::LockKind;
 use layer_traits::OwnedLocks;
-use spinlock::{FairLock, SpinLock, UsesGrants, UsesTickets};
 use table_machine::{Key, Shared};
 
-/// A layer of critical sections whose lock's kind is known by its type.
-pub trait LockOfKind {
+/// A name of the lock whose layer of critical sections `L` is: it tells the lock's kind.
+pub trait LockOfKind<L> {
     ghost use Rattle.boot.specs.declared.locks.LockKind.{LockKind};
 
     /// The lock's kind, as a plan names it.
@@ -24,22 +22,6 @@ pub trait LockOfKind {
     /// The lock's kind.
     fn kind() -> LockKind
         ensures { result ≡ lock_kind };
-}
-
-impl<M: FairLock<UsesTickets>> LockOfKind for SpinLock<M, UsesTickets> {
-    ghost lock_kind = { kind.Ticket };
-
-    fn kind() -> LockKind {
-        LockKind::Ticket
-    }
-}
-
-impl<M: FairLock<UsesGrants>> LockOfKind for SpinLock<M, UsesGrants> {
-    ghost lock_kind = { kind.Grant };
-
-    fn kind() -> LockKind {
-        LockKind::Grant
-    }
 }
 
 /// A number that was counted behind locks of this kind: how often a lock was given on. [`number_in`]
@@ -70,17 +52,17 @@ impl Counted {
 ///
 /// Requires: each poll of the lock is one action. The holder of the machine acts for some CPU. The
 /// machine was opened with the number 0. No CPU waits at a lock or holds one.
-pub fn number_in<L: OwnedLocks<AddOne> + LockOfKind>(machine: &L::Machine) -> Counted
+pub fn number_in<L: OwnedLocks<AddOne>, V: LockOfKind<L>>(machine: &L::Machine) -> Counted
     requires stepwise { L.IsStepwise }
     requires owned { (c : CpuId) × L.ActsFor machine.now c }
     requires opening { L.opening machine.now NUMBER ≡ Some 0 }
     requires rests { (c : CpuId) → phase c (L.acts machine.now) ≡ Rests }
     ensures number { result.number ≡ gives NUMBER (L.acts machine.now) % 2 ^ 64 }
-    ensures lock { result.lock ≡ L.lock_kind }
+    ensures lock { result.lock ≡ V.lock_kind }
 {
     Counted {
         number: *L::block_in(machine, NUMBER).unwrap(),
-        lock: L::kind(),
+        lock: V::kind(),
     }
 }
 

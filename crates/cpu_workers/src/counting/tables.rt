@@ -3,16 +3,16 @@
 
 ghost use Rattle.std.specs.Prelude.{◌≡◌, ◌*◌, ◌<◌, ◌≤◌, ◌^◌, [], ◌∷◌, IsErr, IfOk, IfErr, OnErr};
 ghost use Rattle.table_machine.specs.SeatViews.{new_seat_views};
-ghost use Rattle.cpu_workers.specs.{declared.counting.CountFault.TheVariants.NoMemory as LacksMemory};
+ghost use Rattle.cpu_workers.specs.declared.refusals.WorkerError.TheVariants.{NoMemory as LacksMemory};
 
 use crate::counting::counted::{Counted, number_left};
-use crate::counting::threads::{Refused, work_all};
+use crate::counting::tasks::count_all;
 use crate::counting::{AddOne, CountFault, NUMBER};
 use crate::plan_words::PlanWords;
+use crate::pool::Refused;
 use boot::LockKind;
 use event_log::{CPUS, NoMemory};
 use std::alloc::Global;
-use std::marker::Brand;
 use std::sync::Wait;
 use std::thread::Threads;
 use table_machine::{Key, Shared, TableWords, TicketWords, WaiterWords};
@@ -66,11 +66,10 @@ fn count_if_open<K: PlanWords + Sync, R: Threads + Wait + Sync>(
             left: 0,
         });
     };
-    match work_all::<Brand, K, R>(rt, alloc, &shared, keys, times) {
+    match count_all(rt, alloc, &shared, keys, times) {
         Ok(keys) => Ok(number_left(shared, keys, times)),
-        Err(refused) => {
-            let Refused { fault, keys } = refused;
-            let left = number_left(shared, keys, 0).number();
+        Err(Refused { fault, back }) => {
+            let left = number_left(shared, back, 0).number();
             Err(NotCounted { fault, left })
         }
     }
