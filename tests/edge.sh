@@ -407,8 +407,8 @@ fi
 # The prover lets a function wait that is given the trait for it. Workers and the program are, and none of the crates beneath: no layer waits.
 source_row 'who names Wait, Mutex or Condvar' $'cpu_workers\nmctower' "$(waiting)"
 source_row 'what each error says of itself' "$named" "$(errors)"
-# What starts threads and joins them stands in the crate of the workers.
-source_row 'who stands on crossbeam_utils' cpu_workers "$(sed -n 's/^\([a-z_]*\):.*\<crossbeam_utils\>.*/\1/p' crates.txt)"
+# A start is told as refused (`NoThread`) only where one was: its refusal is named in the pool of threads, and where it becomes that evidence.
+source_row 'who names a refused start' $'crates/cpu_workers/src/pool.rt\ncrates/cpu_workers/src/refusals.rt' "$(grep -rlw --include='*.rt' SpawnError crates/*/src | sort)"
 
 echo "edge: $passed passed, $failed failed"
 [ "$failed" = 0 ]
