@@ -45,16 +45,6 @@ both_then P Q S step (x ∷ xs) [] zs p q = absurd p
 both_then P Q S step (x ∷ xs) (y ∷ ys) [] p q = absurd q
 both_then P Q S step (x ∷ xs) (y ∷ ys) (z ∷ zs) p q = (step x y z p.0 q.0, both_then P Q S step xs ys zs p.1 q.1)
 
--- what holds of each of a list, and goes over to what belongs to it, holds of each of those
-pub both_all : {A B : Type 0} (Fits : A → B → Type 0) (P : A → Type 0) (Q : B → Type 0) → ((a : A) (b : B) → Fits a b → P a → Q b) → (xs : List A) (ys : List B)
-    → Both Fits xs ys → All P xs → All Q ys
-both_all Fits P Q over [] [] fits all k d below = absurd (omega arith)
-both_all Fits P Q over [] (y ∷ ys) fits all = absurd fits
-both_all Fits P Q over (x ∷ xs) [] fits all = absurd fits
-both_all Fits P Q over (x ∷ xs) (y ∷ ys) fits all zero d below = over x y fits.0 (all 0 x (omega arith))
-both_all Fits P Q over (x ∷ xs) (y ∷ ys) fits all (suc k) d below =
-    both_all Fits P Q over xs ys fits.1 (all_tail P (x ∷ xs) xs x refl all) k d (omega arith)
-
 -- a list is that of what belongs to each of it
 pub both_map : {A B : Type 0} (Fits : A → B → Type 0) (f : B → A) → ((a : A) (b : B) → Fits a b → f b ≡ a) → (xs : List A) (ys : List B) → Both Fits xs ys
     → map f ys ≡ xs
@@ -74,6 +64,19 @@ room_for ys xs rest all zs x n cap whole is room same count =
 module _ {A : Type 0} where
   pub all_head : (P : A → Type 0) (xs rest : List A) (x : A) → xs ≡ x ∷ rest → All P xs → P x
   all_head P xs rest x is all = let whole : All P (x ∷ rest) = subst (λ (l : List A). All P l) is all in whole 0 x (omega arith)
+
+  all_more : (P : A → Type 0) (x : A) (xs : List A) → P x → All P xs → All P (x ∷ xs)
+  all_more P x xs one all zero d below = one
+  all_more P x xs one all (suc k) d below = all k d (omega arith)
+
+-- what holds of each of a list, and goes over to what belongs to it, holds of each of those
+pub both_all : {A B : Type 0} (Fits : A → B → Type 0) (P : A → Type 0) (Q : B → Type 0) → ((a : A) (b : B) → Fits a b → P a → Q b) → (xs : List A) (ys : List B)
+    → Both Fits xs ys → All P xs → All Q ys
+both_all Fits P Q over [] [] fits all = λ k d below. absurd (omega arith)
+both_all Fits P Q over [] (y ∷ ys) fits all = absurd fits
+both_all Fits P Q over (x ∷ xs) [] fits all = absurd fits
+both_all Fits P Q over (x ∷ xs) (y ∷ ys) fits all = all_more Q y ys (over x y fits.0 (all_head P (x ∷ xs) xs x refl all))
+    (both_all Fits P Q over xs ys fits.1 (all_tail P (x ∷ xs) xs x refl all))
 
 -- what is kept of a task that came back
 pub came_back : {D T : Type 0} (HasDone : D → Type 0) (came : Result D T) (task same : T) → MatchResult came HasDone (λ t. t ≡ same) → came ≡ Err task → task ≡ same

@@ -9,8 +9,8 @@ count_all-requires-clause-fresh g c κs within =
     let keys : c.in-Ok.keys.items ≡ new_seat_views {E = AddOne} c.in-Ok.shared c.in-Ok.shared.cpus = first_of (cc, search rules) in
     subst (λ l. All (IsFresh c.in-Ok.shared) l) (sym keys) (new_fresh c.in-Ok.shared c.in-Ok.shared.cpus)
 
-pub number_left-left-requires-clause-came : goal.number_left-left-requires-clause-came
-number_left-left-requires-clause-came g c =
+pub number_left-requires-in-Err-clause-came : goal.number_left-requires-in-Err-clause-came
+number_left-requires-in-Err-clause-came g c =
     let keys : c.in-Ok.keys.items ≡ new_seat_views {E = AddOne} c.in-Ok.shared c.in-Ok.shared.cpus = first_of (cc, search rules) in
     subst (λ l. AllHaveMade NUMBER (new_seat_views {E = AddOne} c.in-Ok.shared c.in-Ok.shared.cpus) l 0) (sym (c.in-Err.ensures.refused ∙ keys))
     (new_have_made_none AddOne NUMBER c.in-Ok.shared c.in-Ok.shared.cpus)

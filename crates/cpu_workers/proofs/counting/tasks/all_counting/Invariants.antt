@@ -5,6 +5,6 @@ use Rattle.cpu_workers.proofs.counting.tasks.all_counting.Given as goal
 abbrev pub invariant-loop-key : goal.invariant-loop-key
 invariant-loop-key g l = record {
   all : l.yielded ++ l.key-iterator.rest.items ≡ l.fn.keys.items;
-  tasks : Both (λ k t. (t.key ≡ k) × (t.shared.now ≡ l.fn.shared.now) × (t.times ≡ l.fn.times)) l.yielded l.tasks.items;
+  tasks : Both (λ k t. (t.key ≡ k) × (t.shared.now ≡ l.fn.shared) × (t.times ≡ l.fn.times)) l.yielded l.tasks.items;
   room : length l.fn.keys.items ≤ vec_capacity l.tasks;
 }
