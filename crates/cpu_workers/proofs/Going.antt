@@ -1,12 +1,13 @@
 -- How a call of native code goes on, poll by poll.
-use Rattle.std.proofs.Common.{◌≡◌, List, [], ◌∷◌, ◌++◌, Option, Some, None, option_map, option_to_list, is_some, true, false, refl, ap, sym, ◌∙◌, subst, inl}
+use Rattle.std.proofs.Common.{◌≡◌, List, [], ◌∷◌, ◌++◌, Option, Some, None, option_map, option_to_list, is_some, true, false, refl, ◌≢◌, if◌then◌else◌, ap, sym, ◌∙◌, subst, inl}
 use Rattle.std.proofs.Common.{inr, ◌⊎◌, append_assoc}
 use Rattle.event_log.specs.declared.{entries.Entry.Entry, ids.CpuId.CpuId, ids.Tid.Tid}
 use Rattle.event_log.proofs.Same.{same_cpu_self}
 use Rattle.layer_traits.specs.{declared.calls.Call.Call, declared.calls.Effect.Effect, declared.calls.Reply.Reply, declared.call_states.CallState.CallState}
 use Rattle.layer_traits.specs.{declared.call_states.Stage.Stage, BufferLaw.Answered, BufferLaw.Called, BufferLaw.IsEffectOf, BufferLaw.OthersSeen}
 use Rattle.layer_traits.specs.{BufferLaw.RunsOn, BufferLaw.buffer_of, BufferLaw.call_state_of, BufferLaw.entry_of, BufferLaw.Calling, BufferLaw.begun}
-use Rattle.layer_traits.specs.{BufferLaw.begun_at, BufferLaw.going, BufferLaw.going_at, BufferLaw.still_calling, Places.Threads}
+use Rattle.layer_traits.specs.{BufferLaw.begun_at, BufferLaw.going, BufferLaw.going_at, BufferLaw.still_calling, Places.Threads, Passes.pass_after, declared.passes.Pass.Pass}
+use Rattle.layer_traits.specs.declared.passes.Pass.TheVariants.{Switch, YieldNow, Drain, MakeReady, End}
 use Rattle.layer_traits.specs.declared.call_states.Stage.TheVariants.{Idle, Acquires, Enters, Tries, Waits, AcquiresAgain, Signals, SignalsOwn, Releases}
 use Rattle.cpu.specs.{Cpus.of_cpu, Guests.entries_of}
 use Rattle.cpu.proofs.GuestLists.{cpu_same}
@@ -160,3 +161,26 @@ done_rests t (Some u) answer reply some = rw some refl
 pub sleeps : (t : Tid) (current : Option Tid) (answer : Option Reply) → answer ≡ None → is_some current ≡ false → still_calling t current answer ≡ None
 sleeps t None answer none nobody = rw none refl
 sleeps t (Some u) answer none nobody = absurd (cc nobody)
+
+-- a pass that ends no thread leaves who has ended
+keeps_ended : (pass : Pass) (queue : List Tid) (own : Threads) → pass ≢ End → (pass_after pass queue own).ended ≡ own.ended
+keeps_ended Switch queue own not = refl
+keeps_ended YieldNow queue own not = refl
+keeps_ended Drain queue own not = refl
+keeps_ended (MakeReady t) queue own not = refl
+keeps_ended End queue own not = absurd (not refl)
+
+-- and so does one poll of it
+pub ended_on : {A : Type 0} (pass : Pass) (queue : List Tid) (own left : Threads) (answer : Option A) → pass ≢ End
+    → left ≡ (if is_some answer then pass_after pass queue own else own) → left.ended ≡ own.ended
+ended_on pass queue own left None not is = ap (λ (o : Threads). o.ended) is
+ended_on pass queue own left (Some a) not is = ap (λ (o : Threads). o.ended) is ∙ keeps_ended pass queue own not
+
+-- the thread whose call answers runs on
+pub answers_run : (t : Tid) (own left : Threads) (answer : Option Reply) (reply : Reply) → answer ≡ Some reply → RunsOn t own left answer
+    → left.current ≡ Some t
+answers_run t own left answer reply is ran = go ran.current
+  where
+    go : (left.current ≡ Some t) ⊎ ((left.current ≡ None) × (answer ≡ None)) → left.current ≡ Some t
+    go (inl runs) = runs
+    go (inr (none, silent)) = absurd (cc (is, silent))

@@ -97,6 +97,7 @@ module _ {N : Type 0} (Kept : N → N → CallerView → Type 0) (caps : List �
       let all = calls_ordered setup table_view starts keys blocks closes calls (length-map callers.list (λ v. v.calls) ∙ callers.count) come in
       record {
         callers = callers.list;
+        nobody_else = callers.count;
         each = λ k native at.
             let one = callers.each k native at in
             let stands = one.2 in (

@@ -11,7 +11,7 @@ use Rattle.cpu.proofs.Tower.Polls.{halts_exactly}
 use Rattle.cpu_workers.specs.{declared.gates.Go.Go, declared.gates.Go.TheVariants.Limit, declared.gates.Go.TheVariants.Pass, Working.IsPlanned, Working.IsSame}
 use Rattle.cpu_workers.specs.{Working.MayStep, Working.Charge, Working.Turned, Working.Working, Working.is_inside, Working.log, Reports.Counts, Reports.HasRun}
 use Rattle.cpu_workers.specs.{Reports.IsTrueStop, Reports.MayHold, Reports.Took, Reports.TookWithin, Reports.Within, Reports.another, Reports.below}
-use Rattle.cpu_workers.specs.{Reports.counted_on, Reports.most, Reports.MayTake, Reports.none_taken, Reports.one_taken}
+use Rattle.cpu_workers.specs.{Reports.counted_on, Reports.most, Reports.MayTake, Reports.none_taken, Reports.one_taken, Reports.PassedAtEach, Reports.AskedAtEach}
 use Rattle.cpu_workers.specs.declared.stops.Stop.{Stop, TheVariants.AllEnded, TheVariants.TurnsUsed, TheVariants.TraceFull, TheVariants.Held}
 
 module _ {P N : Type 0} (table : P → List (Action N) → Outcome P N) (cpu : CpuId) (first : P) where
@@ -261,6 +261,32 @@ passed_on May taken passed k before = passed k (go (taken == most) before)
     go true before = omega (arith, before)
     go false before = omega (arith, before)
 
+-- who was never held has been let pass at each turn
+pub used_so : (May : ℕ → Type 0) (taken : ℕ) (old new : Bool) → HasPassed May old taken → (old ≡ true → new ≡ true) → new ≡ false → PassedAtEach May taken
+used_so May taken true new passed kept free = let held = kept refl in absurd (cc (held, free))
+used_so May taken false new passed kept free = passed refl
+
+-- the turn just taken was asked for too
+pub asked_on : (May : Go → ℕ → Type 0) (taken : ℕ) (new : Bool) → AskedAtEach May taken → (new ≡ false → May Pass taken)
+    → (new ≡ true → MayHold (May Limit) taken) → AskedAtEach May (counted_on taken)
+asked_on May taken new asked free held k before = go (nat_lt k taken) refl
+  where
+    short : (b : Bool) → k < (if b then taken else taken + 1) → k ≤ taken
+    short true less = omega (arith, less)
+    short false less = omega (arith, less)
+
+    now : (b : Bool) → new ≡ b → May Pass taken ⊎ MayHold (May Limit) taken
+    now true is = inr (held is)
+    now false is = inl (free is)
+
+    go : (b : Bool) → nat_lt k taken ≡ b → May Pass k ⊎ MayHold (May Limit) k
+    go true is = asked k (ltb-true k taken is)
+    go false is =
+        let past = ltb-false k taken is in
+        let least = short (taken == most) before in
+        let now_is : taken ≡ k = omega (arith, past, least) in
+        subst (λ (n : ℕ). May Pass n ⊎ MayHold (May Limit) n) now_is (now new refl)
+
 -- a turn outside a section is one that the worker may take
 pub may_take_so : (May : ℕ → Type 0) (turns : ℕ) (now : Working) (taken : ℕ) (held : Bool) → turns ≤ most
     → (held ≡ false → (k : ℕ) → k ≤ taken → May k) → (is_inside now ≡ true) ⊎ ((held ≡ false) × (taken < turns))
@@ -278,8 +304,9 @@ held_inside turns now taken held is (inr may) = let free = may.0 in absurd (cc (
 pub has_run : (May : CpuId → Go → ℕ → Type 0) (turns : ℕ) (start now : Working) (taken : ℕ) (stop : Stop) (held : Bool)
     → Ran (MayTake turns (May start.cpu Pass)) start now taken → is_inside now ≡ false → (held ≡ true → Holds (May start.cpu Limit) start now taken)
     → ((setup : Setup) → IsPlanned setup now.plan → IsTrueStop (halted_at setup now.cpu now.private) (λ turn. held ≡ true) turns taken stop)
+    → AskedAtEach (May start.cpu) taken → (stop ≡ TurnsUsed → PassedAtEach (May start.cpu Pass) taken)
     → HasRun May turns start now taken stop
-has_run May turns start now taken stop held ran rests holds stops = record {
+has_run May turns start now taken stop held ran rests holds stops asked used = record {
   same = ran.same;
   rests = rests;
   went = λ setup of. record {
@@ -290,6 +317,8 @@ has_run May turns start now taken stop held ran rests holds stops = record {
         let holding = holds was.1.2 in
         let bound = holding.within setup of in
         record { turn = holding.turn; before = holding.before; may = holding.may; count = bound.0; counted = bound.1; within = bound.2 };
+    asked = asked;
+    used = used;
     stop_is = true_stop (halted_at setup start.cpu now.private) (λ turn. held ≡ true) (May start.cpu Limit) turns taken stop
         (λ was. let holding = holds was.2 in (holding.turn, holding.before, holding.may)) (true_at setup of);
   };

@@ -1,9 +1,10 @@
 -- Message calls of native code: what a CPU polls for one thread's call, and how far the call has come.
-use Rattle.std.specs.Prelude.{◌≡◌, List, ◌++◌, [], ◌∷◌, Option, Some, None}
+use Rattle.std.specs.Prelude.{◌≡◌, ◌≢◌, List, ◌++◌, [], ◌∷◌, Option, Some, None}
 use Rattle.event_log.specs.declared.{entries.Entry.Entry, ids.CpuId.CpuId, ids.Tid.Tid}
 use Rattle.layer_traits.specs.{declared.calls.Call.Call, declared.calls.Effect.Effect, declared.calls.Reply.Reply, declared.call_states.CallState.CallState}
 use Rattle.layer_traits.specs.{BufferLaw.Calling, BufferLaw.IsEffectOf, BufferLaw.MayPollCall, BufferLaw.Passing, BufferLaw.UnderWay, BufferLaw.buffer_of}
 use Rattle.layer_traits.specs.{BufferLaw.call_state_of, BufferLaw.entry_of, BufferLaw.going, BufferLaw.reply_of, Passes.MayPass, Places.Threads}
+use Rattle.layer_traits.specs.declared.passes.Pass.TheVariants.{End}
 use Rattle.cpu.specs.{Cpus.of_cpu, Guests.entries_of}
 use Rattle.cpu_workers.specs.declared.calling.Begun.{Begun, TheVariants.Calls, TheVariants.Passes}
 
@@ -13,10 +14,10 @@ under_way_of t None = None
 under_way_of t (Some Calls) = Some (Calling t)
 under_way_of t (Some (Passes pass)) = Some (Passing pass)
 
--- the CPU with these threads may begin this: the call where its thread runs, a pass where it may come
+-- the CPU with these threads may begin this: the call where its thread runs, a pass where it may come, unless it would end the thread that runs
 abbrev pub MayBegin : Tid → Threads → Begun → Type 0
 MayBegin t own Calls = own.current ≡ Some t
-MayBegin t own (Passes pass) = MayPass pass own
+MayBegin t own (Passes pass) = MayPass pass own × (pass ≢ End)
 
 -- the same of a CPU that has begun this, or nothing
 abbrev pub MayPoll : Tid → Threads → Option Begun → Type 0

@@ -7,6 +7,7 @@ pub mod Laws
 pub mod Lawful
 pub mod Closing
 pub mod Seating
+pub mod Logs
 pub mod Counts
 pub mod Calls
 pub mod Callers

@@ -64,10 +64,11 @@ pub record HasRunNative {N : Type 0} (Kept : N → N → CallerView → Type 0) 
   pub kept : Kept native after caller
 
 -- natives have run, each at the CPU and as the thread of its number, and have left this in the buffers: each has kept what it promises of itself and of
--- its calls; the calls of all have one order, which keeps each one's own, is a run of first-in first-out buffers and ends in what is left. So what was
--- put into a buffer is what was taken from it, in that order, and then what is left there
+-- its calls, and nobody else made a call; the calls of all have one order, which keeps each one's own, is a run of first-in first-out buffers and ends
+-- in what is left. So what was put into a buffer is what was taken from it, in that order, and then what is left there
 pub record HaveRun {N : Type 0} (Kept : N → N → CallerView → Type 0) (caps : List ℕ) (natives after : List N) (left : List (List Message)) : Type 0 where
   pub callers : List CallerView
+  pub nobody_else : length callers ≡ length natives
   pub each : (k : ℕ) (native : N) → slice_get natives k ≡ Some native → (last : N) × (caller : CallerView) × (slice_get after k ≡ Some last)
       × (slice_get callers k ≡ Some caller) × HasRunNative Kept caps k native last caller
   pub count : length after ≡ length natives

@@ -66,6 +66,15 @@ pub record WasHeld {P N : Type 0} (table : P → List (Action N) → Outcome P N
 abbrev pub MayHold : (ℕ → Type 0) → ℕ → Type 0
 MayHold May taken = (turn : ℕ) × (turn ≤ taken) × May turn
 
+-- the gate was asked before each of so many turns, until it answered `Limit`: at each it may have let the CPU pass, or have answered `Limit` there
+-- or earlier
+abbrev pub AskedAtEach : (Go → ℕ → Type 0) → ℕ → Type 0
+AskedAtEach May taken = (k : ℕ) → k < taken → May Pass k ⊎ MayHold (May Limit) k
+
+-- before each of so many turns the gate may have let the CPU pass
+abbrev pub PassedAtEach : (ℕ → Type 0) → ℕ → Type 0
+PassedAtEach MayPass taken = (k : ℕ) → k < taken → MayPass k
+
 -- a stop is true: it says why the CPU takes no step, or the CPU could take one
 abbrev pub IsTrueStop : Option Reason → (ℕ → Type 0) → (turns taken : ℕ) → Stop → Type 0
 IsTrueStop halted May turns taken AllEnded = halted ≡ Some reason.AllEnded
@@ -79,11 +88,14 @@ abbrev pub MayTake : ℕ → (ℕ → Type 0) → ℕ → Type 0
 MayTake turns MayPass count = below turns count × WasAsked MayPass count
 
 -- a worker has run by the step table: between two sections it took a turn only below so many and where the gate, which was asked at each turn
--- so far with the number of turns taken, may have let it pass each time; and if it was held, it took none after a `Limit` but to end its section
+-- so far with the number of turns taken, may have let it pass each time; if it was held, it took none after a `Limit` but to end its section; the
+-- gate was asked before each turn, also inside a section, until it answered `Limit`; and where all turns are used, it let the worker pass at each
 pub record WentBy (setup : Setup) (May : Go → ℕ → Type 0) (turns : ℕ) (old new : Working) (taken : ℕ) (stop : Stop) : Type 0 where
   pub took : Took (cpu_step setup old.cpu) old.cpu old.private new.private (log new) taken
   pub within : TookWithin (cpu_step setup old.cpu) old.cpu (MayTake turns (May Pass)) old.private new.private (log new) taken
   pub held : stop ≡ Held → WasHeld (cpu_step setup old.cpu) old.cpu (May Limit) old.private new.private (log new) taken
+  pub asked : AskedAtEach May taken
+  pub used : stop ≡ TurnsUsed → PassedAtEach (May Pass) taken
   pub stop_is : IsTrueStop (halted_at setup old.cpu new.private) (May Limit) turns taken stop
 
 -- a worker has run: it is the same one, none of its sections is under way, and each table of its plan tells its steps and its stop

@@ -1,9 +1,10 @@
 //! One message call of a native thread, polled until it answers. It takes no memory, and waits for
 //! other CPUs.
 
-ghost use Rattle.std.specs.Prelude.{◌≡◌, ◌<◌, None, Some, IfOk, IfErr, length};
+ghost use Rattle.std.specs.Prelude.{◌≡◌, ◌≢◌, ◌<◌, None, Some, IfOk, IfErr, length};
 ghost use Rattle.layer_traits.specs.{declared.call_states.Stage.TheVariants.Idle, BufferLaw.Calling, BufferLaw.MayGoOn, BufferLaw.MayPollCall};
 ghost use Rattle.layer_traits.specs.{BufferLaw.Passing, BufferLaw.buffer_of, BufferLaw.call_state_of, Passes.MayPass};
+ghost use Rattle.layer_traits.specs.declared.passes.Pass.TheVariants.{End};
 ghost use Rattle.cpu_workers.specs.{declared.calling.Begun.TheVariants.Calls, Calls.Ends, Calls.KeepsOn, Calls.MayBegin, Calls.MayPoll, Calls.Returned};
 ghost use Rattle.cpu_workers.specs.{Calls.under_way_of};
 
@@ -26,6 +27,7 @@ pub(crate) enum Begun {
 fn choose<I: CallLayer<IpcLaw>>(part: &I, t: Tid) -> Begun
     ensures may { MayBegin t (I.threads part.now) result }
     ensures hand { result ≡ Calls → (I.threads part.now).hand ≡ None }
+    ensures calls { (I.threads part.now).hand ≡ None → (I.threads part.now).current ≡ Some t → result ≡ Calls }
 {
     if let Some(woken) = part.hand() {
         return Begun::Passes(Pass::MakeReady(woken));
@@ -49,6 +51,7 @@ fn poll_pass<I: CallLayer<IpcLaw>>(
     requires fits { I.Fits part.old m.old }
     requires room { 0 < I.room m.old }
     requires may { MayPass pass (I.threads part.old) }
+    requires keeps { pass ≢ End }
     requires goes_on { MayGoOn (I.under_way part.old) (Passing pass) }
     ensures fits { I.Fits part.new m.new }
     ensures cpu { I.cpu_of part.new ≡ I.cpu_of part.old }
@@ -57,6 +60,7 @@ fn poll_pass<I: CallLayer<IpcLaw>>(
     ensures site { I.site m.new ≡ I.site m.old }
     ensures under_way { I.under_way part.new ≡ under_way_of t result }
     ensures may { MayPoll t (I.threads part.new) result }
+    ensures ended { (I.threads part.new).ended ≡ (I.threads part.old).ended }
     ensures on { KeepsOn (I.cpu_of part.old) t call.now (I.call_states part.old) (I.call_states part.new) (I.seen m.old) (I.seen m.new) }
 {
     let _ = t;
@@ -86,6 +90,8 @@ fn poll_call<I: CallLayer<IpcLaw>>(
     ensures caps { I.caps m.new ≡ I.caps m.old }
     ensures opening { I.opening m.new ≡ I.opening m.old }
     ensures site { I.site m.new ≡ I.site m.old }
+    ensures ended { (I.threads part.new).ended ≡ (I.threads part.old).ended }
+    ensures runs { IfOk result (λ reply. (I.threads part.new).current ≡ Some t) }
     ensures goes { IfErr result (λ begun. (I.under_way part.new ≡ under_way_of t begun) × MayPoll t (I.threads part.new) begun
         × KeepsOn (I.cpu_of part.old) t call.now (I.call_states part.old) (I.call_states part.new) (I.seen m.old) (I.seen m.new)) }
     ensures ends { IfOk result (λ reply. (I.under_way part.new ≡ None) × ((call_state_of (I.call_states part.new) t).stage ≡ Idle)
@@ -118,6 +124,8 @@ fn poll_once<I: CallLayer<IpcLaw>>(
     ensures caps { I.caps m.new ≡ I.caps m.old }
     ensures opening { I.opening m.new ≡ I.opening m.old }
     ensures site { I.site m.new ≡ I.site m.old }
+    ensures ended { (I.threads part.new).ended ≡ (I.threads part.old).ended }
+    ensures runs { IfOk result (λ reply. (I.threads part.new).current ≡ Some t) }
     ensures goes { IfErr result (λ begun. (I.under_way part.new ≡ under_way_of t begun) × MayPoll t (I.threads part.new) begun
         × KeepsOn (I.cpu_of part.old) t call.now (I.call_states part.old) (I.call_states part.new) (I.seen m.old) (I.seen m.new)) }
     ensures ends { IfOk result (λ reply. (I.under_way part.new ≡ None) × ((call_state_of (I.call_states part.new) t).stage ≡ Idle)
@@ -168,6 +176,8 @@ pub fn call<I: CallLayer<IpcLaw>, R: Wait>(
     ensures caps { I.caps m.new ≡ I.caps m.old }
     ensures opening { I.opening m.new ≡ I.opening m.old }
     ensures site { I.site m.new ≡ I.site m.old }
+    ensures ended { (I.threads part.new).ended ≡ (I.threads part.old).ended }
+    ensures runs { (I.threads part.new).current ≡ Some t }
     ensures returned { Returned (I.cpu_of part.old) t call.now result (I.seen m.old) (I.seen m.new) }
 {
     let mut begun: Option<Begun> = None;

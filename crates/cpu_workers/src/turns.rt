@@ -72,20 +72,39 @@ fn ending(halted: Option<Reason>, held: bool, taken: u64, turns: u64) -> Option<
     }
 }
 
-// Asks the gate, unless it has answered `Limit` before: whether it has now.
+// Asks the gate, and notes whether it holds the worker now. It alone asks, and only where the gate has
+// not answered `Limit` yet.
 fn ask<I: CallLayer<IpcLaw> + Drop, G: Gate>(
     gate: &G,
     worker: &Worker<I>,
     taken: u64,
-    held: bool,
-) -> bool
+    held: &mut bool,
+)
 where
     I::Machine: Drop,
-    ensures limits { result ≡ true → (held ≡ true) ⊎ G.MayAnswer gate.now worker.now.cpu Limit taken }
-    ensures passes { result ≡ false → G.MayAnswer gate.now worker.now.cpu Pass taken }
-    ensures kept { held ≡ true → result ≡ true }
+    requires free { held.old ≡ false }
+    ensures limits { held.new ≡ true → G.MayAnswer gate.now worker.now.cpu Limit taken }
+    ensures passes { held.new ≡ false → G.MayAnswer gate.now worker.now.cpu Pass taken }
 {
-    held || gate.pass(worker.number(), taken) == Go::Limit
+    *held = gate.pass(worker.number(), taken) == Go::Limit;
+}
+
+// Asks the gate, unless it has answered `Limit` before.
+fn ask_if_free<I: CallLayer<IpcLaw> + Drop, G: Gate>(
+    gate: &G,
+    worker: &Worker<I>,
+    taken: u64,
+    held: &mut bool,
+)
+where
+    I::Machine: Drop,
+    ensures limits { held.new ≡ true → (held.old ≡ true) ⊎ G.MayAnswer gate.now worker.now.cpu Limit taken }
+    ensures passes { held.new ≡ false → G.MayAnswer gate.now worker.now.cpu Pass taken }
+    ensures kept { held.old ≡ true → held.new ≡ true }
+{
+    if !*held {
+        ask(gate, worker, taken, held);
+    }
 }
 
 // What a worker does before a turn: whether it stops, and why. Inside a section it asks the gate alone,
@@ -112,14 +131,14 @@ where
     ensures used { result ≡ Some TurnsUsed → held.new ≡ false }
 {
     if worker.is_busy() {
-        *held = ask(gate, worker, taken, *held);
+        ask_if_free(gate, worker, taken, held);
         return None;
     }
     let stop = ending(worker.halted(), *held, taken, turns);
     if stop.is_some() {
         return stop;
     }
-    *held = ask(gate, worker, taken, *held);
+    ask(gate, worker, taken, held);
     if *held { Some(Stop::Held) } else { None }
 }
 
@@ -127,7 +146,8 @@ where
 /// looks whether a section is under way. Where none is, it stops if its CPU is halted, else if the
 /// gate has answered `Limit`, else if `turns` turns are taken; and else it asks the gate, whose
 /// `Limit` stops it without that turn. Inside a section it asks the gate too, but goes on to the
-/// section's end. After a `Limit` it takes no turn but to end the section.
+/// section's end. After a `Limit` it asks no more, takes no turn but to end the section, and stops as
+/// `TurnsUsed` in no case.
 ///
 /// It may wait for other CPUs' sections and inside the gate, so it need not return.
 ///

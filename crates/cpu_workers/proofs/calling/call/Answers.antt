@@ -14,6 +14,7 @@ loop-init g c = record {
   site = refl;
   under_way = c.requires.under_way;
   may = tt;
+  ended = refl;
   on = not_begun _ c.args.t c.args.call.now _ _ c.requires.idle;
 }
 
@@ -32,6 +33,7 @@ loop-preserved g c =
       site = e.site ∙ known.site;
       under_way = goes.0;
       may = goes.1;
+      ended = e.ended ∙ known.ended;
       on = subst (λ (d : CpuId). IsOn d t c.args.call.now (call_state_of (I.call_states c.poll_once.new.part) t) first (I.seen c.poll_once.new.m)) known.cpu
           (goes.2 first (subst (λ (d : CpuId). IsOn d t c.args.call.now (call_state_of (I.call_states c.loop.part) t) first (I.seen c.loop.m)) (sym known.cpu)
           known.on));

@@ -12,6 +12,7 @@ invariant-loop g l = record {
   site : g.I.CallLayer.site l.m ≡ g.I.CallLayer.site l.initial.m;
   under_way : g.I.CallLayer.under_way l.part ≡ under_way_of l.t l.begun;
   may : MayPoll l.t (g.I.CallLayer.threads l.part) l.begun;
+  ended : (g.I.CallLayer.threads l.part).ended ≡ (g.I.CallLayer.threads l.initial.part).ended;
   on : IsOn (g.I.CallLayer.cpu_of l.initial.part) l.t l.call (call_state_of (g.I.CallLayer.call_states l.part) l.t) (g.I.CallLayer.seen l.initial.m)
       (g.I.CallLayer.seen l.m);
 }

@@ -1,5 +1,5 @@
 use Rattle.std.proofs.Common.{◌≡◌, is_some, true, false, rules, ◌∙◌}
-use Rattle.cpu_workers.proofs.Going.{calls_on, done_rests, ends, goes, idles, runs_on, sleeps}
+use Rattle.cpu_workers.proofs.Going.{answers_run, calls_on, done_rests, ends, goes, idles, runs_on, sleeps}
 use Rattle.cpu_workers.proofs.calling.poll_call.Goals as goal
 
 pub returns-in-Some-clause-ends : goal.returns-in-Some-clause-ends
@@ -38,3 +38,16 @@ returns-in-None-2-clause-goes g c =
       goes (λ d. I.ActsFor c.args.m.now d) (I.cpu_of c.args.part.now) acts c.args.t c.args.call.now _ _ _ _ c.poll.result c.in-None-2.is
           (e.called c.requires.buffer),
     )
+
+pub returns-in-Some-clause-runs : goal.returns-in-Some-clause-runs
+returns-in-Some-clause-runs g c =
+    answers_run c.args.t _ _ c.poll.result c.in-Some.reply c.in-Some.is (c.poll.ensures.runs c.requires.buffer)
+
+pub returns-in-Some-clause-ended : goal.returns-in-Some-clause-ended
+returns-in-Some-clause-ended g c = (c.poll.ensures.runs c.requires.buffer).ended
+
+pub returns-in-None-clause-ended : goal.returns-in-None-clause-ended
+returns-in-None-clause-ended g c = (c.poll.ensures.runs c.requires.buffer).ended
+
+pub returns-in-None-2-clause-ended : goal.returns-in-None-2-clause-ended
+returns-in-None-2-clause-ended g c = (c.poll.ensures.runs c.requires.buffer).ended

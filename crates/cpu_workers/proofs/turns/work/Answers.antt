@@ -1,12 +1,13 @@
-use Rattle.std.proofs.Common.{rules, ◌≡◌, ◌≤◌, true, arith}
+use Rattle.std.proofs.Common.{rules, ◌≡◌, ◌≤◌, true, arith, ap, ◌∙◌, Some}
 use Rattle.cpu_workers.specs.{declared.gates.Go.TheVariants.Limit, declared.gates.Go.TheVariants.Pass, Reports.MayTake, Reports.most}
-use Rattle.cpu_workers.proofs.Turning.{has_run, held_inside, held_so, holds_one, may_take_so, passed_on, passed_so, ran_none, ran_one}
+use Rattle.cpu_workers.proofs.Turning.{asked_on, used_so, has_run, held_inside, held_so, holds_one, may_take_so, passed_on, passed_so, ran_none, ran_one}
 use Rattle.cpu_workers.proofs.turns.work.Goals as goal
 
 pub loop-init : goal.loop-init
 loop-init g c = record {
   ran = ran_none (MayTake c.args.turns (g.G.Gate.MayAnswer c.args.gate.now c.args.worker.now.cpu Pass)) c.args.worker.now c.requires;
   held = λ is. absurd (cc is);
+  asked = λ k before. absurd (omega (arith, before));
   passed = λ is k before. absurd (omega (arith, before));
 }
 
@@ -21,6 +22,8 @@ returns-in-Some-before g c =
     (λ is. held_so (MayTake turns (May start.cpu Pass)) May start c.loop.worker c.loop.taken (c.loop.held ≡ true) c.loop.invariant.ran
     c.loop.invariant.held (before.held is))
     (before.stops c.in-Some-before.stop c.in-Some-before.is)
+    c.loop.invariant.asked
+    (λ is. used_so (May start.cpu Pass) c.loop.taken c.loop.held _ c.loop.invariant.passed before.kept (before.used (c.in-Some-before.is ∙ ap Some is)))
 
 pub loop-preserved : goal.loop-preserved
 loop-preserved g c =
@@ -40,5 +43,8 @@ loop-preserved g c =
           (held_so (MayTake turns (May start.cpu Pass)) May start c.loop.worker c.loop.taken (c.loop.held ≡ true) ran c.loop.invariant.held
           (before.held is))
           c.step.ensures.turned goes (held_inside turns c.loop.worker c.loop.taken _ is may_take);
+      asked = asked_on (May start.cpu) c.loop.taken _ c.loop.invariant.asked (λ is. passed is c.loop.taken (omega arith))
+          (λ is. let holding = held_so (MayTake turns (May start.cpu Pass)) May start c.loop.worker c.loop.taken (c.loop.held ≡ true) ran
+          c.loop.invariant.held (before.held is) in (holding.turn, holding.before, holding.may));
       passed = λ is. passed_on (May start.cpu Pass) c.loop.taken (passed is);
     })
