@@ -387,6 +387,15 @@ waiting() {
     find "crates/$crate/src" -name '*.rt' ! -name '*tests.rt' -exec cat {} + | sed -e 's|//.*||' -e 's/\<Wait(//g' | grep -wE 'Wait|Mutex|Condvar' > /dev/null && echo "$crate"
   done
 }
+# Each file of the folder $1 in which the refusal of an allocation is made up, once for each time: `AllocError` or `AllocFailed` stands there as a value, or is
+# given another name. Comments, imports, types, patterns and the parameter of an `impl From` make nothing up.
+made_up() {
+  local file made='(AllocError|AllocFailed)'
+  find "$1" -path '*/src/*' -name '*.rt' ! -path '*/out/*' | sort | while read -r file; do
+    sed 's|//.*||' "$file" | sed -zE -e "s/\\<use [^;]*\\<$made as [^;]*;/\\1/g" -e 's/\<use [^;]*;//g' -e "s/([<,(]|->)\\s*$made(<[^;{}]*)?\\s*,?\\s*>/\\1>/g" \
+      -e 's/AllocFailed<//g' -e 's/fn from\(\w+: AllocError\)//g' -e 's/\<Err\(AllocError\) =>//g' | grep -owE "$made" | sed "s|.*|${file#"$1"/}|"
+  done
+}
 
 [ $# -gt 0 ] || set -- crates/mctower/out/mctower crates/mctower/out/mctower.by-rattle
 for program; do
@@ -409,6 +418,21 @@ source_row 'who names Wait, Mutex or Condvar' $'cpu_workers\nmctower' "$(waiting
 source_row 'what each error says of itself' "$named" "$(errors)"
 # A start is told as refused (`NoThread`) only where one was: its refusal is named in the pool of threads, and where it becomes that evidence.
 source_row 'who names a refused start' $'crates/cpu_workers/src/pool.rt\ncrates/cpu_workers/src/refusals.rt' "$(grep -rlw --include='*.rt' SpawnError crates/*/src | sort)"
+# Who says NoMemory was refused memory: the type is made from the allocator's refusal alone. Such a refusal is made up at two places, where a library of the kit
+# tells of it without a value: toml's parser by a flag, and the table of atomic words by a type of its own.
+source_row 'who makes up a refused allocation' $'boot/src/plans.rt\ntable_machine/src/open.rt' "$(made_up crates)"
+mkdir -p "$room/of/src"
+cat > "$room/of/src/right.rt" <<'END'
+use std::alloc::{AllocError, AllocFailed, Global};
+// Err(AllocError)
+impl From<AllocError> for E { fn from(error: AllocError) -> E { E::NoMemory(NoMemory::from(error)) } }
+impl<T: Drop> From<AllocFailed<T>> for E { fn from(error: AllocFailed<T>) -> E { E::NoMemory(NoMemory::from(error)) } }
+fn f(alloc: Global) -> Result<Vec<Key<E>>, AllocError> { match g(alloc)? { Err(AllocError) => h(alloc), Ok(made) => Ok(made) } }
+END
+wrong=('Err(NoMemory::from(AllocError))' 'return Err(AllocError)' '.map_err(|_| AllocError)?' 'let error = AllocError' 'Err(E::from(AllocError {}))' 'g(AllocError, 0)'
+  'Err(AllocFailed { value: 0 })' 'use std::alloc::{AllocError as Refused}' 'fn refused() -> AllocError { AllocError }' 'E { error: AllocError }')
+for at in "${!wrong[@]}"; do echo "${wrong[at]};" > "$room/of/src/wrong$at.rt"; done
+source_row 'who makes one up in lines that are right and lines that are wrong' "$(cd "$room/of" && ls src/wrong*)" "$(made_up "$room/of" | uniq)"
 
 echo "edge: $passed passed, $failed failed"
 [ "$failed" = 0 ]

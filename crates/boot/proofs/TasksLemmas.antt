@@ -31,7 +31,7 @@ module _ {X : Type 0} (table : X → Members) (cpus buffers : ℕ) (tables : Lis
 
   pub tasks_fault : (i : ℕ) (d : X) (front : List Task) (e : BootError) → TasksSoFar table cpus buffers tables i front → i < length tables
       → Fails e (task_at cpus buffers i (table (get_or tables i d))) → Fails e (read_from (task_at cpus buffers) 0 (map table tables))
-  tasks_fault i d front NoMemory so_far h fails = tt
+  tasks_fault i d front (NoMemory _) so_far h fails = tt
   tasks_fault i d front BadToml so_far h fails = one_fails i d front BadToml so_far h fails
   tasks_fault i d front (MissingKey key) so_far h fails = one_fails i d front (MissingKey key) so_far h fails
   tasks_fault i d front (OutOfRange key) so_far h fails = one_fails i d front (OutOfRange key) so_far h fails

@@ -78,7 +78,7 @@ tables_at d = wanted Threads (list_at as_table d) >>= λ tables. ranged Threads 
 abbrev pub of_thread : {A : Type 0} → ℕ → Result A GuestError → Result A BootError
 of_thread t (Ok x) = Ok x
 of_thread t (Err (At line fault)) = Err (Guest (record { 0 = t }) line fault)
-of_thread t (Err GuestNoMemory) = Err NoMemory
+of_thread t (Err (GuestNoMemory refused)) = Err (NoMemory refused)
 
 -- a thread's program, which names only buffers that the plan has
 unfoldable pub program_at : ℕ → ℕ → Option Data → Result (List Instruction) BootError
@@ -116,7 +116,7 @@ plan_of text = document_of (parse_document text) >>= plan_in
 
 -- what an error says of what is meant: that error, but nothing where memory was refused
 abbrev pub Fails : {Y : Type 0} → BootError → Result Y BootError → Type 0
-Fails NoMemory ghost_of = Unit {0}
+Fails (NoMemory _) ghost_of = Unit {0}
 Fails BadToml ghost_of = ghost_of ≡ Err BadToml
 Fails (MissingKey key) ghost_of = ghost_of ≡ Err (MissingKey key)
 Fails (OutOfRange key) ghost_of = ghost_of ≡ Err (OutOfRange key)

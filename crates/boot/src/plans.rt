@@ -1,5 +1,10 @@
 //! What a plan says, once it is read. Only `Boot::read` takes memory. No call waits.
 
+ghost use Rattle.std.specs.Prelude.{◌≡◌};
+ghost use Rattle.toml.specs.Errors.{IsMemory};
+ghost use Rattle.event_log.specs.Refusals.{no_memory};
+ghost use Rattle.boot.specs.declared.refusals.BootError.TheVariants as refused;
+
 use crate::locks::{LockKind, lock_at};
 use crate::numbers::{caps_at, number_at};
 use crate::refusals::{BootError, PlanKey};
@@ -7,9 +12,22 @@ use crate::tasks::{Task, tables_at, tasks_of};
 use arrayvec::ArrayVec;
 use event_log::{BUFFERS, CPUS, CpuId, TRACE, Tid};
 use guest::Program;
-use std::alloc::Global;
+use std::alloc::{AllocError, Global};
 use std::marker::Model;
-use toml::Table;
+use toml::{Table, de};
+
+/// What is refused of a text that gave no document: the parser tells a refused allocation by a
+/// flag, and this is the one place where such a flag is taken for the allocator's word.
+fn refusal_of(error: &de::Error) -> BootError
+    ensures memory { IsMemory error.now → result ≡ refused.NoMemory no_memory }
+    ensures text { ¬ IsMemory error.now → result ≡ refused.BadToml }
+{
+    if error.is_memory() {
+        BootError::from(AllocError)
+    } else {
+        BootError::BadToml
+    }
+}
 
 /// A plan that was read: it is within all limits.
 #[derive(Drop)]
@@ -52,13 +70,7 @@ impl Boot {
     {
         match toml::table_from_str(alloc, text) {
             Ok(document) => Boot::in_document(alloc, &document),
-            Err(error) => {
-                if error.is_memory() {
-                    Err(BootError::NoMemory)
-                } else {
-                    Err(BootError::BadToml)
-                }
-            }
+            Err(error) => Err(refusal_of(&error)),
         }
     }
 

@@ -1,9 +1,10 @@
 //! What is refused of a plan, and where.
 
 ghost use Rattle.std.specs.Prelude.{◌≡◌};
-ghost use Rattle.boot.specs.declared.refusals.BootError.TheVariants.{NoMemory};
+ghost use Rattle.event_log.specs.Refusals.{no_memory};
+ghost use Rattle.boot.specs.declared.refusals.BootError.TheVariants as error;
 
-use event_log::Tid;
+use event_log::{NoMemory, Tid};
 use guest::GuestFault;
 use std::alloc::{AllocError, AllocFailed};
 use std::fmt;
@@ -52,7 +53,7 @@ impl fmt::Display for PlanKey {
 pub enum BootError {
     /// An allocation was refused.
     #[error("NoMemory(1)")]
-    NoMemory,
+    NoMemory(NoMemory),
     /// The text is no TOML document.
     #[error("BadToml(20)")]
     BadToml,
@@ -76,17 +77,17 @@ pub enum BootError {
 }
 
 impl From<AllocError> for BootError {
-    ghost from_gives = { λ _ e. e ≡ NoMemory };
+    ghost from_gives = { λ _ e. e ≡ error.NoMemory no_memory };
 
-    fn from(_error: AllocError) -> BootError {
-        BootError::NoMemory
+    fn from(error: AllocError) -> BootError {
+        BootError::NoMemory(NoMemory::from(error))
     }
 }
 
 impl<T: Drop> From<AllocFailed<T>> for BootError {
-    ghost from_gives = { λ _ e. e ≡ NoMemory };
+    ghost from_gives = { λ _ e. e ≡ error.NoMemory no_memory };
 
-    fn from(_error: AllocFailed<T>) -> BootError {
-        BootError::NoMemory
+    fn from(error: AllocFailed<T>) -> BootError {
+        BootError::NoMemory(NoMemory::from(error))
     }
 }

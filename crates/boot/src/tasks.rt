@@ -41,7 +41,7 @@ fn program_at(
     };
     let program = match Program::read(alloc, &lines) {
         Ok(program) => program,
-        Err(GuestError::NoMemory) => return Err(BootError::NoMemory),
+        Err(GuestError::NoMemory(refused)) => return Err(BootError::NoMemory(refused)),
         Err(GuestError::At(line, fault)) => return Err(BootError::Guest {
             thread,
             line,

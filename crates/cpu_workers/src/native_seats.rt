@@ -52,9 +52,7 @@ where
     let mut machines = machines;
     let mut natives = natives;
     let count = machines.len();
-    let Ok(mut tasks) = Vec::with_capacity(alloc, count) else {
-        return Err(NoMemory);
-    };
+    let mut tasks = Vec::with_capacity(alloc, count)?;
     for number in 0..count {
         let machine = machines.remove(0);
         let native = natives.remove(0);

@@ -2,6 +2,7 @@
 //! memory or waits.
 
 ghost use Rattle.std.specs.Prelude.{◌≡◌};
+ghost use Rattle.event_log.specs.Refusals.{no_memory};
 ghost use Rattle.cpu_workers.specs.declared.refusals.WorkerError.TheVariants.{NoMemory as LacksMemory};
 
 use event_log::NoMemory;
@@ -27,25 +28,25 @@ impl NoThread {
 #[derive(Clone, Copy, Debug, PartialEq, Eq, Error)]
 pub enum WorkerError {
     /// Memory was refused.
-    #[error("NoMemory(1)")]
-    NoMemory,
+    #[error("{0}")]
+    NoMemory(NoMemory),
     /// A thread could not be started.
     #[error("{0}")]
     NoThread(NoThread),
 }
 
 impl From<NoMemory> for WorkerError {
-    ghost from_gives = { λ _ e. e ≡ LacksMemory };
+    ghost from_gives = { λ _ e. e ≡ LacksMemory no_memory };
 
-    fn from(_error: NoMemory) -> WorkerError {
-        WorkerError::NoMemory
+    fn from(error: NoMemory) -> WorkerError {
+        WorkerError::NoMemory(error)
     }
 }
 
 impl From<AllocError> for WorkerError {
-    ghost from_gives = { λ _ e. e ≡ LacksMemory };
+    ghost from_gives = { λ _ e. e ≡ LacksMemory no_memory };
 
-    fn from(_error: AllocError) -> WorkerError {
-        WorkerError::NoMemory
+    fn from(error: AllocError) -> WorkerError {
+        WorkerError::NoMemory(NoMemory::from(error))
     }
 }

@@ -1,3 +1,4 @@
+pub mod Refusals
 pub mod Log
 pub mod History
 pub mod Locks

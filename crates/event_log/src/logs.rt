@@ -26,10 +26,8 @@ impl<E> EventLog<E> {
         ensures room { IfOk result (λ log. room_of log ≡ n) }
         ensures nothing { n ≡ 0 → IsOk result }
     {
-        match Vec::with_capacity(alloc, n) {
-            Ok(events) => Ok(EventLog { events, room: n }),
-            Err(_) => Err(NoMemory),
-        }
+        let events = Vec::with_capacity(alloc, n)?;
+        Ok(EventLog { events, room: n })
     }
 
     /// Puts `event` at the end of the log. Takes no memory.

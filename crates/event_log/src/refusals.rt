@@ -1,11 +1,27 @@
 //! What this crate's calls refuse. Each refusal prints as its name and its number.
 
+use std::alloc::{AllocError, AllocFailed};
 use thiserror::Error;
 
-/// An allocation was refused. Nothing was made.
+/// An allocation was refused. Nothing was made. A value of this type is evidence of it: it is
+/// made from the allocator's own refusal alone.
 #[derive(Clone, Copy, Debug, PartialEq, Eq, Error)]
 #[error("NoMemory(1)")]
-pub struct NoMemory;
+pub struct NoMemory {
+    refused: (),
+}
+
+impl From<AllocError> for NoMemory {
+    fn from(_error: AllocError) -> NoMemory {
+        NoMemory { refused: () }
+    }
+}
+
+impl<T: Drop> From<AllocFailed<T>> for NoMemory {
+    fn from(_error: AllocFailed<T>) -> NoMemory {
+        NoMemory { refused: () }
+    }
+}
 
 /// The room of a log is used up. Nothing changed.
 #[derive(Clone, Copy, Debug, PartialEq, Eq, Error)]

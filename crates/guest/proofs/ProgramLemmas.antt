@@ -36,7 +36,7 @@ module _ {X : Type 0} (text : X → List ℕ) (lines : List X) where
 
   pub so_far_fault : (i : ℕ) (d : X) (front : List Instruction) (e : GuestError) → ReadSoFar text lines i front → i < length lines
       → Fails e (numbered_line (length lines) i (text (get_or lines i d))) → Fails e (program_lines (map text lines))
-  so_far_fault i d front NoMemory so_far h fails = tt
+  so_far_fault i d front (NoMemory _) so_far h fails = tt
   so_far_fault i d front (At line fault) so_far h fails =
       lines_seen ∙ sym so_far.read ∙ read_fault text (numbered_line (length lines)) lines i d front (At line fault) h fails
 

@@ -112,7 +112,7 @@ program_in lines =
 
 -- what an error says of what is meant: that fault, but nothing where memory was refused
 abbrev pub Fails : {Y : Type 0} → GuestError → Result Y GuestError → Type 0
-Fails NoMemory ghost_of = Unit {0}
+Fails (NoMemory _) ghost_of = Unit {0}
 Fails (At line fault) ghost_of = ghost_of ≡ Err (At line fault)
 
 -- a call gives the value that is meant, as it is viewed, or the fault; want of memory aside

@@ -177,9 +177,7 @@ impl Program {
         ensures { IfOk result (λ program. program ≡ self.now) }
     {
         let mut lines = Vec::new(alloc);
-        if lines.extend_from_slice(&self.lines).is_err() {
-            return Err(NoMemory);
-        }
+        lines.extend_from_slice(&self.lines)?;
         Ok(Program { lines })
     }
 

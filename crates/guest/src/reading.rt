@@ -184,9 +184,7 @@ fn line_at(alloc: Global, text: &str, count: usize, line: usize) -> Result<Instr
     ensures instruction { Gives (λ i. i) result (at_line line (line_in count text.now)) }
     ensures within { IfOk result (IsWithin count) }
 {
-    let Ok(parts) = text.split(' ').collect::<Vec<&str>>(alloc) else {
-        return Err(GuestError::NoMemory);
-    };
+    let parts = text.split(' ').collect::<Vec<&str>>(alloc)?;
     match pieces(&parts, count) {
         Ok(instruction) => Ok(instruction),
         Err(fault) => Err(GuestError::At(line, fault)),
@@ -208,9 +206,7 @@ pub fn instructions_in(alloc: Global, lines: &[&str]) -> Result<Vec<Instruction>
     let mut instructions = Vec::new(alloc);
     for (index, line) in lines.iter().enumerate() {
         let instruction = line_at(alloc, line, lines.len(), index)?;
-        if instructions.push(instruction).is_err() {
-            return Err(GuestError::NoMemory);
-        }
+        instructions.push(instruction)?;
     }
     Ok(instructions)
 }

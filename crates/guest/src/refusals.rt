@@ -1,5 +1,11 @@
 //! What is refused of a program, and where.
 
+ghost use Rattle.std.specs.Prelude.{◌≡◌};
+ghost use Rattle.event_log.specs.Refusals.{no_memory};
+ghost use Rattle.guest.specs.declared.refusals.GuestError.TheVariants as error;
+
+use event_log::NoMemory;
+use std::alloc::{AllocError, AllocFailed};
 use thiserror::Error;
 
 /// What is wrong with a line of a program. Each prints as its name and its number.
@@ -30,8 +36,24 @@ pub enum GuestFault {
 pub enum GuestError {
     /// An allocation was refused.
     #[error("NoMemory(1)")]
-    NoMemory,
+    NoMemory(NoMemory),
     /// The first line with a fault, counted from 0, and its first fault.
     #[error("line {0} {1}")]
     At(usize, GuestFault),
+}
+
+impl From<AllocError> for GuestError {
+    ghost from_gives = { λ _ e. e ≡ error.NoMemory no_memory };
+
+    fn from(error: AllocError) -> GuestError {
+        GuestError::NoMemory(NoMemory::from(error))
+    }
+}
+
+impl<T: Drop> From<AllocFailed<T>> for GuestError {
+    ghost from_gives = { λ _ e. e ≡ error.NoMemory no_memory };
+
+    fn from(error: AllocFailed<T>) -> GuestError {
+        GuestError::NoMemory(NoMemory::from(error))
+    }
 }

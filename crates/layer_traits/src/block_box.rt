@@ -32,10 +32,8 @@ impl<B: Drop> BlockBox<B> {
     pub fn new(alloc: Global, block: B) -> Result<BlockBox<B>, NoMemory>
         ensures { IfOk result (λ r. r ≡ block) }
     {
-        match Box::new(alloc, block) {
-            Ok(content) => Ok(BlockBox { content }),
-            Err(_) => Err(NoMemory),
-        }
+        let content = Box::new(alloc, block)?;
+        Ok(BlockBox { content })
     }
 
     /// What the box holds.

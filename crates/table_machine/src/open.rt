@@ -45,15 +45,9 @@ impl<E: SplitEdit, K: TableWords> Shared<E, K> {
         ensures cpus { IfOk result (λ r. r.0.cpus ≡ cpus) }
         ensures keys { IfOk result (λ r. r.1.items ≡ new_seat_views r.0 cpus) }
     {
-        match opened_table(alloc, blocks, cpus) {
-            Ok((shared, dealer)) => {
-                let Ok(keys) = shared.deal_all(alloc, dealer, cpus) else {
-                    return Err(NoMemory);
-                };
-                Ok((shared, keys))
-            }
-            Err(AllocError) => Err(NoMemory),
-        }
+        let (shared, dealer) = opened_table(alloc, blocks, cpus)?;
+        let keys = shared.deal_all(alloc, dealer, cpus)?;
+        Ok((shared, keys))
     }
 
     // Deals the keys of all CPUs.
@@ -192,13 +186,11 @@ fn zero_words(alloc: Global, locks: usize) -> Result<Vec<u64>, AllocError>
     ensures words { IfOk result (λ v. v.items ≡ replicate (word_count locks) 0) }
     ensures small { IfOk result (λ v. word_count locks < 2 ^ 64) }
 {
-    let Some(count) = locks.checked_mul(8 * (CPUS + 1)) else {
-        return Err(AllocError);
-    };
-    let Some(count) = count.checked_add(1) else {
-        return Err(AllocError);
-    };
-    Ok(vec![in alloc; 0; count]?)
+    let mut words = vec![in alloc; 0; 1]?;
+    for _ in 0..locks {
+        words.extend_from_slice(&[0; 8 * (CPUS + 1)])?;
+    }
+    Ok(words)
 }
 
 // A row that tells the rank of each lock.

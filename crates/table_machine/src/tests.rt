@@ -66,9 +66,7 @@ fn two_keys<R: Abort>(
     ensures first { IfOk result (λ t. t.1 ≡ new_seat_view t.0 0) }
     ensures second { IfOk result (λ t. t.2 ≡ new_seat_view t.0 1) }
 {
-    let Ok(blocks) = vec![in alloc; (LOCK, 40), (OTHER, 7)] else {
-        return Err(NoMemory);
-    };
+    let blocks = vec![in alloc; (LOCK, 40), (OTHER, 7)]?;
     let (shared, mut keys) = Shared::open(alloc, blocks, 2)?;
     let second = keys.pop().expect(rt, "the key of the second CPU");
     let first = keys.pop().expect(rt, "the key of the first CPU");
@@ -93,9 +91,7 @@ fn closed(
     requires first { IsOver shared first × (first.cpu.0 ≡ 0) }
     requires second { IsOver shared second × (second.cpu.0 ≡ 1) }
 {
-    let Ok(keys) = vec![in alloc; first, second] else {
-        return Err(NoMemory);
-    };
+    let keys = vec![in alloc; first, second]?;
     Ok(shared.close(keys))
 }
 
@@ -304,7 +300,7 @@ fn a_refused_allocation_is_no_memory(rt: HostRuntime) {
         };
         match closed {
             Ok(blocks) => assert_eq!(rt; blocks.as_slice(), [(OTHER, 7), (LOCK, 40)].as_slice()),
-            Err(error) => assert_eq!(rt; error, NoMemory),
+            Err(NoMemory { .. }) => {}
         }
     }
 }

@@ -1,12 +1,12 @@
 //! One order of the traces of several CPUs. Only `gather` takes memory. No call waits.
 
-ghost use Rattle.std.specs.Prelude.{◌≡◌, ◌<◌, ◌≤◌, ◌+◌, ◌^◌, ℕ, List, length, map, sum_by, vec_len, slice_get, slice_index, IfOk, IsErrOf, IsTrue, ◌↔◌, IfSome};
-ghost use Rattle.std.specs.Prelude.{IfNone, option_map};
-ghost use Rattle.event_log.specs.{declared.entries.Entry.Entry as AnEntry, Runs.count_of};
-ghost use Rattle.tracer.specs.{declared.gathering.GatherError.TheVariants.NoMemory, Gather.IsOrder, Gather.TakesFirstReady, Gather.HasNoOrder};
-ghost use Rattle.tracer.specs.{Gather.RunsHaveOrder, Gather.OrdersRunAlike, Gather.traces_in, Gather.next_entry, Gather.IsDue, Gather.NoneDueBelow};
+ghost use Rattle.std.specs.Prelude.{◌≡◌, ◌<◌, ◌≤◌, ◌+◌, ℕ, List, length, map, sum_by, slice_get, slice_index, IfOk, IsErrOf, IsTrue, ◌↔◌, IfSome};
+ghost use Rattle.std.specs.Prelude.{[], IfNone, option_map, vec_capacity};
+ghost use Rattle.event_log.specs.{declared.entries.Entry.Entry as AnEntry, Runs.count_of, Refusals.no_memory};
+ghost use Rattle.tracer.specs.declared.gathering.GatherError.TheVariants as error;
+ghost use Rattle.tracer.specs.Gather.{IsOrder, TakesFirstReady, HasNoOrder, RunsHaveOrder, OrdersRunAlike, traces_in, next_entry, IsDue, NoneDueBelow};
 
-use event_log::{BufId, Entry};
+use event_log::{BufId, Entry, NoMemory};
 use std::alloc::{AllocError, AllocFailed, Global};
 use thiserror::Error;
 
@@ -15,25 +15,25 @@ use thiserror::Error;
 pub enum GatherError {
     /// An allocation was refused, before any entry was taken.
     #[error("NoMemory(1)")]
-    NoMemory,
+    NoMemory(NoMemory),
     /// No order keeps each trace and counts the effects of each buffer from 0.
     #[error("NoOrder(6)")]
     NoOrder,
 }
 
 impl From<AllocError> for GatherError {
-    ghost from_gives = { λ _ e. e ≡ NoMemory };
+    ghost from_gives = { λ _ e. e ≡ error.NoMemory no_memory };
 
-    fn from(_: AllocError) -> GatherError {
-        GatherError::NoMemory
+    fn from(error: AllocError) -> GatherError {
+        GatherError::NoMemory(NoMemory::from(error))
     }
 }
 
 impl<T: Drop> From<AllocFailed<T>> for GatherError {
-    ghost from_gives = { λ _ e. e ≡ NoMemory };
+    ghost from_gives = { λ _ e. e ≡ error.NoMemory no_memory };
 
-    fn from(_: AllocFailed<T>) -> GatherError {
-        GatherError::NoMemory
+    fn from(error: AllocFailed<T>) -> GatherError {
+        GatherError::NoMemory(NoMemory::from(error))
     }
 }
 
@@ -51,10 +51,7 @@ pub fn gather(alloc: Global, traces: &[Vec<Entry>]) -> Result<Vec<Entry>, Gather
     ensures greedy { IfOk result (λ out. TakesFirstReady (traces_in traces.now) out.items) }
     ensures none { IsErrOf result GatherError.NoOrder → HasNoOrder (traces_in traces.now) }
 {
-    let Some(total) = entry_count(traces) else {
-        return Err(GatherError::NoMemory);
-    };
-    let mut order = Vec::with_capacity(alloc, total)?;
+    let (mut order, total) = room_for(alloc, traces)?;
     let mut taken = vec![in alloc; 0usize; traces.len()]?;
     let mut counts = [0u64; NAMES];
     while let Some((trace, entry)) = first_ready(traces, &taken, &counts) {
@@ -69,16 +66,23 @@ pub fn gather(alloc: Global, traces: &[Vec<Entry>]) -> Result<Vec<Entry>, Gather
     }
 }
 
-/// How many entries stand in the traces; `None` where the number is beyond any memory.
-fn entry_count(traces: &[Vec<Entry>]) -> Option<usize>
-    ensures some { IfSome result (λ n. n ≡ sum_by (λ trace. length trace.items) traces.now) }
-    ensures none { IfNone result (2 ^ 64 ≤ sum_by (λ trace. length trace.items) traces.now) }
+/// An empty list with room for the entries of all traces, and how many these are. Each entry is laid
+/// down once, so that it is the allocator that refuses what there is no room for.
+///
+/// Errors: `AllocError` where an allocation was refused.
+fn room_for(alloc: Global, traces: &[Vec<Entry>]) -> Result<(Vec<Entry>, usize), AllocError>
+    ensures empty { IfOk result (λ r. r.0.items ≡ []) }
+    ensures count { IfOk result (λ r. r.1 ≡ sum_by (λ trace. length trace.items) traces.now) }
+    ensures room { IfOk result (λ r. r.1 ≤ vec_capacity r.0) }
 {
-    let mut total = 0usize;
+    let mut entries = Vec::new(alloc);
     for trace in traces {
-        total = total.checked_add(trace.len())?;
+        entries.extend_from_slice(trace)?;
     }
-    Some(total)
+    let count = entries.len();
+    entries.clear();
+    entries.reserve(count)?;
+    Ok((entries, count))
 }
 
 /// Where the count of a buffer stands.

@@ -3,6 +3,7 @@
 ghost use Rattle.std.specs.Prelude.{◌≡◌};
 ghost use Rattle.tracer.specs.Reasons.{reason_name};
 
+use event_log::NoMemory;
 use std::fmt;
 use thiserror::Error;
 
@@ -75,5 +76,5 @@ pub enum Verdict {
     /// The first line with a fault, counted from 1, and its first reason.
     No(usize, Reason),
     /// An allocation was refused. The judge takes no memory, so it never says this.
-    NoMemory,
+    NoMemory(NoMemory),
 }

@@ -2,6 +2,7 @@
 //! to count waits for the workers.
 
 ghost use Rattle.std.specs.Prelude.{◌≡◌, ◌*◌, ◌<◌, ◌≤◌, ◌^◌, [], ◌∷◌, IsErr, IfOk, IfErr, OnErr};
+ghost use Rattle.event_log.specs.Refusals.{no_memory};
 ghost use Rattle.table_machine.specs.SeatViews.{new_seat_views};
 ghost use Rattle.cpu_workers.specs.declared.refusals.WorkerError.TheVariants.{NoMemory as LacksMemory};
 
@@ -28,9 +29,7 @@ fn open_number<K: TableWords>(
     ensures keys { IfOk result (λ r. r.1.items ≡ new_seat_views r.0 cpus) }
 {
     let mut blocks = Vec::new(alloc);
-    if blocks.push((NUMBER, 0)).is_err() {
-        return Err(NoMemory);
-    }
+    blocks.push((NUMBER, 0))?;
     Shared::open(alloc, blocks, cpus)
 }
 
@@ -58,13 +57,14 @@ fn count_if_open<K: PlanWords + Sync, R: Threads + Wait + Sync>(
     ensures number { IfOk opened (λ r. IfOk result (λ counted. counted.number ≡ times * r.0.cpus)) }
     ensures lock { IfOk result (λ counted. counted.lock ≡ K.lock_kind) }
     ensures none { IfErr result (λ not. not.left ≡ 0) }
-    ensures memory { OnErr opened (IsErr result × IfErr result (λ not. not.fault ≡ LacksMemory)) }
+    ensures memory { OnErr opened (IsErr result × IfErr result (λ not. not.fault ≡ LacksMemory no_memory)) }
 {
-    let Ok((shared, keys)) = opened else {
-        return Err(NotCounted {
-            fault: CountFault::NoMemory,
-            left: 0,
-        });
+    let (shared, keys) = match opened {
+        Ok(opened) => opened,
+        Err(error) => {
+            let fault = CountFault::from(error);
+            return Err(NotCounted { fault, left: 0 });
+        }
     };
     match count_all(rt, alloc, &shared, keys, times) {
         Ok(keys) => Ok(number_left(shared, keys, times)),

@@ -10,14 +10,14 @@ use Rattle.guest.proofs.reading.line_at.Goals as goal
 read : (c : After-pieces) → c.pieces.result ≡ line_in c.args.count c.args.text.now
 unfolding line_in
 read c =
-    let parts : map (λ p. p.now) c.in-Ok.parts.items ≡ slice_split (λ byte. byte == 32) c.args.text.now =
-    rw c.in-Ok.is at (map_from_collect _ c.collect.ensures.ran
+    let parts : map (λ p. p.now) c.in_ok-parts.parts.items ≡ slice_split (λ byte. byte == 32) c.args.text.now =
+    rw c.in_ok-parts.was at (map_from_collect _ c.collect.ensures.ran
     (YieldsList-from_str_split 32 c.args.text.now (lit< tt) c.split.ensures.text c.split.ensures.has_more c.split.ensures.pattern)) in
     c.pieces.ensures.instruction ∙ ap (pieces_in c.args.count) (ap (map (λ p. p.now)) c.deref.ensures.value ∙ parts)
 
-pub returns-in-Ok-pieces-clause-instruction : goal.returns-in-Ok-pieces-clause-instruction
-returns-in-Ok-pieces-clause-instruction c =
-    ap (at_line c.args.line) (sym (read (goal.at.returns-in-Ok-pieces-clause-instruction c).After-pieces) ∙ c.in-Ok-pieces.is)
+pub returns-in-Ok-clause-instruction : goal.returns-in-Ok-clause-instruction
+returns-in-Ok-clause-instruction c =
+    ap (at_line c.args.line) (sym (read (goal.at.returns-in-Ok-clause-instruction c).After-pieces) ∙ c.in-Ok.is)
 
 pub returns-clause-instruction : goal.returns-clause-instruction
 returns-clause-instruction c = ap (at_line c.args.line) (sym (read (goal.at.returns-clause-instruction c).After-pieces) ∙ c.in-Err.is)

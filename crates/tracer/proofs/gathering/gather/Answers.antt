@@ -2,80 +2,80 @@ use Rattle.std.proofs.Common.{◌≡◌, ◌<◌, ◌+◌, ℕ, [], ◌∷◌, �
 use Rattle.std.proofs.lemmas.List.{length-map, length_push, get_or_default}
 use Rattle.tracer.specs.Gather.{traces_in, next_entry, NoneDueBelow}
 use Rattle.tracer.proofs.GatherLemmas.{gathers_start, gathers_next, gathered_all, gathered_no_order, some_left, some_left_in, next_within, left_of_vectors}
-use Rattle.tracer.proofs.gathering.gather.Goals.{In-Some-first_ready}
+use Rattle.tracer.proofs.gathering.gather.Goals.{In-Some}
 use Rattle.tracer.proofs.gathering.gather.Goals as goal
 
 pub loop-trace-init : goal.loop-trace-init
 loop-trace-init c = (
-  gathers_start (traces_in c.args.traces.now) (length c.args.traces.now) c.in-Some.total c.in_ok-taken.taken.items _ c.in_ok-order.order.items
+  gathers_start (traces_in c.args.traces.now) (length c.args.traces.now) c.in_ok-order.total c.in_ok-taken.taken.items _ c.in_ok-order.order.items
       (sym (length-map c.args.traces.now (λ trace. trace.items))) (c.in_ok-taken.ensures.items_if_clones_equal (λ y same. same)) refl
-      (c.in-Some.ensures.some ∙ sym (left_of_vectors c.args.traces.now)) c.in_ok-order.ensures.items,
-  c.in_ok-order.ensures.capacity,
+      (c.in_ok-order.ensures.count ∙ sym (left_of_vectors c.args.traces.now)) c.in_ok-order.ensures.empty,
+  c.in_ok-order.ensures.room,
 )
 
 -- the trace found has a next entry, by what is taken
-found : (c : In-Some-first_ready) → next_entry (traces_in c.args.traces.now) c.loop-trace.taken.items c.in-Some-first_ready.trace
-    ≡ Some c.in-Some-first_ready.entry
-found c = subst (λ taken. next_entry (traces_in c.args.traces.now) taken c.in-Some-first_ready.trace ≡ Some c.in-Some-first_ready.entry) c.deref.ensures.value
-    c.in-Some-first_ready.ensures.found
+found : (c : In-Some) → next_entry (traces_in c.args.traces.now) c.loop-trace.taken.items c.in-Some.trace
+    ≡ Some c.in-Some.entry
+found c = subst (λ taken. next_entry (traces_in c.args.traces.now) taken c.in-Some.trace ≡ Some c.in-Some.entry) c.deref.ensures.value
+    c.in-Some.ensures.found
 
-first : (c : In-Some-first_ready) → NoneDueBelow (traces_in c.args.traces.now) c.loop-trace.taken.items c.loop-trace.counts c.in-Some-first_ready.trace
-first c = subst (λ taken. NoneDueBelow (traces_in c.args.traces.now) taken c.loop-trace.counts c.in-Some-first_ready.trace) c.deref.ensures.value
-    c.in-Some-first_ready.ensures.first
+first : (c : In-Some) → NoneDueBelow (traces_in c.args.traces.now) c.loop-trace.taken.items c.loop-trace.counts c.in-Some.trace
+first c = subst (λ taken. NoneDueBelow (traces_in c.args.traces.now) taken c.loop-trace.counts c.in-Some.trace) c.deref.ensures.value
+    c.in-Some.ensures.first
 
-within : (c : In-Some-first_ready) → c.in-Some-first_ready.trace < length c.loop-trace.taken.items
-within c = next_within (traces_in c.args.traces.now) c.loop-trace.taken.items c.in-Some-first_ready.trace c.in-Some-first_ready.entry
+within : (c : In-Some) → c.in-Some.trace < length c.loop-trace.taken.items
+within c = next_within (traces_in c.args.traces.now) c.loop-trace.taken.items c.in-Some.trace c.in-Some.entry
     c.loop-trace.invariant.0.slots (found c)
 
-some : (c : In-Some-first_ready) → length c.loop-trace.order.items < c.in-Some.total
-some c = some_left (traces_in c.args.traces.now) c.in-Some.total c.loop-trace.taken.items c.loop-trace.counts c.loop-trace.order.items
-    c.in-Some-first_ready.trace c.in-Some-first_ready.entry c.loop-trace.invariant.0 (found c)
+some : (c : In-Some) → length c.loop-trace.order.items < c.in_ok-order.total
+some c = some_left (traces_in c.args.traces.now) c.in_ok-order.total c.loop-trace.taken.items c.loop-trace.counts c.loop-trace.order.items
+    c.in-Some.trace c.in-Some.entry c.loop-trace.invariant.0 (found c)
 
-taken_below : (c : In-Some-first_ready) → get_or c.loop-trace.taken.items c.in-Some-first_ready.trace 0 < c.in-Some.total
-taken_below c = some_left_in (traces_in c.args.traces.now) c.in-Some.total c.loop-trace.taken.items c.loop-trace.counts c.loop-trace.order.items
-    c.in-Some-first_ready.trace c.in-Some-first_ready.entry c.loop-trace.invariant.0 (found c)
+taken_below : (c : In-Some) → get_or c.loop-trace.taken.items c.in-Some.trace 0 < c.in_ok-order.total
+taken_below c = some_left_in (traces_in c.args.traces.now) c.in_ok-order.total c.loop-trace.taken.items c.loop-trace.counts c.loop-trace.order.items
+    c.in-Some.trace c.in-Some.entry c.loop-trace.invariant.0 (found c)
 
-was : (c : In-Some-first_ready) (n : ℕ) → n ≡ get_or c.loop-trace.taken.items c.in-Some-first_ready.trace n
-    → n ≡ get_or c.loop-trace.taken.items c.in-Some-first_ready.trace 0
-was c n read = read ∙ get_or_default c.loop-trace.taken.items c.in-Some-first_ready.trace n 0 (within c)
+was : (c : In-Some) (n : ℕ) → n ≡ get_or c.loop-trace.taken.items c.in-Some.trace n
+    → n ≡ get_or c.loop-trace.taken.items c.in-Some.trace 0
+was c n read = read ∙ get_or_default c.loop-trace.taken.items c.in-Some.trace n 0 (within c)
 
 pub overflow_add-index_mut : goal.overflow_add-index_mut
 overflow_add-index_mut c =
-    let here = (goal.at.overflow_add-index_mut c).In-Some-first_ready in
+    let here = (goal.at.overflow_add-index_mut c).In-Some in
     omega (arith, was here c.index_mut.result.now c.index_mut.ensures.value, taken_below here)
 
 pub unwrap-requires : goal.unwrap-requires
 unwrap-requires c =
-    let here = (goal.at.unwrap-requires c).In-Some-first_ready in
+    let here = (goal.at.unwrap-requires c).In-Some in
     c.push.ensures.succeeds (omega (arith, some here))
 
 pub loop-trace-smaller : goal.loop-trace-smaller
 loop-trace-smaller c =
-    let here = (goal.at.loop-trace-smaller c).In-Some-first_ready in
-    let pushed : c.push.new.self.items ≡ c.loop-trace.order.items ++ c.in-Some-first_ready.entry ∷ [] = rw c.unwrap.ensures at c.push.ensures.items in
+    let here = (goal.at.loop-trace-smaller c).In-Some in
+    let pushed : c.push.new.self.items ≡ c.loop-trace.order.items ++ c.in-Some.entry ∷ [] = rw c.unwrap.ensures at c.push.ensures.items in
     let more : vec_len c.push.new.self ≡ vec_len c.loop-trace.order + 1 =
-    omega (arith, ap length pushed, length_push c.loop-trace.order.items c.in-Some-first_ready.entry) in
+    omega (arith, ap length pushed, length_push c.loop-trace.order.items c.in-Some.entry) in
     omega (arith, some here, more)
 
 pub loop-trace-preserved : goal.loop-trace-preserved
 loop-trace-preserved c =
-    let here = (goal.at.loop-trace-preserved c).In-Some-first_ready in (
-      gathers_next (traces_in c.args.traces.now) c.in-Some.total c.loop-trace.taken.items c.loop-trace.counts c.loop-trace.order.items
-          c.in-Some-first_ready.trace c.in-Some-first_ready.entry
+    let here = (goal.at.loop-trace-preserved c).In-Some in (
+      gathers_next (traces_in c.args.traces.now) c.in_ok-order.total c.loop-trace.taken.items c.loop-trace.counts c.loop-trace.order.items
+          c.in-Some.trace c.in-Some.entry
           c.index_mut.result.now c.slot_of.result c.push.new.self.items
-          c.loop-trace.invariant.0 c.slot_of.ensures.within (found here) c.in-Some-first_ready.ensures.due (first here)
+          c.loop-trace.invariant.0 c.slot_of.ensures.within (found here) c.in-Some.ensures.due (first here)
           (was here c.index_mut.result.now c.index_mut.ensures.value) c.slot_of.ensures.is (rw c.unwrap.ensures at c.push.ensures.items),
       omega (arith, c.loop-trace.invariant.1, c.push.ensures.capacity),
     )
 
 pub returns-then-len-total-clause-order : goal.returns-then-len-total-clause-order
 returns-then-len-total-clause-order c =
-    (gathered_all (traces_in c.args.traces.now) c.in-Some.total c.loop-trace.taken.items c.loop-trace.counts c.loop-trace.order.items c.loop-trace.invariant.0
+    (gathered_all (traces_in c.args.traces.now) c.in_ok-order.total c.loop-trace.taken.items c.loop-trace.counts c.loop-trace.order.items c.loop-trace.invariant.0
     (omega arith)).0
 
 pub returns-then-len-total-clause-greedy : goal.returns-then-len-total-clause-greedy
 returns-then-len-total-clause-greedy c =
-    (gathered_all (traces_in c.args.traces.now) c.in-Some.total c.loop-trace.taken.items c.loop-trace.counts c.loop-trace.order.items c.loop-trace.invariant.0
+    (gathered_all (traces_in c.args.traces.now) c.in_ok-order.total c.loop-trace.taken.items c.loop-trace.counts c.loop-trace.order.items c.loop-trace.invariant.0
     (omega arith)).1
 
 pub returns-else-len-total-clause-none : goal.returns-else-len-total-clause-none
@@ -83,6 +83,6 @@ returns-else-len-total-clause-none c =
     let none : NoneDueBelow (traces_in c.args.traces.now) c.loop-trace.taken.items c.loop-trace.counts (length (traces_in c.args.traces.now))
     = rw (length-map c.args.traces.now (λ trace. trace.items))
     (subst (λ taken. NoneDueBelow (traces_in c.args.traces.now) taken c.loop-trace.counts (length c.args.traces.now)) c.deref.ensures.value
-    c.in_default-first_ready.ensures.none) in
-    λ _. gathered_no_order (traces_in c.args.traces.now) c.in-Some.total c.loop-trace.taken.items c.loop-trace.counts c.loop-trace.order.items
+    c.in_default.ensures.none) in
+    λ _. gathered_no_order (traces_in c.args.traces.now) c.in_ok-order.total c.loop-trace.taken.items c.loop-trace.counts c.loop-trace.order.items
     c.loop-trace.invariant.0 (omega arith) none
