@@ -433,8 +433,8 @@ fi
 # The prover lets a function wait that is given the trait for it. Workers and the program are, and none of the crates beneath: no layer waits.
 source_row 'who names Wait, Mutex or Condvar' $'cpu_workers\nmctower' "$(waiting)"
 source_row 'what each error says of itself' "$named" "$(errors)"
-# What starts threads and joins them stands in the crate of the workers.
-source_row 'who stands on crossbeam_utils' cpu_workers "$(sed -n 's/^\([a-z_]*\):.*\<crossbeam_utils\>.*/\1/p' crates.txt)"
+# A start is told as refused (`NoThread`) only where one was: its refusal is named in the pool of threads, and where it becomes that evidence.
+source_row 'who names a refused start' $'crates/cpu_workers/src/pool.rt\ncrates/cpu_workers/src/refusals.rt' "$(grep -rlw --include='*.rt' SpawnError crates/*/src | sort)"
 # Who says NoMemory was refused memory: the type is made from the allocator's refusal alone. Such a refusal is made up at two places, where a library of the kit
 # tells of it without a value: toml's parser by a flag, and the table of atomic words by a type of its own.
 source_row 'who makes up a refused allocation' $'boot/src/plans.rt\ntable_machine/src/open.rt' "$(made_up crates)"

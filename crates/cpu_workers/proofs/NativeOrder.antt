@@ -25,7 +25,7 @@ pub record HasCome (setup : Setup) (keys : List Key) (calls : List (List Entry))
 module _ (setup : Setup) (table_view : TableView (QueueBlock LockBlock)) (so : StartsSo setup table_view) (keys : List Key)
     (blocks : List (LockId × QueueBlock LockBlock)) (closes : Closes tower_rules table_view keys blocks) (calls : List (List Entry))
     (count : length calls ≡ setup.cpus) (each : (c : CpuId) → c.0 < setup.cpus → HasCome setup keys calls c) where
-  abbrev acts : List (Action TowerName)
+  abbrev pub acts : List (Action TowerName)
   acts = acts_in closes.log
 
   rest : (c : CpuId) → setup.cpus ≤ c.0 → AreOthers cpu_of_action c acts
@@ -59,10 +59,10 @@ module _ (setup : Setup) (table_view : TableView (QueueBlock LockBlock)) (so : S
       ∙ ap (λ k. messages_in (blocks_read blocks (AtBuffer (buffer_at k)))) zero_plus)
 
   -- the calls have one order that is a run and ends in what is left
-  pub calls_ordered : HasOrder setup.caps calls (left_of (length setup.caps) blocks)
+  pub calls_ordered : HasOrder setup.caps calls (effects_of setup.caps acts) (left_of (length setup.caps) blocks)
   calls_ordered =
       let few = so.small in
-      subst (λ (l : List (List Message)). HasOrder setup.caps calls l) contents_are
+      subst (λ (l : List (List Message)). HasOrder setup.caps calls (effects_of setup.caps acts) l) contents_are
       (one_order setup.caps acts calls setup.trace_room (effects_may setup table_view so closes.log closes.legal)
       (λ c beyond. own_none cpu_of_action c acts (rest c (omega (arith, beyond, count))))
       (λ k within. calls_in (cpu_at k) (omega (arith, within, count)))

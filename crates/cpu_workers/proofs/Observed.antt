@@ -1,13 +1,14 @@
--- What the workers of a plan left is a lawful report.
+-- What the workers of a plan left is a lawful report of one words log.
 use Rattle.std.proofs.Common.{ℕ, ◌*◌, ◌^◌, ◌<◌, ◌≤◌, List, refl, sym, subst, arith}
 use Rattle.std.proofs.lemmas.Nat.{mul-le}
 use Rattle.boot.specs.Plan.{BootPlan, IsPlan}
 use Rattle.event_log.specs.{declared.entries.Entry.Entry, declared.ids.CpuId.CpuId, declared.ids.LockId.LockId, declared.ids.TheConstants.CPUS}
 use Rattle.event_log.specs.{declared.ids.TheConstants.ENTRIES, declared.ids.TheConstants.TRACE, Actions.Action}
+use Rattle.layer_traits.specs.OneLock.{opened}
 use Rattle.cpu.specs.{Sound.setup_for, Tower.Views.TowerName}
-use Rattle.cpu_workers.specs.{declared.gates.Go.Go, declared.stops.Stop.Stop, Closing.HasSeen, Closing.acts_in, Closing.shown, Lawful.IsLawfulReport}
-use Rattle.cpu_workers.specs.{Lawful.CpuReport, Seating.Block, Seating.HasLeft, Seating.IsReportOf}
-use Rattle.cpu_workers.proofs.Reporting.{has_seen, report_is_lawful}
+use Rattle.cpu_workers.specs.{declared.gates.Go.Go, declared.stops.Stop.Stop, Closing.HasSeen, Closing.acts_in, Closing.shown}
+use Rattle.cpu_workers.specs.{Lawful.CpuReport, Logs.HasWords, Seating.Block, Seating.HasLeft, Seating.IsReportOf}
+use Rattle.cpu_workers.proofs.Reporting.{has_seen, of_words}
 
 -- a worker that left this did it along what it has seen
 seen_so : (plan : BootPlan) (May : CpuId → Go → ℕ → Type 0) (turns : ℕ) (c : CpuId) (acts : List (Action TowerName)) (site : List ℕ) (line : CpuReport)
@@ -20,36 +21,41 @@ seen_so plan May turns c acts site line left =
 few_entries : (plan : BootPlan) → IsPlan plan → plan.cpus * plan.trace < 2 ^ 64
 few_entries plan is = let most : plan.cpus * plan.trace ≤ ENTRIES = mul-le plan.cpus plan.trace CPUS TRACE is.most_cpus is.most_trace in omega (arith, most)
 
-pub lawful_so : (plan : BootPlan) (May : CpuId → Go → ℕ → Type 0) (turns : ℕ) (traces : List (List Entry)) (taken : List ℕ) (stops : List Stop)
+pub words_so : (plan : BootPlan) (May : CpuId → Go → ℕ → Type 0) (turns : ℕ) (traces : List (List Entry)) (taken : List ℕ) (stops : List Stop)
     (blocks : List (LockId × Block)) → IsPlan plan → IsReportOf plan May turns traces taken stops blocks
-    → IsLawfulReport (setup_for plan) May turns (shown traces taken stops blocks)
-lawful_so plan May turns traces taken stops blocks is of = report_is_lawful May (setup_for plan) turns of.table_view of.keys blocks
-    (shown traces taken stops blocks) (record {
-      starts = record {
-        some = is.some_cpus;
-        cpus = of.cpus_are;
-        starts = of.opens.starts;
-        homes = of.opens.homes;
-        queues = of.opens.queues;
-        locks = of.opens.locks;
-        buffers = is.caps.most;
-        small = few_entries plan is;
-      };
-      come = record {
-        traces = of.left.traces_count;
-        taken = of.left.taken_count;
-        stops = of.left.stops_count;
-        each = λ c below.
-            let one = of.left.each c below in
-            let line : CpuReport = record { trace = one.1; taken = one.2; stop = one.3 } in (
-              one.0,
-              line,
-              one.4,
-              one.8.cpu_is,
-              record { trace = one.5; taken = one.6; stop = one.7 },
-              seen_so plan May turns c (acts_in one.0.seen) _ line one.8.left,
-            );
-      };
-      closes = of.closes;
-      told = refl;
-    })
+    → HasWords plan May turns (shown traces taken stops blocks)
+words_so plan May turns traces taken stops blocks is of = record {
+  opening = opened of.table_view.start;
+  opens = of.opens;
+  words = of.closes.log;
+  legal = of.closes.legal;
+  tells = of_words (setup_for plan) May turns of.table_view of.keys blocks (shown traces taken stops blocks) (record {
+    starts = record {
+      some = is.some_cpus;
+      cpus = of.cpus_are;
+      starts = of.opens.starts;
+      homes = of.opens.homes;
+      queues = of.opens.queues;
+      locks = of.opens.locks;
+      buffers = is.caps.most;
+      small = few_entries plan is;
+    };
+    come = record {
+      traces = of.left.traces_count;
+      taken = of.left.taken_count;
+      stops = of.left.stops_count;
+      each = λ c below.
+          let one = of.left.each c below in
+          let line : CpuReport = record { trace = one.1; taken = one.2; stop = one.3 } in (
+            one.0,
+            line,
+            one.4,
+            one.8.cpu_is,
+            record { trace = one.5; taken = one.6; stop = one.7 },
+            seen_so plan May turns c (acts_in one.0.seen) _ line one.8.left,
+          );
+    };
+    closes = of.closes;
+    told = refl;
+  });
+}

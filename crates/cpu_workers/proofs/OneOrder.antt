@@ -163,9 +163,10 @@ few_first (suc n) m es few =
 
 -- The order.
 
--- the traces have one order that is a run and ends in these contents
-pub record HasOrder (caps : List ℕ) (traces : List (List Entry)) (contents : List (List _)) : Type 0 where
+-- the traces have one order, that of these effects, which is a run and ends in these contents
+pub record HasOrder (caps : List ℕ) (traces : List (List Entry)) (effects : List Entry) (contents : List (List _)) : Type 0 where
   pub order : List Entry
+  pub is : order ≡ reverse effects
   pub keeps : IsInterleaving traces order
   pub run : IsRun caps order contents
 
@@ -173,9 +174,10 @@ pub one_order : (caps : List ℕ) (log : List (Action TowerName)) (traces : List
     → IsLawful (MayTakeEffect caps) (effects_of caps log) → ((c : CpuId) → length traces ≤ c.0 → own_events cpu_of_action c log ≡ [])
     → ((k : ℕ) → k < length traces → IsTraceOf (cpu_at k) caps log (slice_index_or traces k []))
     → ((k : ℕ) → k < length traces → length (slice_index_or traces k []) ≤ limit) → length traces * limit < 2 ^ 64
-    → HasOrder caps traces (contents_of caps (effects_of caps log))
+    → HasOrder caps traces (effects_of caps log) (contents_of caps (effects_of caps log))
 one_order caps log traces limit lawful rest each room small = record {
   order = reverse (effects_of caps log);
+  is = refl;
   keeps = interleaved (reverse (effects_of caps log)) traces
       (λ k within. each k within ∙ sym (filter_reversed (λ (e : Entry). e.cpu.0 == k) (effects_of caps log)))
       (all_reversed (λ (e : Entry). e.cpu.0 < length traces) (effects_of caps log) known);

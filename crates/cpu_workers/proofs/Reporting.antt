@@ -4,7 +4,7 @@ use Rattle.std.proofs.Common.{slice_index_or, if◌then◌else◌, refl, ap, sym
 use Rattle.std.specs.List.{AllByRecursion}
 use Rattle.std.proofs.lemmas.{List.length-append, List.length-map, List.length-set, Option.get_or_from_slice_get}
 use Rattle.event_log.specs.{declared.entries.Entry.Entry, Actions.Action, Actions.AreLegal, Actions.cpu_of_action, Actions.phase, Actions.acts_of}
-use Rattle.event_log.specs.{Actions.renamed, History.AreOthers, History.own_events, History.same_cpu, Messages.Message, Runs.IsRun, WordsLog.cpu_of_event}
+use Rattle.event_log.specs.{Actions.renamed, History.AreOthers, History.own_events, History.same_cpu, Messages.Message, WordsLog.cpu_of_event}
 use Rattle.event_log.specs.declared.ids.{CpuId.CpuId, LockId.LockId, LockId.TheVariants.Pending, LockId.TheVariants.Buffer as AtBuffer}
 use Rattle.event_log.proofs.{Foreign.acts_of-append, Foreign.others_acts, Foreign.own_append, Foreign.own_none, Foreign.phase_others, Streams.taken_put}
 use Rattle.event_log.proofs.{Renaming.legal_renamed, Renaming.others_renamed, Same.same_cpu_self}
@@ -18,12 +18,12 @@ use Rattle.cpu.specs.{Tower.Views.TowerName, Tower.Views.name_of, Wakeups.Lost.I
 use Rattle.cpu.proofs.{TableQuiet.ended_at, Wakeups.CpusByTable.cpus_lose_no_wake_up}
 use Rattle.cpu_workers.specs.{declared.gates.Go.Go, declared.gates.Go.TheVariants.Limit, declared.gates.Go.TheVariants.Pass, declared.stops.Stop.Stop}
 use Rattle.cpu_workers.specs.{Lawful.AreLeft, Lawful.HasGone, Lawful.IsLawfulReport, Lawful.IsCpuReportOf, Lawful.IsReport, Lawful.CpuReport, Lawful.Shown}
-use Rattle.cpu_workers.specs.{Lawful.ReportsTrue, Lawful.left_in, Lawful.messages_in, Orders.FollowsProgram, Orders.HasFollowed, Orders.IsTraceOf}
+use Rattle.cpu_workers.specs.{Lawful.ReportsTrue, Lawful.left_in, Lawful.messages_in, Logs.IsReportOfWords, Orders.FollowsProgram, Orders.HasFollowed, Orders.IsTraceOf}
 use Rattle.cpu_workers.specs.{Orders.effects_of, Reports.HasRun, Reports.IsTrueStop, Reports.MayTake, Reports.Took, Reports.TookWithin, Reports.WasHeld}
-use Rattle.cpu_workers.specs.{Reports.WentBy, Reports.Within, Reports.below, Working.Charge, Working.IsPlanned, Working.Working}
+use Rattle.cpu_workers.specs.{Reports.PassedAtEach, Reports.AskedAtEach, Reports.WentBy, Reports.Within, Reports.below, Working.Charge, Working.IsPlanned, Working.Working}
 use Rattle.cpu_workers.specs.Closing.{HasSeen, HaveCome, IsReported, Key, LockBlock, ReportsAreLawful, StartsSo, WordsOfTower, acts_in, tower_rules}
 use Rattle.cpu_workers.proofs.{ClosedLog.acts_legal, ClosedLog.buffers_left, ClosedLog.effects_may, ClosedLog.messages_left, ClosedLog.queues_left}
-use Rattle.cpu_workers.proofs.{Lasting.all_ended, OneOrder.one_order, OneOrder.trace_in, Turning.along_others, Turning.within_others}
+use Rattle.cpu_workers.proofs.{Lasting.all_ended, OneOrder.HasOrder, OneOrder.one_order, OneOrder.trace_in, Turning.along_others, Turning.within_others}
 use Rattle.layer_traits.specs.declared.steps.Reason.TheVariants as reason
 use Rattle.sleep_wakeup.specs.Nested as sleep
 use Rattle.queuing_lock.specs.Nested as lock
@@ -45,6 +45,8 @@ has_seen setup May turns c first last line cpu_is planned boots ran own legal fo
   held = λ is.
       subst (λ (p : Private). WasHeld (cpu_step setup c) c (May c Limit) p last.private (named last.acts) line.taken) boots
       (subst (λ (d : CpuId). WasHeld (cpu_step setup d) d (May d Limit) first.private last.private (named last.acts) line.taken) cpu_is (went.held is));
+  asked = subst (λ (d : CpuId). AskedAtEach (May d) line.taken) cpu_is went.asked;
+  used = λ is. subst (λ (d : CpuId). PassedAtEach (May d Pass) line.taken) cpu_is (went.used is);
   rests = subst (λ (d : CpuId). is_in_section (phase d (named last.acts)) ≡ false) same ran.rests;
   stop_is = subst (λ (d : CpuId). IsTrueStop (halted_at setup d last.private) (May d Limit) turns line.taken line.stop) cpu_is went.stop_is;
   trace_is = trace_is;
@@ -190,6 +192,8 @@ module _ (setup : Setup) (May : CpuId → Go → ℕ → Type 0) (turns : ℕ) (
           counted = held.counted;
           within = on (below held.count) held.within;
         };
+        asked = seen.asked;
+        used = seen.used;
         rests = ap (λ l. is_in_section (phase c l)) log_is ∙ ap is_in_section (phase_others c (named goes.more) (named past) theirs) ∙ seen.rests;
         stop_is = seen.stop_is;
       }
@@ -259,28 +263,31 @@ module _ (setup : Setup) (May : CpuId → Go → ℕ → Type 0) (turns : ℕ) (
       messages_left setup table_view so closes.log closes.legal blocks closes.count closes.blocks_are (buffer_at b) within
       ∙ ap (λ f. messages_in (f (AtBuffer (buffer_at b)))) (sym it.told) ∙ ap (λ k. messages_in (r.blocks (AtBuffer (buffer_at k)))) zero_plus)
 
-  report : IsReport setup May turns r
-  report =
+  -- the traces have one order, that of the effects of the list
+  ordered : HasOrder setup.caps r.traces (effects_of setup.caps acts) (left_in (length setup.caps) r)
+  ordered =
       let count = come.traces in
       let few = so.small in
-      let all = one_order setup.caps acts r.traces setup.trace_room (effects_may setup table_view so closes.log closes.legal)
+      subst (λ (l : List (List Message)). HasOrder setup.caps r.traces (effects_of setup.caps acts) l) contents_are
+      (one_order setup.caps acts r.traces setup.trace_room (effects_may setup table_view so closes.log closes.legal)
       (λ c beyond. own_none cpu_of_action c acts (rest c (omega (arith, beyond, count))))
       (λ k within. let one = come.each (cpu_at k) (omega (arith, within, count)) in let goes = goes_on (cpu_at k) one.0 one.2 one.3 in
       trace_read (cpu_at k) one.1 one.4 ∙ trace_in setup.caps (cpu_at k) goes.more (acts_in one.0.seen) acts one.1.trace goes.is goes.others one.5.own)
       (λ k within. let one = come.each (cpu_at k) (omega (arith, within, count)) in let room = one.5.room in
       let long = ap (λ (l : List Entry). length l) (trace_read (cpu_at k) one.1 one.4) in omega (arith, room, long))
-      (subst (λ (n : ℕ). n * setup.trace_room < 2 ^ 64) (sym count) few) in
-      let run = subst (λ (l : List (List Message)). IsRun setup.caps all.order l) contents_are all.run in
-      record {
-        traces_count = come.traces;
-        taken_count = come.taken;
-        stops_count = come.stops;
-        order = all.order;
-        keeps = all.keeps;
-        run = run;
-        fifo = taken_put setup.caps all.order (left_in (length setup.caps) r) run;
-        each = λ c within. let one = come.each c within in (one.1, one.4, told c (acts_in one.0.seen) one.1 one.5);
-      }
+      (subst (λ (n : ℕ). n * setup.trace_room < 2 ^ 64) (sym count) few))
+
+  report : IsReport setup May turns r
+  report = record {
+    traces_count = come.traces;
+    taken_count = come.taken;
+    stops_count = come.stops;
+    order = ordered.order;
+    keeps = ordered.keeps;
+    run = ordered.run;
+    fifo = taken_put setup.caps ordered.order (left_in (length setup.caps) r) ordered.run;
+    each = λ c within. let one = come.each c within in (one.1, one.4, told c (acts_in one.0.seen) one.1 one.5);
+  }
 
   -- the report is lawful
   pub lawful : IsLawfulReport setup May turns r
@@ -293,6 +300,11 @@ module _ (setup : Setup) (May : CpuId → Go → ℕ → Type 0) (turns : ℕ) (
     left = left;
     awake = λ b k is. cpus_lose_no_wake_up setup (named acts) worked b k (sym (left.buffers b) ∙ is);
   }
+
+  -- and it is that of the closed table's words log
+  pub of_words : IsReportOfWords setup May turns closes.log r
+  unfolding lawful report
+  of_words = record { report = lawful; log_is = refl; order_is = ordered.is }
 
 pub report_is_lawful : (May : CpuId → Go → ℕ → Type 0) → ReportsAreLawful May
 report_is_lawful May setup turns table_view keys blocks r it = lawful setup May turns table_view keys blocks r it

@@ -19,7 +19,8 @@ use Rattle.cpu.specs.Table.{Blocks.Block, Setups.Setup, Setups.Private, Setups.a
 use Rattle.cpu.specs.{Cpus.IsOfHome, Cpus.of_thread, Tower.Composed.named, Tower.Views.TowerBlock, Tower.Views.TowerName, Tower.Views.view}
 use Rattle.cpu_workers.specs.{declared.gates.Go.Go, declared.gates.Go.TheVariants.Limit, declared.gates.Go.TheVariants.Pass, declared.stops.Stop.Stop}
 use Rattle.cpu_workers.specs.{Lawful.IsLawfulReport, Lawful.IsCpuReportOf, Lawful.CpuReport, Lawful.Shown, Orders.FollowsProgram, Orders.IsTraceOf}
-use Rattle.cpu_workers.specs.{declared.stops.Stop.TheVariants.Held, Reports.IsTrueStop, Reports.MayTake, Reports.Took, Reports.TookWithin, Reports.WasHeld}
+use Rattle.cpu_workers.specs.{declared.stops.Stop.TheVariants.Held, declared.stops.Stop.TheVariants.TurnsUsed, Reports.IsTrueStop, Reports.MayTake}
+use Rattle.cpu_workers.specs.{Reports.Took, Reports.TookWithin, Reports.WasHeld, Reports.PassedAtEach, Reports.AskedAtEach}
 use Rattle.sleep_wakeup.specs.Nested as sleep
 use Rattle.queuing_lock.specs.Nested as lock
 
@@ -75,7 +76,8 @@ pub record StartsSo (setup : Setup) (table_view : TableView (QueueBlock LockBloc
 
 -- what a CPU did that has seen these actions: it went from boot to its last state by the step table, in just as many steps as its line tells,
 -- with none of its sections under way at the end; between two sections it took a turn only below so many and where the gate, which was asked
--- at each turn so far with the number of turns taken, may have let it pass each time, and none after a `Limit` of the gate if it was held; its
+-- at each turn so far with the number of turns taken, may have let it pass each time, and none after a `Limit` of the gate if it was held; the
+-- gate was asked before each turn, also inside a section, until it answered `Limit`, and let the CPU pass at each where all turns are used; its
 -- stop is true of where it stands, and its trace is its effects in what it has seen; the trace kept to its room, each entry is of a thread at
 -- home, and each thread at home followed its program
 pub record HasSeen (setup : Setup) (May : Go → ℕ → Type 0) (turns : ℕ) (c : CpuId) (acts : List (Action TowerName)) (line : CpuReport) : Type 0 where
@@ -83,6 +85,8 @@ pub record HasSeen (setup : Setup) (May : Go → ℕ → Type 0) (turns : ℕ) (
   pub took : Took (cpu_step setup c) c (at_boot setup c) last (named acts) line.taken
   pub within : TookWithin (cpu_step setup c) c (MayTake turns (May Pass)) (at_boot setup c) last (named acts) line.taken
   pub held : line.stop ≡ Held → WasHeld (cpu_step setup c) c (May Limit) (at_boot setup c) last (named acts) line.taken
+  pub asked : AskedAtEach May line.taken
+  pub used : line.stop ≡ TurnsUsed → PassedAtEach (May Pass) line.taken
   pub rests : is_in_section (phase c (named acts)) ≡ false
   pub stop_is : IsTrueStop (halted_at setup c last) (May Limit) turns line.taken line.stop
   pub trace_is : line.trace ≡ last.trace

@@ -11,7 +11,7 @@ use Rattle.cpu.specs.{Table.Blocks.OfBuffer, Table.Blocks.OfPending, Table.Setup
 use Rattle.cpu.specs.{Table.Steps.block_at, Table.Steps.cpu_step, Table.Steps.halted_at, Wakeups.Lost.NoWakeUpIsLost}
 use Rattle.cpu_workers.specs.{declared.gates.Go.Go, declared.gates.Go.TheVariants.Limit, declared.gates.Go.TheVariants.Pass, declared.stops.Stop.Stop}
 use Rattle.cpu_workers.specs.{declared.stops.Stop.TheVariants.AllEnded, declared.stops.Stop.TheVariants.TurnsUsed, declared.stops.Stop.TheVariants.Held}
-use Rattle.cpu_workers.specs.{Reports.IsTrueStop, Reports.MayHold, Reports.MayTake, Reports.Took, Reports.TookWithin, Reports.WasHeld}
+use Rattle.cpu_workers.specs.{Reports.IsTrueStop, Reports.MayHold, Reports.MayTake, Reports.Took, Reports.TookWithin, Reports.WasHeld, Reports.PassedAtEach, Reports.AskedAtEach}
 
 -- what a report tells of one CPU: its trace, oldest first, how many turns it took, and why it stopped
 pub record CpuReport : Type 0 where
@@ -79,13 +79,16 @@ pub record IsReport (setup : Setup) (May : CpuId → Go → ℕ → Type 0) (tur
 -- a CPU went along this list of actions by the step table: from boot to its last state, in just as many steps as its line tells, with none of
 -- its sections under way at the end; between two sections it took a turn only below so many and where the gate, which was
 -- asked at each turn so far with the number of turns taken, may have let it pass each time, and none after a `Limit` of the
--- gate if it was held; the line has its trace, and its stop is true of where it stands
+-- gate if it was held; the gate was asked before each turn, also inside a section, until it answered `Limit`, and let the CPU pass at each where
+-- all turns are used; the line has its trace, and its stop is true of where it stands
 pub record HasGone (setup : Setup) (May : Go → ℕ → Type 0) (turns : ℕ) (c : CpuId) (log : List (Action Name)) (line : CpuReport) : Type 0 where
   pub last : Private
   pub trace_is : line.trace ≡ last.trace
   pub took : Took (cpu_step setup c) c (at_boot setup c) last log line.taken
   pub within : TookWithin (cpu_step setup c) c (MayTake turns (May Pass)) (at_boot setup c) last log line.taken
   pub held : line.stop ≡ Held → WasHeld (cpu_step setup c) c (May Limit) (at_boot setup c) last log line.taken
+  pub asked : AskedAtEach May line.taken
+  pub used : line.stop ≡ TurnsUsed → PassedAtEach (May Pass) line.taken
   pub rests : is_in_section (phase c log) ≡ false
   pub stop_is : IsTrueStop (halted_at setup c last) (May Limit) turns line.taken line.stop
 

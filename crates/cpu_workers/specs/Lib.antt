@@ -2,10 +2,12 @@ pub mod Working
 pub mod Seats
 pub mod Orders
 pub mod Reports
+pub mod Tasks
 pub mod Laws
 pub mod Lawful
 pub mod Closing
 pub mod Seating
+pub mod Logs
 pub mod Counts
 pub mod Calls
 pub mod Callers

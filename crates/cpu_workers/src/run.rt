@@ -7,14 +7,14 @@ ghost use Rattle.table_machine.specs.SeatViews.{Closes, Covers, IsOf, IsOver, ne
 ghost use Rattle.boot.specs.declared.locks.LockKind.TheVariants as kind;
 ghost use Rattle.boot.specs.Plan.{IsPlan};
 ghost use Rattle.cpu.specs.Sound.{setup_for};
-ghost use Rattle.cpu_workers.specs.{Closing.shown, Closing.tower_rules, Lawful.IsLawfulReport, Seating.HaveLeft, Seating.OpensPlan};
+ghost use Rattle.cpu_workers.specs.{Closing.shown, Closing.tower_rules, Lawful.IsLawfulReport, Logs.HasWords, Seating.HaveLeft, Seating.OpensPlan};
 
 use crate::gates::Gate;
 use crate::plan_words::PlanWords;
 use crate::report::Report;
 use crate::seating::{Left, run_over};
 use crate::seats::TowerSeat;
-use crate::starting::WorkerError;
+use crate::refusals::WorkerError;
 use crate::stops::Stop;
 use boot::{Boot, LockKind};
 use cpu::homes_of;
@@ -210,7 +210,9 @@ fn run_words<K: PlanWords + Sync, G: Gate + Sync, R: Threads + Wait + Sync>(
     gate: &G,
 ) -> Result<Report, WorkerError>
     requires lock { boot.now.lock ≡ K.lock_kind }
-    ensures { IfOk result (λ r. IsLawfulReport (setup_for boot.now) (G.MayAnswer gate.now) turns
+    ensures lawful { IfOk result (λ r. IsLawfulReport (setup_for boot.now) (G.MayAnswer gate.now) turns
+        (shown (map (λ t. t.items) r.traces.items) r.taken.items r.stops.items r.blocks.items)) }
+    ensures words { IfOk result (λ r. HasWords boot.now (G.MayAnswer gate.now) turns
         (shown (map (λ t. t.items) r.traces.items) r.taken.items r.stops.items r.blocks.items)) }
 {
     let open = table_of::<K>(alloc, boot)?;
@@ -228,7 +230,9 @@ fn run_waiters<G: Gate + Sync, R: Threads + Wait + Sync>(
     gate: &G,
 ) -> Result<Report, WorkerError>
     requires lock { boot.now.lock ≡ kind.Grant }
-    ensures { IfOk result (λ r. IsLawfulReport (setup_for boot.now) (G.MayAnswer gate.now) turns
+    ensures lawful { IfOk result (λ r. IsLawfulReport (setup_for boot.now) (G.MayAnswer gate.now) turns
+        (shown (map (λ t. t.items) r.traces.items) r.taken.items r.stops.items r.blocks.items)) }
+    ensures words { IfOk result (λ r. HasWords boot.now (G.MayAnswer gate.now) turns
         (shown (map (λ t. t.items) r.traces.items) r.taken.items r.stops.items r.blocks.items)) }
 {
     let open = table_of::<WaiterWords>(alloc, boot)?;
@@ -242,7 +246,12 @@ fn run_waiters<G: Gate + Sync, R: Threads + Wait + Sync>(
 /// its sections, as [`crate::work`] says: where its CPU is halted, where the gate has answered
 /// `Limit`, or where `turns` turns are taken. Between two sections it takes a turn only below
 /// `turns`, and only where the gate, which was asked at each turn so far with the number of turns
-/// taken, may have answered `Pass` each time.
+/// taken, may have answered `Pass` each time. The gate is asked before each turn, also inside a
+/// section, until it answers `Limit`; where it may not have answered `Pass` at each, no worker stops as
+/// `TurnsUsed`.
+///
+/// The report is lawful by the plan's step table. The list of actions by which it is, and the order of
+/// its traces, are those of one words log, which is legal over the locks as the plan opens them.
 ///
 /// It waits for its workers, so it need not return. All memory is taken and all workers are known to
 /// have started before any step is taken.
@@ -256,7 +265,9 @@ pub fn run_workers<G: Gate + Sync, R: Threads + Wait + Sync>(
     turns: u64,
     gate: &G,
 ) -> Result<Report, WorkerError>
-    ensures { IfOk result (λ r. IsLawfulReport (setup_for boot.now) (G.MayAnswer gate.now) turns
+    ensures lawful { IfOk result (λ r. IsLawfulReport (setup_for boot.now) (G.MayAnswer gate.now) turns
+        (shown (map (λ t. t.items) r.traces.items) r.taken.items r.stops.items r.blocks.items)) }
+    ensures words { IfOk result (λ r. HasWords boot.now (G.MayAnswer gate.now) turns
         (shown (map (λ t. t.items) r.traces.items) r.taken.items r.stops.items r.blocks.items)) }
 {
     match boot.lock() {

@@ -4,11 +4,10 @@ use Rattle.clap.specs.Walk.{Text}
 use Rattle.mctower.specs.{Faults.fault_text, Output.IsPut, Output.Output, Print.PrintsRefusal}
 use Rattle.mctower.specs.{declared.refusals.Refusal.Refusal, declared.run.Fault.Fault, declared.schedule.StepsError.StepsError}
 use Rattle.mctower.specs.declared.refusals.Refusal.TheVariants.{BadLine, NoMemory, BadCpu, NoThread, NoOrder, ReadFault, WriteFault, BadSchedule, Plan}
-use Rattle.cpu_workers.specs.declared.{counting.CountFault.CountFault, starting.WorkerError.WorkerError}
+use Rattle.cpu_workers.specs.declared.refusals.WorkerError.{WorkerError}
 use Rattle.mctower.specs.declared.run.Fault.TheVariants as run
 use Rattle.mctower.specs.declared.schedule.StepsError.TheVariants as steps
-use Rattle.cpu_workers.specs.declared.counting.CountFault.TheVariants as count
-use Rattle.cpu_workers.specs.declared.starting.WorkerError.TheVariants as worker
+use Rattle.cpu_workers.specs.declared.refusals.WorkerError.TheVariants as worker
 
 -- the refusal of a run that had this fault
 abbrev pub from_fault : Fault → Refusal
@@ -18,15 +17,10 @@ from_fault run.BadCpu = BadCpu
 from_fault run.NoOrder = NoOrder
 from_fault run.WriteFault = WriteFault
 
--- the refusal of a count that had this fault
-abbrev pub from_count : CountFault → Refusal
-from_count count.NoMemory = NoMemory
-from_count count.NoThread = NoThread
-
--- the refusal where no worker took a step
+-- the refusal where no worker took a step, or did no section of a count
 abbrev pub from_worker : WorkerError → Refusal
 from_worker worker.NoMemory = NoMemory
-from_worker worker.NoThread = NoThread
+from_worker (worker.NoThread refused) = NoThread
 
 -- the refusal of a text that is no schedule
 abbrev pub from_steps : StepsError → Refusal

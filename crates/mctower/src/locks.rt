@@ -15,7 +15,7 @@ use crate::line::MOST_TIMES;
 use crate::tower::{OverTower, over_sections};
 use boot::LockKind;
 use condvar::Cond;
-use cpu_workers::counting::{AddOne, CountLaws};
+use cpu_workers::counting::{AddOne, CountLaws, Counted, LockOfKind};
 use event_log::NoMemory;
 use fifo_buffer::Fifo;
 use ipc_calls::{Ipc, TowerEdit, TowerLockLaws};
@@ -98,18 +98,28 @@ pub trait OwnedLock {
 
     /// Counts behind it: each of `cpus` CPUs does `times` sections that add 1.
     ///
-    /// Requires: `cpus` is at most [`CPUS`](event_log::CPUS). `times` is at most [`MOST_TIMES`].
+    /// Requires: `cpus` is from 1 to [`CPUS`](event_log::CPUS). `times` is at most [`MOST_TIMES`].
     ///
     /// Errors: `NoMemory` where memory ran out; then no section was done.
-    fn count(alloc: Global, cpus: u8, times: u64) -> Result<u64, NoMemory>
+    fn count(alloc: Global, cpus: u8, times: u64) -> Result<Counted, NoMemory>
+        requires some { 1 ≤ cpus }
         requires cpus { cpus ≤ CPUS }
         requires times { times ≤ MOST_TIMES }
-        ensures { IfOk result (λ number. number ≡ times * cpus) };
+        ensures number { IfOk result (λ counted. counted.number ≡ times * cpus) }
+        ensures lock { IfOk result (λ counted. counted.lock ≡ kind) };
 }
 
 /// A ticket lock.
 #[derive(Drop)]
 pub struct TicketLock;
+
+impl LockOfKind<Ticket<Plain<AddOne>>> for TicketLock {
+    ghost lock_kind = { kind.Ticket };
+
+    fn kind() -> LockKind {
+        LockKind::Ticket
+    }
+}
 
 impl OwnedLock for TicketLock {
     ghost kind = { kind.Ticket };
@@ -119,15 +129,23 @@ impl OwnedLock for TicketLock {
         over_sections::<V, Ticket<Plain<TowerEdit>>>(work)
     }
 
-    fn count(alloc: Global, cpus: u8, times: u64) -> Result<u64, NoMemory> {
+    fn count(alloc: Global, cpus: u8, times: u64) -> Result<Counted, NoMemory> {
         let _laws: CountLaws = PhantomData;
-        count_behind::<Ticket<Plain<AddOne>>>(alloc, cpus, times)
+        count_behind::<Ticket<Plain<AddOne>>, TicketLock>(alloc, cpus, times)
     }
 }
 
 /// A lock with a grant word for each waiter.
 #[derive(Drop)]
 pub struct GrantLock;
+
+impl LockOfKind<Grant<GrantPlain<AddOne>>> for GrantLock {
+    ghost lock_kind = { kind.Grant };
+
+    fn kind() -> LockKind {
+        LockKind::Grant
+    }
+}
 
 impl OwnedLock for GrantLock {
     ghost kind = { kind.Grant };
@@ -137,9 +155,9 @@ impl OwnedLock for GrantLock {
         over_sections::<V, Grant<GrantPlain<TowerEdit>>>(work)
     }
 
-    fn count(alloc: Global, cpus: u8, times: u64) -> Result<u64, NoMemory> {
+    fn count(alloc: Global, cpus: u8, times: u64) -> Result<Counted, NoMemory> {
         let _laws: CountLaws = PhantomData;
-        count_behind::<Grant<GrantPlain<AddOne>>>(alloc, cpus, times)
+        count_behind::<Grant<GrantPlain<AddOne>>, GrantLock>(alloc, cpus, times)
     }
 }
 

@@ -2,7 +2,7 @@
 
 ghost use Rattle.std.specs.Prelude.{◌≡◌, false, map};
 ghost use Rattle.tracer.specs.Sinks.{has_failed};
-ghost use Rattle.mctower.specs.{Output.IsPut, Output.between, Refusals.PutsRefusal, Refusals.from_count, Refusals.from_fault, Refusals.from_steps};
+ghost use Rattle.mctower.specs.{Output.IsPut, Output.between, Refusals.PutsRefusal, Refusals.from_fault, Refusals.from_steps};
 ghost use Rattle.mctower.specs.{Refusals.from_worker, Refusals.status_of_refusal};
 
 use crate::faults::{LineFault, write_fault};
@@ -11,7 +11,6 @@ use crate::run::Fault;
 use crate::schedule::StepsError;
 use boot::BootError;
 use cpu_workers::WorkerError;
-use cpu_workers::counting::CountFault;
 use std::io::Write;
 use tracer::Sink;
 
@@ -51,23 +50,13 @@ pub(crate) fn run_refused(fault: Fault) -> Refusal
     }
 }
 
-/// A fault of a count as a refusal.
-pub(crate) fn count_refused(fault: CountFault) -> Refusal
-    ensures { result ≡ from_count fault }
-{
-    match fault {
-        CountFault::NoMemory => Refusal::NoMemory,
-        CountFault::NoThread => Refusal::NoThread,
-    }
-}
-
-/// Why no worker took a step, as a refusal.
+/// Why no worker took a step, or did no section of a count, as a refusal.
 pub(crate) fn worker_refused(error: WorkerError) -> Refusal
     ensures { result ≡ from_worker error }
 {
     match error {
         WorkerError::NoMemory => Refusal::NoMemory,
-        WorkerError::NoThread => Refusal::NoThread,
+        WorkerError::NoThread(_) => Refusal::NoThread,
     }
 }
 

@@ -15,7 +15,7 @@ use crate::help::{VERSION, help_on};
 use crate::line::{LineError, MOST_TIMES, Order, read_line};
 use crate::print::print;
 use crate::refusals::{
-    Refusal, count_refused, run_refused, status_of_refusal, steps_refused, write_report,
+    Refusal, run_refused, status_of_refusal, steps_refused, worker_refused, write_report,
 };
 use crate::schedule::{MOST_STEPS, StepsError, read_steps};
 use crate::states::State;
@@ -72,23 +72,24 @@ fn serve_count<O: Write, T: Threads + Wait + Sync>(
     lock: LockKind,
     out: &mut Sink<O>,
 ) -> Result<Done, Refusal>
+    requires some { 1 ≤ cpus }
     requires cpus { cpus ≤ CPUS }
     requires times { times ≤ MOST_TIMES }
     requires live { has_failed out.old ≡ false }
     ensures counts { Counts (times * cpus) result (between O.contents out.old out.new) }
     ensures flushed { IfOk result (λ _. is_flushed out.new ≡ true) }
 {
-    let Ok(number) = count_plain(alloc, cpus, times, lock) else {
+    let Ok(in_machine) = count_plain(alloc, cpus, times, lock) else {
         return Err(Refusal::NoMemory);
     };
-    let shared = match count_table(rt, alloc, cpus, times, lock) {
-        Ok(shared) => shared,
-        Err(fault) => return Err(count_refused(fault)),
+    let in_table = match count_table(rt, alloc, cpus, times, lock) {
+        Ok(counted) => counted,
+        Err(fault) => return Err(worker_refused(fault)),
     };
     let mut plain = Buffer::new();
     let mut table = Buffer::new();
-    let plain = plain.format(number).as_bytes();
-    let table = table.format(shared).as_bytes();
+    let plain = plain.format(in_machine.number()).as_bytes();
+    let table = table.format(in_table.number()).as_bytes();
     let lines = [
         b"plain ".as_slice(),
         plain,

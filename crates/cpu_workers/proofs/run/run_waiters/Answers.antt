@@ -1,6 +1,6 @@
 use Rattle.std.proofs.Common.{map, sym, subst}
 use Rattle.cpu_workers.specs.Seating.{HaveLeft}
-use Rattle.cpu_workers.proofs.{SeatViews.all_covered, SeatViews.all_over, Observed.lawful_so}
+use Rattle.cpu_workers.proofs.{SeatViews.all_covered, SeatViews.all_over, Observed.words_so}
 use Rattle.cpu_workers.proofs.run.run_waiters.Goals as goal
 
 pub closed-requires-clause-covers : goal.closed-requires-clause-covers
@@ -21,7 +21,7 @@ returns g c =
     let back = c.in_ok-back.back in
     let e = c.closed.ensures in
     let r = c.closed.result in
-    lawful_so plan May c.args.turns (map (λ t. t.items) r.traces.items) r.taken.items r.stops.items r.blocks.items told.plan (record {
+    let it = words_so plan May c.args.turns (map (λ t. t.items) r.traces.items) r.taken.items r.stops.items r.blocks.items told.plan (record {
       table_view = table_view;
       cpus_are = told.cpus;
       distinct = told.distinct;
@@ -30,4 +30,5 @@ returns g c =
       left = subst (λ x. x) (λ i. HaveLeft plan May c.args.turns table_view back.keys.items (map (λ t. t.items) ((sym e.traces) i).items) ((sym e.taken) i).items
           ((sym e.stops) i).items) c.in_ok-back.ensures;
       closes = e.closes;
-    })
+    }) in
+    record { lawful = it.tells.report; words = it }

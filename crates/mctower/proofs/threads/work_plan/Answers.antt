@@ -15,7 +15,7 @@ write_text-requires-clause-text g c =
     ∙ ap (λ (n : ℕ). listed (λ b. items_of_block c.in-Ok-run_workers.report.blocks.items (buffer_at b)) 0 n)
     (c.len.ensures.value ∙ ap length c.caps-caps.ensures.caps) in
     subst (λ x. x) (λ i. HaveText (sym caps i) (sym traces i) (sym left i))
-    (report_has c.in-Ok.boot c.args.turns _ c.in-Ok.ensures.within c.in-Ok-run_workers.ensures)
+    (report_has c.in-Ok.boot c.args.turns _ c.in-Ok.ensures.within c.in-Ok-run_workers.ensures.lawful)
 
 pub returns-in-Err-write_text-clause-works : goal.returns-in-Err-write_text-clause-works
 returns-in-Err-write_text-clause-works g c =
@@ -25,7 +25,7 @@ returns-in-Err-write_text-clause-works g c =
     ∙ ap (λ (n : ℕ). listed (λ b. items_of_block c.in-Ok-run_workers.report.blocks.items (buffer_at b)) 0 n)
     (c.len.ensures.value ∙ ap length c.caps-caps.ensures.caps) in
     of_read (WorksPlan c.args.turns) c.in-Ok.boot (plan_of c.args.plan.now) _ _ c.in-Ok.ensures.plan
-    (not_written (Unit {0}) c.args.turns c.in-Ok.boot _ c.in-Ok-run_workers.report.stops c.in-Err-write_text.fault _ _ c.in-Ok-run_workers.ensures refl
+    (not_written (Unit {0}) c.args.turns c.in-Ok.boot _ c.in-Ok-run_workers.report.stops c.in-Err-write_text.fault _ _ c.in-Ok-run_workers.ensures.lawful refl
     (subst (λ x. x) (λ i. Writes {A = Unit {0}} (caps i) (traces i) (left i) (Err c.in-Err-write_text.fault)
     (between g.O.Write.contents c.args.out.now c.write_text.new.sink)) c.in-Err-write_text.ensures)
     c.run_refused-in-Err-write_text.ensures)
@@ -40,7 +40,7 @@ returns-clause-works g c =
     of_read (WorksPlan c.args.turns) c.in-Ok.boot (plan_of c.args.plan.now) _ _ c.in-Ok.ensures.plan
     (inr (worked c.args.turns c.in-Ok.boot _ c.in-Ok-run_workers.report.stops c.put_out.result
     (between g.O.Write.contents c.args.out.now c.write_text.new.sink) (between g.O.Write.contents c.args.out.now c.put_out.new.out)
-    c.in-Ok-run_workers.ensures refl
+    c.in-Ok-run_workers.ensures.lawful refl
     (subst (λ x. x) (λ i. Writes {A = Unit {0}} (caps i) (traces i) (left i) (Ok c.in_default.field-0)
     (between g.O.Write.contents c.args.out.now c.write_text.new.sink)) c.in_default.ensures)
     c.put_out.ensures.put.0 c.put_out.ensures.put.1 refl))

@@ -1,0 +1,23 @@
+-- The report of a plan's workers beside the words log in which they acted.
+use Rattle.std.specs.Prelude.{◌≡◌, ℕ, reverse, Option}
+use Rattle.boot.specs.Plan.{BootPlan}
+use Rattle.event_log.specs.{declared.ids.CpuId.CpuId, declared.ids.LockId.LockId, History.IsLawful}
+use Rattle.layer_traits.specs.WordsProtocol.{MayCome}
+use Rattle.cpu.specs.{Sound.setup_for, Table.Setups.Setup, Tower.Composed.named}
+use Rattle.cpu_workers.specs.{declared.gates.Go.Go, Closing.WordsOfTower, Closing.acts_in, Closing.tower_rules, Lawful.IsLawfulReport, Lawful.Shown}
+use Rattle.cpu_workers.specs.{Orders.effects_of, Seating.Block, Seating.OpensPlan}
+
+-- a lawful report of this words log: the list along which each CPU went by the step table is that of the log's actions, and the order of the
+-- traces is that of the effects of the log's frees
+pub record IsReportOfWords (setup : Setup) (May : CpuId → Go → ℕ → Type 0) (turns : ℕ) (words : WordsOfTower) (r : Shown) : Type 0 where
+  pub report : IsLawfulReport setup May turns r
+  pub log_is : report.log ≡ named (acts_in words)
+  pub order_is : report.report.order ≡ reverse (effects_of setup.caps (acts_in words))
+
+-- the report of a plan's workers is that of one words log, which is legal over the locks as the plan opens them
+pub record HasWords (plan : BootPlan) (May : CpuId → Go → ℕ → Type 0) (turns : ℕ) (r : Shown) : Type 0 where
+  pub opening : LockId → Option Block
+  pub opens : OpensPlan plan opening
+  pub words : WordsOfTower
+  pub legal : IsLawful (MayCome (tower_rules.allowed opening)) words
+  pub tells : IsReportOfWords (setup_for plan) May turns words r
