@@ -435,9 +435,9 @@ source_row 'who names Wait, Mutex or Condvar' $'cpu_workers\nmctower' "$(waiting
 source_row 'what each error says of itself' "$named" "$(errors)"
 # A start is told as refused (`NoThread`) only where one was: its refusal is named in the pool of threads, and where it becomes that evidence.
 source_row 'who names a refused start' $'crates/cpu_workers/src/pool.rt\ncrates/cpu_workers/src/refusals.rt' "$(grep -rlw --include='*.rt' SpawnError crates/*/src | sort)"
-# Who says NoMemory was refused memory: the type is made from the allocator's refusal alone. Such a refusal is made up at two places, where a library of the kit
-# tells of it without a value: toml's parser by a flag, and the table of atomic words by a type of its own.
-source_row 'who makes up a refused allocation' $'boot/src/plans.rt\ntable_machine/src/open.rt' "$(made_up crates)"
+# Who says NoMemory was refused memory: the type is made from the allocator's refusal alone. Such a refusal is made up at three places, where a library of the kit
+# tells of it without a value: toml's parser by a flag, clap and readers by a kind of error, and the table of atomic words by a type of its own.
+source_row 'who makes up a refused allocation' $'boot/src/plans.rt\nmctower/src/memory.rt\ntable_machine/src/open.rt' "$(made_up crates)"
 mkdir -p "$room/of/src"
 cat > "$room/of/src/right.rt" <<'END'
 use std::alloc::{AllocError, AllocFailed, Global};

@@ -5,10 +5,9 @@ use Rattle.std.specs.{List.find, Option.is_none}
 use Rattle.clap.specs.{Kinds.IsAmong, Walk.Row, Walk.Text, Walk.first_of, declared.error.kind.ErrorKind.ErrorKind}
 use Rattle.clap.specs.declared.error.kind.ErrorKind.TheVariants.{UnknownArgument, InvalidSubcommand, MissingRequiredArgument, ArgumentConflict, InvalidValue}
 use Rattle.clap.specs.declared.error.kind.ErrorKind.TheVariants.{TooManyValues, DisplayHelp, DisplayVersion, OutOfMemory}
-use Rattle.event_log.specs.declared.ids.TheConstants.{CPUS}
+use Rattle.event_log.specs.declared.{ids.TheConstants.CPUS, refusals.NoMemory.NoMemory}
 use Rattle.mctower.specs.{Help.topic_of, Help.usage_of, Line.faults_of, Line.found_in, Line.is_taken, Line.lock_asked, Line.number_at, Print.shown_line}
-use Rattle.mctower.specs.declared.line.{TheConstants.MOST_TIMES, TheConstants.MOST_TURNS, LineError.LineError}
-use Rattle.mctower.specs.declared.line.LineError.TheVariants.{NoMemory, Refused}
+use Rattle.mctower.specs.declared.line.{TheConstants.MOST_TIMES, TheConstants.MOST_TURNS}
 use Rattle.mctower.specs.declared.faults.{NoOrder.NoOrder, NoOrder.TheVariants.AsksHelp, NoOrder.TheVariants.AsksVersion, NoOrder.TheVariants.Faulty}
 use Rattle.mctower.specs.declared.faults.{LineFault.LineFault, LineFault.TheVariants.NotText, LineFault.TheVariants.NoCommand, LineFault.TheVariants.Words}
 use Rattle.mctower.specs.declared.faults.{LineFault.TheVariants.Value, ValueOption.ValueOption, ValueOption.TheVariants.Cpus, ValueOption.TheVariants.Times}
@@ -81,20 +80,18 @@ IsWhy words AsksVersion = IsAmong DisplayVersion (faults_of words)
 IsWhy words (Faulty fault) = IsFault words fault
 
 -- why the words make no order is told, memory aside
-abbrev pub TellsWhy : List Text → Result NoOrder LineError → Type 0
+abbrev pub TellsWhy : List Text → Result NoOrder NoMemory → Type 0
 TellsWhy words (Ok why) = IsWhy words why
-TellsWhy words (Err NoMemory) = Unit {0}
-TellsWhy words (Err Refused) = ⊥
+TellsWhy words (Err refused) = Unit {0}
 
 -- a refusal of clap of this kind is told as what it is, memory aside
-abbrev pub TellsKind : ErrorKind → Result NoOrder LineError → Type 0
+abbrev pub TellsKind : ErrorKind → Result NoOrder NoMemory → Type 0
 TellsKind kind (Ok AsksHelp) = kind ≡ DisplayHelp
 TellsKind kind (Ok AsksVersion) = kind ≡ DisplayVersion
 TellsKind kind (Ok (Faulty (Words told named))) =
     (kind ≡ told) × (kind ≢ OutOfMemory) × (kind ≢ DisplayHelp) × (kind ≢ DisplayVersion) × IsShown named.bytes
 TellsKind kind (Ok (Faulty fault)) = ⊥
-TellsKind kind (Err NoMemory) = Unit {0}
-TellsKind kind (Err Refused) = ⊥
+TellsKind kind (Err refused) = Unit {0}
 
 -- ---- the lines that tell it
 

@@ -46,7 +46,7 @@ pub record IsPrinted (IsStepwise : Type 0) (plan : BootPlan) (steps : List CpuId
 -- system takes the steps, and its text is written
 abbrev pub RunsPlan : Type 0 → BootPlan → List CpuId → Result Shown Fault → Output → Type 0
 RunsPlan IsStepwise plan steps (Ok s) out = (out.failed ≡ false) × IsPrinted IsStepwise plan steps s out
-RunsPlan IsStepwise plan steps (Err NoMemory) out = IsUntouched out
+RunsPlan IsStepwise plan steps (Err (NoMemory refused)) out = IsUntouched out
 RunsPlan IsStepwise plan steps (Err (Boot e)) out = ⊥
 RunsPlan IsStepwise plan steps (Err BadCpu) out = (¬ AreCpus plan.cpus steps) × IsUntouched out
 RunsPlan IsStepwise plan steps (Err NoOrder) out = ⊥
@@ -57,7 +57,7 @@ RunsPlan IsStepwise plan steps (Err WriteFault) out = (out.failed ≡ true) × (
 -- what a run answers where the plan's text is refused: that refusal, before anything is written
 abbrev pub Refuses : BootError → Result Shown Fault → Output → Type 0
 Refuses e (Ok s) out = ⊥
-Refuses e (Err NoMemory) out = IsUntouched out
+Refuses e (Err (NoMemory refused)) out = IsUntouched out
 Refuses e (Err (Boot f)) out = (f ≡ e) × IsUntouched out
 Refuses e (Err BadCpu) out = ⊥
 Refuses e (Err NoOrder) out = ⊥

@@ -89,9 +89,7 @@ fn number_machine<L: OwnedLocks<AddOne>>(
     ensures room { IfOk result (λ m. L.room m ≡ events) }
 {
     let mut blocks = Vec::new(alloc);
-    if blocks.push((NUMBER, 0)).is_err() {
-        return Err(NoMemory);
-    }
+    blocks.push((NUMBER, 0))?;
     L::open(alloc, blocks, events)
 }
 
@@ -121,9 +119,7 @@ where
     ensures order { IfOk result (λ m. L.acts m ≡ after_rounds NUMBER cpus times []) }
 {
     let mut machine = number_machine::<L>(alloc, 3 * times as usize * cpus as usize)?;
-    let Ok(mut parts) = parts_of::<L>(alloc, cpus) else {
-        return Err(NoMemory);
-    };
+    let mut parts = parts_of::<L>(alloc, cpus)?;
     rounds(parts.as_mut_slice(), &mut machine, NUMBER, times);
     Ok(machine)
 }
@@ -158,12 +154,7 @@ where
 /// Requires: `cpus` is from 1 to [`CPUS`](event_log::CPUS). `times` is at most [`MOST_TIMES`].
 ///
 /// Errors: `NoMemory` where memory ran out; then no section was done.
-pub fn count_plain(
-    alloc: Global,
-    cpus: u8,
-    times: u64,
-    lock: LockKind,
-) -> Result<Counted, NoMemory>
+pub fn count_plain(alloc: Global, cpus: u8, times: u64, lock: LockKind) -> Result<Counted, NoMemory>
     requires some { 1 ≤ cpus }
     requires cpus { cpus ≤ CPUS }
     requires times { times ≤ MOST_TIMES }

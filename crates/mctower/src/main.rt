@@ -23,6 +23,7 @@ pub mod faults;
 mod help;
 pub mod line;
 pub mod locks;
+mod memory;
 pub mod print;
 pub mod reading;
 pub mod refusals;
@@ -34,10 +35,11 @@ pub mod texts;
 pub mod threads;
 pub mod tower;
 
+use event_log::NoMemory;
 use faults::LineFault;
 use refusals::{Refusal, status_of_refusal, write_report};
 use serve::{read_refused, serve};
-use std::alloc::{AllocError, Global};
+use std::alloc::Global;
 use std::io::{BufWriter, Read, Write};
 use std::process::ExitCode;
 use std::sync::Wait;
@@ -59,7 +61,7 @@ fn words_after_the_name(rt: &HostRuntime) -> Result<Vec<String>, Refusal> {
     match env::args(rt) {
         Ok(args) => match args.skip(1).collect(rt.alloc()) {
             Ok(words) => Ok(words),
-            Err(_) => Err(Refusal::NoMemory),
+            Err(error) => Err(Refusal::NoMemory(NoMemory::from(error))),
         },
         Err(error) => {
             if error.kind() == io::ErrorKind::InvalidData {
@@ -72,7 +74,7 @@ fn words_after_the_name(rt: &HostRuntime) -> Result<Vec<String>, Refusal> {
 }
 
 /// The words as texts.
-fn texts_of<'w>(alloc: Global, words: &'w [String]) -> Result<Vec<&'w str>, AllocError>
+fn texts_of<'w>(alloc: Global, words: &'w [String]) -> Result<Vec<&'w str>, NoMemory>
     ensures { IfOk result (λ texts. map (λ t. t.now) texts.items ≡ map string_bytes words.entry.now) }
 {
     let mut texts = Vec::new(alloc);
@@ -114,6 +116,6 @@ fn serve_words<T: AllocGlobal + Threads + Wait + Sync, R: Read, O: Write, E: Wri
     };
     match texts_of(rt.alloc(), words.as_slice()) {
         Ok(texts) => ExitCode::from(serve(rt, rt.alloc(), texts.as_slice(), input, out, err)),
-        Err(_) => refused(err, &[], Refusal::NoMemory),
+        Err(lacking) => refused(err, &[], Refusal::NoMemory(lacking)),
     }
 }

@@ -2,7 +2,7 @@
 //! No call waits, unless the sink's writer does.
 
 ghost use Rattle.std.specs.Prelude.{◌≡◌, ◌≤◌, false, length, map, IfOk};
-ghost use Rattle.event_log.specs.declared.ids.TheConstants.{BUFFERS};
+ghost use Rattle.event_log.specs.{declared.ids.TheConstants.BUFFERS, Refusals.no_memory};
 ghost use Rattle.boot.specs.Plan.{plan_of};
 ghost use Rattle.tracer.specs.{Gather.traces_in, Sinks.has_failed};
 ghost use Rattle.cpu.specs.Claims.{traces_of};
@@ -26,8 +26,8 @@ use tracer::{GatherError, Sink, WriteFault};
 #[derive(Clone, Copy, Debug, PartialEq, Eq, Error)]
 pub enum Fault {
     /// An allocation was refused.
-    #[error("NoMemory(1)")]
-    NoMemory,
+    #[error("{0}")]
+    NoMemory(NoMemory),
     /// The plan is refused.
     #[error("{0}")]
     Boot(BootError),
@@ -43,26 +43,26 @@ pub enum Fault {
 }
 
 impl From<AllocError> for Fault {
-    ghost from_gives = { λ _ e. e ≡ NoMemory };
+    ghost from_gives = { λ _ e. e ≡ NoMemory no_memory };
 
-    fn from(_error: AllocError) -> Fault {
-        Fault::NoMemory
+    fn from(error: AllocError) -> Fault {
+        Fault::NoMemory(NoMemory::from(error))
     }
 }
 
 impl<T: Drop> From<AllocFailed<T>> for Fault {
-    ghost from_gives = { λ _ e. e ≡ NoMemory };
+    ghost from_gives = { λ _ e. e ≡ NoMemory no_memory };
 
-    fn from(_error: AllocFailed<T>) -> Fault {
-        Fault::NoMemory
+    fn from(error: AllocFailed<T>) -> Fault {
+        Fault::NoMemory(NoMemory::from(error))
     }
 }
 
 impl From<NoMemory> for Fault {
-    ghost from_gives = { λ _ e. e ≡ NoMemory };
+    ghost from_gives = { λ _ e. e ≡ NoMemory no_memory };
 
-    fn from(_error: NoMemory) -> Fault {
-        Fault::NoMemory
+    fn from(error: NoMemory) -> Fault {
+        Fault::NoMemory(error)
     }
 }
 
@@ -71,7 +71,7 @@ impl From<BootError> for Fault {
 
     fn from(error: BootError) -> Fault {
         match error {
-            BootError::NoMemory => Fault::NoMemory,
+            BootError::NoMemory(refused) => Fault::NoMemory(refused),
             refused => Fault::Boot(refused),
         }
     }
@@ -92,7 +92,7 @@ impl From<GatherError> for Fault {
 
     fn from(error: GatherError) -> Fault {
         match error {
-            GatherError::NoMemory => Fault::NoMemory,
+            GatherError::NoMemory(refused) => Fault::NoMemory(refused),
             GatherError::NoOrder => Fault::NoOrder,
         }
     }

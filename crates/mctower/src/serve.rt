@@ -13,6 +13,7 @@ use crate::count::{count_plain, count_table};
 use crate::faults::{NoOrder, why_no_order};
 use crate::help::{VERSION, help_on};
 use crate::line::{LineError, MOST_TIMES, Order, read_line};
+use crate::memory::told_by_io;
 use crate::print::print;
 use crate::refusals::{
     Refusal, run_refused, status_of_refusal, steps_refused, worker_refused, write_report,
@@ -79,8 +80,9 @@ fn serve_count<O: Write, T: Threads + Wait + Sync>(
     ensures counts { Counts (times * cpus) result (between O.contents out.old out.new) }
     ensures flushed { IfOk result (λ _. is_flushed out.new ≡ true) }
 {
-    let Ok(in_machine) = count_plain(alloc, cpus, times, lock) else {
-        return Err(Refusal::NoMemory);
+    let in_machine = match count_plain(alloc, cpus, times, lock) {
+        Ok(counted) => counted,
+        Err(refused) => return Err(Refusal::NoMemory(refused)),
     };
     let in_table = match count_table(rt, alloc, cpus, times, lock) {
         Ok(counted) => counted,
@@ -104,9 +106,9 @@ fn serve_count<O: Write, T: Threads + Wait + Sync>(
 pub(crate) fn read_refused(kind: io::ErrorKind) -> Refusal
     ensures { result ≡ kind_refused kind }
 {
-    match kind {
-        io::ErrorKind::OutOfMemory => Refusal::NoMemory,
-        _ => Refusal::ReadFault,
+    match told_by_io(kind) {
+        Some(refused) => Refusal::NoMemory(refused),
+        None => Refusal::ReadFault,
     }
 }
 
@@ -144,7 +146,7 @@ fn print_verdict<O: Write>(verdict: Verdict, out: &mut Sink<O>) -> Result<Done, 
             ];
             put_out(out, &pieces, Done::Exit(3))
         }
-        Verdict::NoMemory => Err(Refusal::NoMemory),
+        Verdict::NoMemory(refused) => Err(Refusal::NoMemory(refused)),
     }
 }
 
@@ -240,7 +242,7 @@ fn serve_no_order<O: Write>(
             put_out(out, &[name, version, b"\n".as_slice()], Done::Exit(2))
         }
         Ok(NoOrder::Faulty(fault)) => Err(Refusal::BadLine(fault)),
-        Err(_) => Err(Refusal::NoMemory),
+        Err(refused) => Err(Refusal::NoMemory(refused)),
     }
 }
 
@@ -259,7 +261,7 @@ fn answer<R: Read, O: Write, T: Threads + Wait + Sync>(
     ensures unread { reads_input (order_of (map (λ w. w.now) words.now)) ≡ false → input.new ≡ input.old }
 {
     match read_line(alloc, words) {
-        Err(LineError::NoMemory) => Err(Refusal::NoMemory),
+        Err(LineError::NoMemory(refused)) => Err(Refusal::NoMemory(refused)),
         Err(LineError::Refused) => serve_no_order(alloc, words, out),
         Ok(Order::Count(cpus, times, lock)) => serve_count(rt, alloc, cpus, times, lock, out),
         Ok(Order::Check) => serve_check(alloc, input, out),

@@ -6,6 +6,7 @@
 
 ghost use Rattle.std.specs.Prelude.{◌≡◌, ◌≤◌, ◌⊎◌, Err, false, length};
 ghost use Rattle.boot.specs.Plan.{plan_of};
+ghost use Rattle.event_log.specs.Refusals.{no_memory};
 ghost use Rattle.tracer.specs.Sinks.{has_failed};
 ghost use Rattle.mctower.specs.{Output.between, Running.RunsOverTower, Running.lock_in};
 ghost use Rattle.mctower.specs.declared.run.Fault.TheVariants as fault;
@@ -124,7 +125,7 @@ impl<O: Write> OverTower for PlanRun<'_, '_, '_, O> {
 ///
 /// Errors: `Boot` where the plan is refused, and why. `NoMemory` where an allocation was refused.
 fn lock_of(alloc: Global, plan: &str) -> Result<LockKind, Fault>
-    ensures { (result ≡ Err fault.NoMemory) ⊎ (result ≡ lock_in (plan_of plan.now)) }
+    ensures { (result ≡ Err (fault.NoMemory no_memory)) ⊎ (result ≡ lock_in (plan_of plan.now)) }
 {
     let boot = Boot::read(alloc, plan)?;
     Ok(boot.lock())
