@@ -39,7 +39,7 @@ LINK = re.compile(r"\]\(([^):\s]+)\)")
 # A line of a source that is a comment: what only a comment says is not there.
 REMARK = re.compile(r"^\s*(?://|-- |# ).*$", re.M)
 # What docs cite and no file of this tree says: crates of the kit, and the end of a family of names.
-EXCEPT = {"rt", "clap", "toml", "thiserror", "arrayvec", "itoa", "atomic_table", "crossbeam_utils", "_here"}
+EXCEPT = {"rt", "clap", "toml", "thiserror", "arrayvec", "itoa", "atomic_table", "_here"}
 # Paths that no list of files has: what a build makes, and a path with a name to put in.
 MADE = re.compile(r"(^|/)out(/|$)|/NAME/")
 

@@ -200,6 +200,7 @@ rows() {
   row 1 '' $'error: OutOfRange(22) cpus\n' 'echo cpus = 17 | mctower run'
   row 1 '' $'error: OutOfRange(22) cpus\n' 'echo cpus = 17 | mctower threads --turns 9'
   row 1 '' $'error: BadToml(20)\n' "printf '# \\xff\\n' | mctower run"
+  row 1 '' $'error: BadToml(20)\n' "printf '# \\xff\\n' | mctower threads --turns 9"
   # each change of a trace text alone, and the first line with a fault
   verdict '1 Spelling(30)' 'head -c 0'
   verdict '1 Spelling(30)' "sed '1s/\$/\\r/'"
@@ -318,6 +319,16 @@ rows() {
   # the longest schedule where there is memory: eight CPUs, whose messages get through all sixteen buffers
   patience=60 row 0 $'yes\n35264\n' '~cpu 0 live' \
     "bench/make.py plan through | mctower run --schedule \"\$(bench/make.py schedule)\" > '$room/long' && mctower check < '$room/long' && grep -c '^e ' '$room/long'"
+  # the longest traces: the threads of nine CPUs fill them, and the order of all their entries is gathered and judged
+  {
+    printf 'cpus = 9\ntrace = 65536\nbuffers = [32, 32, 32, 32, 32, 32, 32, 32, 32]\n'
+    for cpu in {0..8}; do
+      printf '[[thread]]\ncpu = %d\nprogram = ["set r0 7", "set r1 1", "send %d r0", "jnz r1 2"]\n' "$cpu" "$cpu"
+      printf '[[thread]]\ncpu = %d\nprogram = ["set r1 1", "recv %d r0", "jnz r1 1"]\n' "$cpu" "$cpu"
+    done
+  } > "$room/full"
+  patience=120 row 0 $'yes\n589815\n' "$(printf 'cpu %d TraceFull\n' {0..8})"$'\n' \
+    "mctower threads --turns 1000000000 < '$room/full' > '$room/long' && mctower check < '$room/long' && grep -c '^e ' '$room/long'"
   # room for one thread's stack, and not for two; no room for the longest schedule
   row 0 $'plain 3\ntable 3\n' '' "$one_stack; mctower count --cpus 1 --times 3"
   row 1 '' $'error: NoThread(5)\n' "$one_stack; mctower count --cpus 2 --times 3"
@@ -422,11 +433,11 @@ fi
 # The prover lets a function wait that is given the trait for it. Workers and the program are, and none of the crates beneath: no layer waits.
 source_row 'who names Wait, Mutex or Condvar' $'cpu_workers\nmctower' "$(waiting)"
 source_row 'what each error says of itself' "$named" "$(errors)"
-# What starts threads and joins them stands in the crate of the workers.
-source_row 'who stands on crossbeam_utils' cpu_workers "$(sed -n 's/^\([a-z_]*\):.*\<crossbeam_utils\>.*/\1/p' crates.txt)"
-# Who says NoMemory was refused memory: the type is made from the allocator's refusal alone. Such a refusal is made up at two places, where a library of the kit
-# tells of it without a value: toml's parser by a flag, and the table of atomic words by a type of its own.
-source_row 'who makes up a refused allocation' $'boot/src/plans.rt\ntable_machine/src/open.rt' "$(made_up crates)"
+# A start is told as refused (`NoThread`) only where one was: its refusal is named in the pool of threads, and where it becomes that evidence.
+source_row 'who names a refused start' $'crates/cpu_workers/src/pool.rt\ncrates/cpu_workers/src/refusals.rt' "$(grep -rlw --include='*.rt' SpawnError crates/*/src | sort)"
+# Who says NoMemory was refused memory: the type is made from the allocator's refusal alone. Such a refusal is made up at three places, where a library of the kit
+# tells of it without a value: toml's parser by a flag, clap and readers by a kind of error, and the table of atomic words by a type of its own.
+source_row 'who makes up a refused allocation' $'boot/src/plans.rt\nmctower/src/memory.rt\ntable_machine/src/open.rt' "$(made_up crates)"
 mkdir -p "$room/of/src"
 cat > "$room/of/src/right.rt" <<'END'
 use std::alloc::{AllocError, AllocFailed, Global};

@@ -12,7 +12,7 @@ use Rattle.event_log.specs.{WordsLog.frees, WordsLog.lock_phase, Sections.Sectio
 use Rattle.layer_traits.specs.{declared.edits.Mark.Mark, OneLock.opened, Protocol.section, WordsProtocol.edit_of, WordsProtocol.sections, BufferLaw.MayGoOn}
 use Rattle.table_machine.specs.SeatViews.{TableView, SeatView, site_of, new_seat_view, new_seat_views, Covers, IsOver, Closes}
 use Rattle.cpu_workers.specs.{declared.counting.AddOne.AddOne, declared.counting.TheConstants.NUMBER, Counts.counting, Counts.sections_at, Counts.made}
-use Rattle.cpu_workers.specs.{Counts.HasMade, Counts.AllHaveMade, Counts.IsFresh, Counts.IsNumberOfFrees, Counts.nowhere, Reports.Both}
+use Rattle.cpu_workers.specs.{Counts.HasMade, Counts.AllHaveMade, Counts.IsFresh, Counts.IsNumberOfFrees, Reports.Both}
 use mathlib.Core.Logic.{dite}
 use native.Mathlib.Decide.{ℕ_discrete, dec_le}
 use lib.ListN.{get_or-append}
@@ -66,6 +66,14 @@ goes_on under_way answered s t is waits same =
     let now : under_way ≡ Some s = is ∙ ap (λ b. if b then None else Some s) waits in
     subst (λ (u : Option _). MayGoOn u t) (sym now) same
 
+-- no table at all
+abbrev nowhere : TableView ℕ
+nowhere = record {
+  table = record { words = 0; slots = 0; views_name = 0; atom = 0; block = 0; offset = 0; slot_names = [] };
+  start = [];
+  cpus = 0;
+}
+
 -- a table view of the table of these numbers
 abbrev table_view_of : List ℕ → TableView ℕ
 table_view_of (words ∷ slots ∷ views_name ∷ atom ∷ block ∷ offset ∷ names) = record {
@@ -85,10 +93,6 @@ has_made lock old new cpu times of is table outside more = record {
   outside = subst (λ c. lock_phase c new.seen ≡ Idle) is outside;
   more = subst (λ c. made c lock (sections new.seen) ≡ made c lock (sections old.seen) + times) of more;
 }
-
--- what the promise of a worker says of its key
-pub kept_for : {E B : Type 0} (lock : LockId) (d e r : SeatView E B) (times turns : ℕ) → e ≡ d → turns ≡ times → HasMade lock e r turns → HasMade lock d r times
-kept_for lock d e r times turns d_is times_is made = subst (λ (x : SeatView _ _). HasMade lock x r times) d_is (subst (λ (n : ℕ). HasMade lock e r n) times_is made)
 
 -- the numbers of the CPUs below n, added up
 unfoldable pub total : (CpuId → ℕ) → ℕ → ℕ
@@ -260,23 +264,6 @@ module _ (times : ℕ) (table_view : TableView ℕ) (came : List (SeatView AddOn
 pub number_read : (blocks : List (LockId × ℕ)) (n : ℕ) (o : LockId × ℕ) → slice_get blocks 0 ≡ Some (NUMBER, n) → o ≡ get_or blocks 0 o → o.1 ≡ n
 number_read blocks n o at is = ap (λ (p : LockId × ℕ). p.1) (is ∙ get_or_from_slice_get blocks 0 (NUMBER, n) o at)
 
--- the turn of one more is below the number of keys
-pub turn_below : {A B : Type 0} (ys xs rest all : List A) (x : A) (keys : List B) (at : ℕ) → at ≡ length ys → ys ++ xs ≡ all
-    → xs ≡ x ∷ rest → length all ≡ length keys → at < length keys
-turn_below ys xs rest all x keys at turn whole is many =
-    let long : length ys + length xs ≡ length all = sym (length-append ys xs) ∙ ap length whole in
-    let more : length xs ≡ suc (length rest) = ap length is in
-    omega arith
-
--- one key more has its own in the other list
-pub both_taken : {A H : Type 0} (Fits : A → H → Type 0) (keys : List A) (at : ℕ) (d x : A) (hs all : List H) (h : H) → at < length keys
-    → Both Fits (take at keys) hs → x ≡ get_or keys at d → Fits x h → all ≡ hs ++ h ∷ [] → Both Fits (take (at + 1) keys) all
-both_taken Fits keys at d x hs all h below so_far is fits grown =
-    let fits_here : Fits (get_or keys at d) h = subst (λ (y : _). Fits y h) is fits in
-    let more : Both Fits (take at keys ++ get_or keys at d ∷ []) (hs ++ h ∷ []) = both_more Fits (take at keys) hs (get_or keys at d) h so_far fits_here in
-    subst (λ (zs : List _). Both Fits (take (at + 1) keys) zs) (sym grown)
-    (subst (λ (ys : List _). Both Fits ys (hs ++ h ∷ [])) (sym (take_more keys at d below)) more)
-
 -- the keys of a new table are fresh
 pub new_fresh : {E B : Type 0} (table_view : TableView B) (n : ℕ) → All (IsFresh {E = E} table_view) (new_seat_views table_view n)
 new_fresh table_view zero k d below = absurd (omega arith)
@@ -293,19 +280,6 @@ new_fresh {E = E} table_view (suc n) k d below = dite (ℕ_discrete k n)
     let under : k < n = omega arith in
     let there : k < length (new_seat_views {E = E} table_view n) = subst (λ m. k < m) (sym (length_new E table_view n)) under in
     subst (λ (x : SeatView _ _). IsFresh table_view x) (sym (get_or-append (new_seat_views table_view n) (new_seat_view table_view n ∷ []) d k there)) (new_fresh table_view n k d there))
-
--- so many children, one for each key that was taken, leave room for one more
-pub room_at : {A B : Type 0} (keys : List A) (children : List B) (at n cap : ℕ) → at < length keys → length children ≡ length (take at keys)
-    → length keys ≤ cap → n ≡ length children → n < cap
-room_at keys children at n cap below same room count = let short = length-take at keys in omega arith
-
-pub taken_within : {A B : Type 0} (keys : List A) (children : List B) (at cap : ℕ) → length children ≡ length (take at keys) → length keys ≤ cap
-    → length children ≤ cap
-taken_within keys children at cap same room = let short = length-take at keys in omega arith
-
--- all keys were taken
-pub taken_all : {A C : Type 0} (keys : List A) (at : ℕ) (ys all : List C) → at ≡ length ys → ys ≡ all → length all ≡ length keys → take at keys ≡ keys
-taken_all keys at ys all turn is many = let long = ap length is in take_all at keys (omega arith)
 
 -- the keys of a new table have made no section
 pub new_have_made_none : (E : Type 0) {B : Type 0} (lock : LockId) (table_view : TableView B) (n : ℕ)

@@ -1,8 +1,7 @@
 -- Lists whose elements belong together, and loops over them.
-use Rattle.std.proofs.Common.{◌≡◌, ℕ, suc, ◌+◌, ◌<◌, ◌≤◌, List, [], ◌∷◌, ◌++◌, length, All, refl, ap, sym, ◌∙◌, subst, length-append, arith}
-use Rattle.std.specs.Prelude.{Option, MatchOption}
-use Rattle.event_log.specs.declared.ids.CpuId.{CpuId}
-use Rattle.cpu_workers.specs.{declared.gates.Go.Go, declared.stops.Stop.Stop, Working.Working, Reports.Both, Reports.HasRun}
+use Rattle.std.proofs.Common.{◌≡◌, ℕ, zero, suc, ◌+◌, ◌<◌, ◌≤◌, List, [], ◌∷◌, ◌++◌, length, map, All, refl, ap, sym, ◌∙◌, subst, length-append, arith}
+use Rattle.std.specs.Prelude.{Result, Err, MatchResult}
+use Rattle.cpu_workers.specs.Reports.{Both}
 pub use Rattle.table_machine.proofs.Returning.{all_tail, no_more, yield_more}
 
 module _ {A B : Type 0} (Fits : A → B → Type 0) where
@@ -18,6 +17,25 @@ module _ {A B : Type 0} (Fits : A → B → Type 0) where
   both_length (w ∷ xs) [] all = absurd all
   both_length (w ∷ xs) (z ∷ ys) all = ap suc (both_length xs ys all.1)
 
+module _ {A B : Type 0} (f : A → B) where
+  pub map_more : (xs : List A) (x : A) → map f (xs ++ x ∷ []) ≡ map f xs ++ f x ∷ []
+  map_more [] x = refl
+  map_more (w ∷ xs) x = ap (λ l. f w ∷ l) (map_more xs x)
+
+  -- one more of what such a list is of
+  pub mapped_more : (ys ys' : List B) (xs : List A) (x : A) (y : B) → ys ≡ map f xs → ys' ≡ ys ++ y ∷ [] → y ≡ f x → ys' ≡ map f (xs ++ x ∷ [])
+  mapped_more ys ys' xs x y is more same =
+      more ∙ (ap (λ (l : List B). l ++ y ∷ []) is ∙ (ap (λ (z : B). map f xs ++ z ∷ []) same ∙ sym (map_more xs x)))
+
+  -- and of what a list is to such a one
+  pub map_grows : (xs xs' : List A) (ys : List B) (x : A) (y : B) → map f xs ≡ ys → xs' ≡ xs ++ x ∷ [] → f x ≡ y → map f xs' ≡ ys ++ y ∷ []
+  map_grows xs xs' ys x y is more same =
+      ap (λ (l : List A). map f l) more ∙ (map_more xs x ∙ (ap (λ (l : List B). l ++ f x ∷ []) is ∙ ap (λ (z : B). ys ++ z ∷ []) same))
+
+  pub map_length : (xs : List A) → length (map f xs) ≡ length xs
+  map_length [] = refl
+  map_length (w ∷ xs) = ap suc (map_length xs)
+
 pub both_then : {A B C : Type 0} (P : A → B → Type 0) (Q : B → C → Type 0) (S : A → C → Type 0) → ((a : A) (b : B) (c : C) → P a b → Q b c → S a c)
     → (xs : List A) (ys : List B) (zs : List C) → Both P xs ys → Both Q ys zs → Both S xs zs
 both_then P Q S step [] [] [] p q = tt
@@ -26,6 +44,14 @@ both_then P Q S step [] (y ∷ ys) zs p q = absurd p
 both_then P Q S step (x ∷ xs) [] zs p q = absurd p
 both_then P Q S step (x ∷ xs) (y ∷ ys) [] p q = absurd q
 both_then P Q S step (x ∷ xs) (y ∷ ys) (z ∷ zs) p q = (step x y z p.0 q.0, both_then P Q S step xs ys zs p.1 q.1)
+
+-- a list is that of what belongs to each of it
+pub both_map : {A B : Type 0} (Fits : A → B → Type 0) (f : B → A) → ((a : A) (b : B) → Fits a b → f b ≡ a) → (xs : List A) (ys : List B) → Both Fits xs ys
+    → map f ys ≡ xs
+both_map Fits f same [] [] fits = refl
+both_map Fits f same [] (y ∷ ys) fits = absurd fits
+both_map Fits f same (x ∷ xs) [] fits = absurd fits
+both_map Fits f same (x ∷ xs) (y ∷ ys) fits = ap (λ l. f y ∷ l) (both_map Fits f same xs ys fits.1) ∙ ap (λ z. z ∷ xs) (same x y fits.0)
 
 -- there is room for one more, while the list that it follows has one more
 pub room_for : {A B : Type 0} (ys xs rest all : List A) (zs : List B) (x : A) (n cap : ℕ) → ys ++ xs ≡ all → xs ≡ x ∷ rest
@@ -39,18 +65,19 @@ module _ {A : Type 0} where
   pub all_head : (P : A → Type 0) (xs rest : List A) (x : A) → xs ≡ x ∷ rest → All P xs → P x
   all_head P xs rest x is all = let whole : All P (x ∷ rest) = subst (λ (l : List A). All P l) is all in whole 0 x (omega arith)
 
--- what the promise of a worker says of the worker that it remembers
-pub kept_for : {G : Type 0} (May : G → CpuId → Go → ℕ → Type 0) (w v r : Working) (gate its : G) (turns times taken : ℕ) (stop : Stop)
-    → v ≡ w → its ≡ gate → times ≡ turns → HasRun (May its) times v r taken stop → HasRun (May gate) turns w r taken stop
-kept_for May w v r gate its turns times taken stop same gate_is turns_are ran =
-    subst (λ (x : Working). HasRun (May gate) turns x r taken stop) same
-    (subst (λ (n : ℕ). HasRun (May gate) n v r taken stop) turns_are (subst (λ g. HasRun (May g) times v r taken stop) gate_is ran))
+  all_more : (P : A → Type 0) (x : A) (xs : List A) → P x → All P xs → All P (x ∷ xs)
+  all_more P x xs one all zero d below = one
+  all_more P x xs one all (suc k) d below = all k d (omega arith)
 
--- what a worker's result keeps, as its promise says it
-pub keeps_so : {C G : Type 0} (r : Option C) (worker_of : C → Working) (taken_of : C → ℕ) (stop_of : C → Stop) (May : G → CpuId → Go → ℕ → Type 0)
-    (w v : Working) (gate its : G) (turns : ℕ) → v ≡ w → its ≡ gate
-    → MatchOption r (Unit {0}) (λ came. HasRun (May gate) turns w (worker_of came) (taken_of came) (stop_of came))
-    → MatchOption r (Unit {0}) (λ came. HasRun (May its) turns v (worker_of came) (taken_of came) (stop_of came))
-keeps_so r worker_of taken_of stop_of May w v gate its turns same gate_is kept =
-    subst (λ (x : Working). MatchOption r (Unit {0}) (λ came. HasRun (May its) turns x (worker_of came) (taken_of came) (stop_of came))) (sym same)
-    (subst (λ y. MatchOption r (Unit {0}) (λ came. HasRun (May y) turns w (worker_of came) (taken_of came) (stop_of came))) (sym gate_is) kept)
+-- what holds of each of a list, and goes over to what belongs to it, holds of each of those
+pub both_all : {A B : Type 0} (Fits : A → B → Type 0) (P : A → Type 0) (Q : B → Type 0) → ((a : A) (b : B) → Fits a b → P a → Q b) → (xs : List A) (ys : List B)
+    → Both Fits xs ys → All P xs → All Q ys
+both_all Fits P Q over [] [] fits all = λ k d below. absurd (omega arith)
+both_all Fits P Q over [] (y ∷ ys) fits all = absurd fits
+both_all Fits P Q over (x ∷ xs) [] fits all = absurd fits
+both_all Fits P Q over (x ∷ xs) (y ∷ ys) fits all = all_more Q y ys (over x y fits.0 (all_head P (x ∷ xs) xs x refl all))
+    (both_all Fits P Q over xs ys fits.1 (all_tail P (x ∷ xs) xs x refl all))
+
+-- what is kept of a task that came back
+pub came_back : {D T : Type 0} (HasDone : D → Type 0) (came : Result D T) (task same : T) → MatchResult came HasDone (λ t. t ≡ same) → came ≡ Err task → task ≡ same
+came_back HasDone came task same kept is = subst (λ (r : Result _ _). MatchResult r HasDone (λ t. t ≡ same)) is kept

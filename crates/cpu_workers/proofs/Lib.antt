@@ -10,6 +10,7 @@ pub mod SeatViews
 pub mod Observed
 pub mod Crossing
 pub mod CountCrossing
+pub mod CountMachines
 pub mod Acting
 pub mod Counts
 pub mod Going

@@ -1,5 +1,5 @@
 -- Counting in threads: sections that each add 1 to one number, and what a worker leaves: its CPU has done so many sections more.
-use Rattle.std.specs.Prelude.{◌≡◌, ℕ, ◌+◌, ◌%◌, ◌^◌, ◌≤◌, List, [], slice_get, Option, Some, MatchOption}
+use Rattle.std.specs.Prelude.{◌≡◌, ℕ, ◌+◌, ◌%◌, ◌^◌, ◌≤◌, List, [], slice_get, Some}
 use Rattle.event_log.specs.{declared.ids.CpuId.CpuId, declared.ids.LockId.LockId, declared.events.Event.Event, History.IsLawful, History.how_many}
 use Rattle.event_log.specs.{History.own_events, History.same_lock, WordsLog.cpu_of_event, WordsLog.frees, WordsLog.lock_phase, WordsLog.Idle, Sections.Section}
 use Rattle.event_log.specs.{Sections.cpu_of_section}
@@ -19,14 +19,6 @@ sections_at lock past = how_many (λ s. same_lock lock s.lock) past
 abbrev pub made : {E : Type 0} → CpuId → LockId → List (Section E) → ℕ
 made cpu lock past = sections_at lock (own_events cpu_of_section cpu past)
 
--- no table at all
-abbrev pub nowhere : TableView ℕ
-nowhere = record {
-  table = record { words = 0; slots = 0; views_name = 0; atom = 0; block = 0; offset = 0; slot_names = [] };
-  start = [];
-  cpus = 0;
-}
-
 -- a key of this table that has seen nothing
 abbrev pub IsFresh : {E B : Type 0} → TableView B → SeatView E B → Type 0
 IsFresh table_view seat_view = seat_view ≡ new_seat_view table_view seat_view.cpu.0
@@ -37,10 +29,6 @@ pub record HasMade {E B : Type 0} (lock : LockId) (old new : SeatView E B) (time
   pub table : new.table ≡ old.table
   pub outside : lock_phase new.cpu new.seen ≡ Idle
   pub more : made old.cpu lock (sections new.seen) ≡ made old.cpu lock (sections old.seen) + times
-
--- a worker that did not start leaves nothing
-abbrev pub MayHaveMade : {E B : Type 0} → LockId → SeatView E B → Option (SeatView E B) → ℕ → Type 0
-MayHaveMade lock old came times = MatchOption came (Unit {0}) (λ new. HasMade lock old new times)
 
 -- each key has come back after so many sections of its CPU
 abbrev pub AllHaveMade : {E B : Type 0} → LockId → List (SeatView E B) → List (SeatView E B) → ℕ → Type 0

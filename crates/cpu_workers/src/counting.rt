@@ -1,20 +1,21 @@
 //! Counting in threads: each of several CPUs adds 1 to one number, in critical sections at one
 //! table of shared words. `count_table` and `count_or_leave` take memory, start threads and wait
-//! for them. `number_left` does none of it.
+//! for them. `number_in` and `number_left` do none of it.
 
 ghost use Rattle.std.specs.Prelude.{◌≡◌};
 ghost use Rattle.cpu_workers.specs.Counts.{counting};
 
-mod keys;
+mod counted;
 pub(crate) mod sections;
 mod tables;
-mod threads;
+mod tasks;
 
 use event_log::{BufId, LockId};
 use layer_traits::{Edit, LockLaw, Payload, SectionOf, SplitEdit};
 use std::marker::PhantomData;
-pub use tables::{NotCounted, count_or_leave, count_table, number_left};
-use thiserror::Error;
+pub use crate::refusals::WorkerError as CountFault;
+pub use counted::{Counted, LockOfKind, number_in, number_left};
+pub use tables::{NotCounted, count_or_leave, count_table};
 
 /// The lock that guards the number.
 pub const NUMBER: LockId = LockId::Buffer(BufId(0));
@@ -61,15 +62,4 @@ impl Edit for AddOne {
     fn bring_back(brought: u64, _payload: &mut Payload) -> u64 {
         brought
     }
-}
-
-/// Why `count` gave up. No section was done.
-#[derive(Clone, Copy, Debug, PartialEq, Eq, Error)]
-pub enum CountFault {
-    /// Memory was refused.
-    #[error("NoMemory(1)")]
-    NoMemory,
-    /// A thread could not be started.
-    #[error("NoThread(5)")]
-    NoThread,
 }

@@ -12,7 +12,7 @@ use crate::natives::Native;
 use crate::report::items_at;
 use crate::run::seats_at;
 use crate::seats::TowerSeat;
-use crate::starting::WorkerError;
+use crate::refusals::WorkerError;
 use arrayvec::ArrayVec;
 use event_log::{BufId, CAPACITY, CPUS, CpuId, LockId, Msg, NoMemory};
 use ipc_calls::{TowerBlock, TowerEdit, TowerLockLaws, tower_blocks};

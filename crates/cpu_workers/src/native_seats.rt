@@ -7,9 +7,10 @@ ghost use Rattle.cpu_workers.specs.{Natives.HasLeftCalls, Natives.HasLeftMachine
 ghost use Rattle.cpu_workers.specs.{Seating.IsUnused, Seating.tower_acts};
 
 use crate::callers::Caller;
-use crate::native_threads::{NativeTask, call_all};
+use crate::native_threads::NativeTask;
 use crate::natives::Native;
-use crate::starting::WorkerError;
+use crate::pool::run_all;
+use crate::refusals::WorkerError;
 use event_log::{CpuId, NoMemory, Tid};
 use ipc_calls::{Ipc, TowerEdit, TowerLaws, TowerOver};
 use layer_traits::{CallLayer, IpcLaw, Layer, LockLaw};
@@ -51,9 +52,7 @@ where
     let mut machines = machines;
     let mut natives = natives;
     let count = machines.len();
-    let Ok(mut tasks) = Vec::with_capacity(alloc, count) else {
-        return Err(NoMemory);
-    };
+    let mut tasks = Vec::with_capacity(alloc, count)?;
     for number in 0..count {
         let machine = machines.remove(0);
         let native = natives.remove(0);
@@ -141,7 +140,7 @@ where
 {
     let left = Vec::with_capacity(alloc, machines.len())?;
     let tasks = tasks_over::<I, N>(alloc, caps, homes, machines, natives)?;
-    let done = call_all(rt, alloc, tasks)?;
+    let done = run_all(rt, alloc, tasks)?;
     Ok(all_left::<I, N>(done, left))
 }
 

@@ -11,6 +11,7 @@ ghost use Rattle.cpu_workers.specs.Counts.{HasMade};
 
 use crate::counting::sections::work_at;
 use crate::counting::{AddOne, CountLaws, NUMBER};
+use boot::LockKind;
 use spinlock::{Grant, Ticket};
 use std::marker::PhantomData;
 use std::sync::Wait;
@@ -22,6 +23,10 @@ pub trait PlanWords: TableWords {
 
     /// The lock's kind, as a plan names it.
     ghost lock_kind: { LockKind };
+
+    /// The lock's kind.
+    fn kind() -> LockKind
+        ensures { result ≡ lock_kind };
 
     /// So many sections of the key's CPU, which add 1 each.
     ///
@@ -42,6 +47,10 @@ pub trait PlanWords: TableWords {
 impl PlanWords for TicketWords {
     ghost lock_kind = { kind.Ticket };
 
+    fn kind() -> LockKind {
+        LockKind::Ticket
+    }
+
     fn work<R: Wait>(
         rt: &R,
         shared: &Shared<AddOne, TicketWords>,
@@ -58,6 +67,10 @@ impl PlanWords for TicketWords {
 
 impl PlanWords for WaiterWords {
     ghost lock_kind = { kind.Grant };
+
+    fn kind() -> LockKind {
+        LockKind::Grant
+    }
 
     fn work<R: Wait>(
         rt: &R,

@@ -14,7 +14,7 @@ use crate::plan_words::PlanWords;
 use crate::report::Report;
 use crate::seating::{Left, run_over};
 use crate::seats::TowerSeat;
-use crate::starting::WorkerError;
+use crate::refusals::WorkerError;
 use crate::stops::Stop;
 use boot::{Boot, LockKind};
 use cpu::homes_of;

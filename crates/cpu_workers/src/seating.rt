@@ -10,7 +10,8 @@ ghost use Rattle.cpu_workers.specs.{Reports.Both, Seating.HasLeft, Seating.IsApa
 ghost use Rattle.cpu_workers.specs.{Seating.tower_acts};
 
 use crate::gates::Gate;
-use crate::starting::{Came, WorkerError, work_all};
+use crate::refusals::WorkerError;
+use crate::starting::{Came, work_all};
 use crate::turns::Did;
 use crate::worker::Worker;
 use boot::Boot;
@@ -82,14 +83,13 @@ where
 {
     let mut machines = machines;
     let count = machines.len();
-    let Ok(mut workers) = Vec::with_capacity(alloc, count) else {
-        return Err(NoMemory);
-    };
+    let mut workers = Vec::with_capacity(alloc, count)?;
     for number in 0..count {
         let machine = machines.remove(0);
         // No `?`, which would move the worker's many bytes three times more.
-        let Ok(worker) = worker_over::<I>(alloc, boot, CpuId(number as u8), machine) else {
-            return Err(NoMemory);
+        let worker = match worker_over::<I>(alloc, boot, CpuId(number as u8), machine) {
+            Ok(worker) => worker,
+            Err(error) => return Err(error),
         };
         workers.push_reserved(worker);
     }

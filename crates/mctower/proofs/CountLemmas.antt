@@ -1,14 +1,8 @@
 -- Facts on counting.
-use Rattle.std.proofs.Common.{◌≡◌, ℕ, ◌+◌, ◌%◌, ◌^◌, true, false, List, [], ◌∷◌, ◌++◌, Option, Some, None, refl, sym, ap, ◌∙◌, arith, length, inl, inr}
-use Rattle.std.proofs.Common.{if◌then◌else◌}
+use Rattle.std.proofs.Common.{◌≡◌, ◌+◌, List, [], ◌∷◌, ◌++◌, Option, refl, arith, length, inl, inr}
 use Rattle.std.proofs.lemmas.{Bool.cases_lt, List.get_or_append_left, List.get_or_push, List.length-append}
-use Rattle.event_log.specs.{declared.ids.CpuId.CpuId, declared.ids.LockId.LockId, History.same_lock, Sections.Section, Sections.block_after}
-use Rattle.event_log.specs.{Sections.sections_in, Actions.Action, Actions.Take, Actions.Try, Actions.Give, Actions.Rests, Actions.gives, Actions.phase}
-use Rattle.layer_traits.specs.{Owned.IsObserved, Plans.is_in_section}
-use Rattle.std.specs.Prelude.{IsSome}
-use Rattle.cpu_workers.specs.declared.counting.AddOne.{AddOne}
-use Rattle.cpu_workers.proofs.Counts.{number_is}
-use Rattle.mctower.specs.Count.{AreReady, IsCountReady, counting, sections_at}
+use Rattle.event_log.specs.declared.ids.CpuId.{CpuId}
+use Rattle.mctower.specs.Count.{AreReady, IsCountReady}
 
 -- one ready part more
 pub one_part_more : {P M S : Type 0} (cpu_of : P → CpuId) (under_way : P → Option S) (Fits : P → M → Type 0) (parts : List P) (part : P) (m : M)
@@ -20,33 +14,3 @@ one_part_more cpu_of under_way Fits parts part m ready last i d below = elim (ca
       let here : i ≡ length parts = omega arith in
       rw (here, get_or_push parts part d (length parts) refl) last
 ]
-
--- as many sections as gives
-pub gives_are_sections : {E : Type 0} (lock : LockId) (acts : List (Action E)) → sections_at lock (sections_in acts) ≡ gives lock acts
-gives_are_sections lock [] = refl
-gives_are_sections lock (Take cpu at ∷ acts) = gives_are_sections lock acts
-gives_are_sections lock (Try cpu at hit ∷ acts) = gives_are_sections lock acts
-gives_are_sections lock (Give cpu at name ∷ acts) = ap (λ n. if same_lock lock at then n + 1 else n) (gives_are_sections lock acts)
-
--- an option that is not None is Some
-pub some_where_not_none : {X : Type 0} (o : Option X) → (o ≡ None → ⊥) → IsSome o
-some_where_not_none None not_none = absurd (not_none refl)
-some_where_not_none (Some x) not_none = refl
-
--- a block that the sections of a number that was 0 leave is the number of gives
-pub block_counts : (opening : LockId → Option ℕ) (lock : LockId) (acts : List (Action AddOne)) (past : List (Section AddOne)) (block : ℕ)
-    → opening lock ≡ Some 0 → past ≡ sections_in acts → block_after counting.edited opening lock past ≡ Some block → block ≡ gives lock acts % 2 ^ 64
-block_counts opening lock acts past block zeroth seen leaves =
-    let same : Some block ≡ Some (sections_at lock past % 2 ^ 64) = sym leaves ∙ number_is opening lock past zeroth in
-    let number : block ≡ sections_at lock past % 2 ^ 64 = (cc same) in
-    number ∙ ap (λ n. n % 2 ^ 64) (ap (sections_at lock) seen ∙ gives_are_sections lock acts)
-
--- the block of a number that no CPU has in its hands is there
-pub there_at_rest : {P A : Type 0} (Fits : P → Type 0) (cpu_of : P → CpuId) (MayHold : CpuId → Type 0) (acts : List (Action AddOne)) (here : P → Option A)
-    (home truth : Option A) → ((c : CpuId) → MayHold c → is_in_section (phase c acts) ≡ true) → IsObserved Fits cpu_of MayHold here home truth
-    → ((c : CpuId) → phase c acts ≡ Rests) → home ≡ None → ⊥
-there_at_rest Fits cpu_of MayHold acts here home truth holding shown rests away =
-    let held = shown.somewhere away in
-    let inside : is_in_section (phase held.cpu acts) ≡ true = holding held.cpu held.inside in
-    let rested : is_in_section (phase held.cpu acts) ≡ false = ap is_in_section (rests held.cpu) in
-    absurd (cc (inside, rested))

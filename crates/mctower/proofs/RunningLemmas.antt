@@ -107,7 +107,7 @@ write_fault : (IsStepwise A : Type 0) (plan : BootPlan) (steps : List CpuId) (ca
     → caps ≡ plan.caps → IsSystemOf plan first → AreCpus (length first.cpus) steps → IsRunOf IsStepwise plan steps last
     → Writes {A = A} caps (traces_of last) last.contents (Err e) out
     → RunsPlan IsStepwise plan steps (Err e) out
-write_fault IsStepwise A plan steps caps first last NoMemory out same of known ran writes = writes
+write_fault IsStepwise A plan steps caps first last (NoMemory refused) out same of known ran writes = writes
 write_fault IsStepwise A plan steps caps first last (Boot e) out same of known ran writes = absurd writes
 write_fault IsStepwise A plan steps caps first last BadCpu out same of known ran writes = absurd writes
 write_fault IsStepwise A plan steps caps first last NoOrder out same of known ran writes = absurd writes

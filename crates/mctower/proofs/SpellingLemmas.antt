@@ -129,7 +129,7 @@ out_so caps traces left es out have is first values put = record {
 pub gather_refused : (A : Type 0) (caps : List ℕ) (traces : List (List Entry)) (left : List (List Message)) (error : GatherError) (out : Output)
     → HaveText caps traces left → IsUntouched out → (error ≡ gathering.NoOrder → HasNoOrder traces)
     → Writes {A = A} caps traces left (Err (from_gather error)) out
-gather_refused A caps traces left gathering.NoMemory out have untouched none = untouched
+gather_refused A caps traces left (gathering.NoMemory refused) out have untouched none = untouched
 gather_refused A caps traces left gathering.NoOrder out have untouched none =
     absurd (runs_have_order traces caps have.order left have.keeps have.runs (none refl))
 

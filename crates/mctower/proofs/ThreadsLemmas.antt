@@ -11,15 +11,15 @@ use Rattle.tracer.specs.Sinks.{Outs}
 use Rattle.tracer.proofs.SinkLemmas.{all_out, outs_then}
 use Rattle.cpu.specs.{Boots.homes_for, Cpus.IsOfHome, Sound.setup_for}
 use Rattle.cpu_workers.specs.{declared.stops.Stop.Stop, Lawful.IsLawfulReport, Lawful.CpuReport, Lawful.Shown, Lawful.ReportsTrue, Lawful.left_in}
-use Rattle.mctower.specs.{declared.refusals.Refusal.Refusal, declared.refusals.Refusal.TheVariants.NoMemory, declared.refusals.Refusal.TheVariants.WriteFault}
-use Rattle.mctower.specs.{declared.run.Fault.Fault, declared.serve.Done.Done, declared.serve.Done.TheVariants.Worked, Output.Output, Refusals.from_fault}
+use Rattle.mctower.specs.{declared.refusals.Refusal.Refusal, declared.refusals.Refusal.TheVariants.WriteFault}
+use Rattle.mctower.specs.{declared.run.Fault.Fault, declared.serve.Done.Done, declared.serve.Done.TheVariants.Worked, Output.Output, Refusals.from_fault, Refusals.lacks_memory}
 use Rattle.mctower.specs.{Serve.OfPlan, Serve.RefusedBy, Serve.WorksPlan, Texts.HaveText, Texts.IsOut, Texts.IsTextOf, Texts.Writes, Threads.IsWorked}
 use Rattle.mctower.specs.{Threads.AlwaysOpen}
 use Rattle.mctower.specs.declared.run.Fault.TheVariants as run
 
 -- what is so for a plan that was read
 pub of_read : (Means : BootPlan → Result Done Refusal → Output → Type 0) (plan : BootPlan) (read : Result BootPlan BootError) (answer : Result Done Refusal)
-    (out : Output) → read ≡ Ok plan → RefusedBy NoMemory answer out ⊎ Means plan answer out → RefusedBy NoMemory answer out ⊎ OfPlan Means read answer out
+    (out : Output) → read ≡ Ok plan → RefusedBy lacks_memory answer out ⊎ Means plan answer out → RefusedBy lacks_memory answer out ⊎ OfPlan Means read answer out
 of_read Means plan read answer out is (inl refused) = inl refused
 of_read Means plan read answer out is (inr means) = inr (subst (λ r. OfPlan Means r answer out) (sym is) means)
 
@@ -83,8 +83,8 @@ worked turns plan r stops answer first whole lawful same writes given more old =
 pub not_written : (A : Type 0) (turns : ℕ) (plan : BootPlan) (r : Shown) (stops : Vec Stop Global) (fault : Fault) (refusal : Refusal) (out : Output)
     → IsLawfulReport (setup_for plan) AlwaysOpen turns r → stops.items ≡ r.stops
     → Writes {A = A} plan.caps r.traces (left_in (length plan.caps) r) (Err fault) out → refusal ≡ from_fault fault
-    → RefusedBy NoMemory (Err refusal) out ⊎ WorksPlan turns plan (Err refusal) out
-not_written A turns plan r stops run.NoMemory refusal out lawful same writes is = inl (ap Err is, writes)
+    → RefusedBy lacks_memory (Err refusal) out ⊎ WorksPlan turns plan (Err refusal) out
+not_written A turns plan r stops (run.NoMemory refused) refusal out lawful same writes is = inl (ap Err is, writes)
 not_written A turns plan r stops (run.Boot e) refusal out lawful same writes is = absurd writes
 not_written A turns plan r stops run.BadCpu refusal out lawful same writes is = absurd writes
 not_written A turns plan r stops run.NoOrder refusal out lawful same writes is = absurd writes

@@ -2,12 +2,12 @@
 -- without a condition where they are such.
 use Rattle.std.proofs.Common.{◌≡◌, ◌⊎◌, inl, inr, List, refl, subst}
 use Rattle.std.specs.Prelude.{Result, Ok, Err, IsErrAnd}
-use Rattle.event_log.specs.declared.ids.CpuId.{CpuId}
+use Rattle.event_log.specs.{declared.ids.CpuId.CpuId, Refusals.no_memory}
 use Rattle.boot.specs.{declared.locks.LockKind.LockKind, declared.refusals.BootError.BootError, Plan.BootPlan}
 use Rattle.cpu.specs.{Claims.Shown, Systems.Ran, Systems.WentOn, Systems.goes, Systems.starts, Systems.stayed, Systems.took}
 use Rattle.mctower.specs.declared.run.Fault.{Fault, TheVariants.NoMemory, TheVariants.Boot, TheVariants.BadCpu, TheVariants.NoOrder, TheVariants.WriteFault}
 use Rattle.mctower.specs.{declared.states.State.State, Output.IsUntouched, Output.Output, Plans.from_boot, Running.IsPrinted, Running.IsRunOf}
-use Rattle.mctower.specs.{Running.NoCondition, Running.Refuses, Running.RunsOverTower, Running.RunsPlan, Running.RunsText, Running.lock_in, State.IsStateOf}
+use Rattle.mctower.specs.{Running.NoCondition, Running.Refuses, Running.RunsOverTower, Running.RunsPlan, Running.RunsOn, Running.lock_in, State.IsStateOf}
 use Rattle.boot.specs.declared.refusals.BootError.TheVariants as refused
 
 module _ (If Where : Type 0) (follows : Where → If) where
@@ -43,16 +43,16 @@ module _ (If Where : Type 0) (follows : Where → If) where
   runs_plan : (plan : BootPlan) (steps : List CpuId) (result : Result Shown Fault) (out : Output) → RunsPlan If plan steps result out
       → RunsPlan Where plan steps result out
   runs_plan plan steps (Ok s) out runs = (runs.0, printed plan steps s out runs.1)
-  runs_plan plan steps (Err NoMemory) out runs = runs
+  runs_plan plan steps (Err (NoMemory evidence)) out runs = runs
   runs_plan plan steps (Err (Boot e)) out runs = runs
   runs_plan plan steps (Err BadCpu) out runs = runs
   runs_plan plan steps (Err NoOrder) out runs = runs
   runs_plan plan steps (Err WriteFault) out runs = (runs.0, (runs.1.0, printed plan steps runs.1.0 out runs.1.1))
 
-  pub runs_text : (read : Result BootPlan BootError) (steps : List CpuId) (result : Result Shown Fault) (out : Output) → RunsText If read steps result out
-      → RunsText Where read steps result out
-  runs_text (Ok plan) steps result out runs = runs_plan plan steps result out runs
-  runs_text (Err e) steps result out runs = runs
+  pub runs_on : (read : Result BootPlan BootError) (steps : List CpuId) (result : Result Shown Fault) (out : Output) → RunsOn If read steps result out
+      → RunsOn Where read steps result out
+  runs_on (Ok plan) steps result out runs = runs_plan plan steps result out runs
+  runs_on (Err e) steps result out runs = runs
 
   pub state_of : (s : Shown) (state : State) → IsStateOf If s state → IsStateOf Where s state
   state_of s state is = record {
@@ -66,13 +66,14 @@ module _ (If Where : Type 0) (follows : Where → If) where
   }
 
 -- want of memory is no more than that, whatever the text
-no_memory : (read : Result BootPlan BootError) (steps : List CpuId) (out : Output) → IsUntouched out → RunsText NoCondition read steps (Err NoMemory) out
-no_memory (Ok plan) steps out untouched = untouched
-no_memory (Err e) steps out untouched = untouched
+wants_memory : (read : Result BootPlan BootError) (steps : List CpuId) (out : Output) → IsUntouched out
+    → RunsOn NoCondition read steps (Err (NoMemory no_memory)) out
+wants_memory (Ok plan) steps out untouched = untouched
+wants_memory (Err e) steps out untouched = untouched
 
 -- a text that is no plan is refused
 refused_text : (e : BootError) (out : Output) → IsUntouched out → Refuses e (Err (from_boot e)) out
-refused_text refused.NoMemory out untouched = untouched
+refused_text (refused.NoMemory evidence) out untouched = untouched
 refused_text refused.BadToml out untouched = (refl, untouched)
 refused_text (refused.MissingKey key) out untouched = (refl, untouched)
 refused_text (refused.OutOfRange key) out untouched = (refl, untouched)
@@ -80,19 +81,20 @@ refused_text (refused.Guest t line fault) out untouched = (refl, untouched)
 
 -- want of memory, or what the text's plan says of its lock
 abbrev IsNamed : Result LockKind Fault → Result BootPlan BootError → Type 0
-IsNamed named read = (named ≡ Err NoMemory) ⊎ (named ≡ lock_in read)
+IsNamed named read = (named ≡ Err (NoMemory no_memory)) ⊎ (named ≡ lock_in read)
 
 -- a text whose plan's lock cannot be told is run by nobody: it is refused, or memory was wanting
 pub unnamed_text : (read : Result BootPlan BootError) (steps : List CpuId) (fault : Fault) (out : Output)
-    → IsNamed (Err fault) read → IsUntouched out → RunsText NoCondition read steps (Err fault) out
+    → IsNamed (Err fault) read → IsUntouched out → RunsOn NoCondition read steps (Err fault) out
 unnamed_text read steps fault out (inl is) untouched =
-    let none : NoMemory ≡ fault = cc is in subst (λ (f : Fault). RunsText NoCondition read steps (Err f) out) none (no_memory read steps out untouched)
+    let none : NoMemory no_memory ≡ fault = cc is in
+    subst (λ (f : Fault). RunsOn NoCondition read steps (Err f) out) none (wants_memory read steps out untouched)
 unnamed_text (Ok plan) steps fault out (inr is) untouched = absurd (cc is)
 unnamed_text (Err e) steps fault out (inr is) untouched =
     let same : from_boot e ≡ fault = cc is in subst (λ (f : Fault). Refuses e (Err f) out) same (refused_text e out untouched)
 
 -- a fault that is passed on is what is told
 pub fault_told : (read : Result BootPlan BootError) (steps : List CpuId) (fault : Fault) (told : Result State Fault) (out : Output)
-    → RunsText NoCondition read steps (Err fault) out → IsErrAnd told (λ f. f ≡ fault) → RunsOverTower read steps told out
+    → RunsOn NoCondition read steps (Err fault) out → IsErrAnd told (λ f. f ≡ fault) → RunsOverTower read steps told out
 fault_told read steps fault (Ok state) out runs is = absurd is
 fault_told read steps fault (Err f) out runs is = record { answer = Err fault; runs = runs; tells = is }

@@ -1,14 +1,13 @@
 -- Why the words of a command line make no order, and the lines that tell it.
-use Rattle.std.specs.Prelude.{◌≡◌, ◌≢◌, ◌++◌, ◌||◌, ℕ, Bool, false, true, List, [], ◌∷◌, Option, Some, Result, Ok, Err, IfSome, IsSomeAnd, codes}
-use Rattle.std.specs.Prelude.{bytes_eq, decimal, if◌then◌else◌, unwrap_or}
+use Rattle.std.specs.Prelude.{◌≡◌, ◌≢◌, ◌≤◌, ◌++◌, ◌||◌, ℕ, All, Bool, false, true, List, [], ◌∷◌, Option, Some, Result, Ok, Err, IfSome, IsSomeAnd, codes}
+use Rattle.std.specs.Prelude.{bytes_eq, decimal, if◌then◌else◌, length, unwrap_or}
 use Rattle.std.specs.{List.find, Option.is_none}
 use Rattle.clap.specs.{Kinds.IsAmong, Walk.Row, Walk.Text, Walk.first_of, declared.error.kind.ErrorKind.ErrorKind}
 use Rattle.clap.specs.declared.error.kind.ErrorKind.TheVariants.{UnknownArgument, InvalidSubcommand, MissingRequiredArgument, ArgumentConflict, InvalidValue}
 use Rattle.clap.specs.declared.error.kind.ErrorKind.TheVariants.{TooManyValues, DisplayHelp, DisplayVersion, OutOfMemory}
-use Rattle.event_log.specs.declared.ids.TheConstants.{CPUS}
+use Rattle.event_log.specs.declared.{ids.TheConstants.CPUS, refusals.NoMemory.NoMemory}
 use Rattle.mctower.specs.{Help.topic_of, Help.usage_of, Line.faults_of, Line.found_in, Line.is_taken, Line.lock_asked, Line.number_at, Print.shown_line}
-use Rattle.mctower.specs.declared.line.{TheConstants.MOST_TIMES, TheConstants.MOST_TURNS, LineError.LineError}
-use Rattle.mctower.specs.declared.line.LineError.TheVariants.{NoMemory, Refused}
+use Rattle.mctower.specs.declared.line.{TheConstants.MOST_TIMES, TheConstants.MOST_TURNS}
 use Rattle.mctower.specs.declared.faults.{NoOrder.NoOrder, NoOrder.TheVariants.AsksHelp, NoOrder.TheVariants.AsksVersion, NoOrder.TheVariants.Faulty}
 use Rattle.mctower.specs.declared.faults.{LineFault.LineFault, LineFault.TheVariants.NotText, LineFault.TheVariants.NoCommand, LineFault.TheVariants.Words}
 use Rattle.mctower.specs.declared.faults.{LineFault.TheVariants.Value, ValueOption.ValueOption, ValueOption.TheVariants.Cpus, ValueOption.TheVariants.Times}
@@ -62,10 +61,14 @@ IsFaultIn found NoCommand = is_command found.0 ≡ false
 IsFaultIn found (Value option shown) = (first_bad found ≡ Some option) × (shown.bytes ≡ shown_line (value_at option found.1))
 IsFaultIn found fault = ⊥
 
--- This is wrong with the words: clap's rules find a fault of this kind, which is no request for help or for the version; or they find none,
--- and no command is named, or the value of an option is the first that it does not take.
+-- a text as it may be shown in a line: at most 200 bytes, none of them a line feed
+abbrev pub IsShown : Text → Type 0
+IsShown text = (length text ≤ 200) × All (λ byte. byte ≢ 10) text
+
+-- This is wrong with the words: clap's rules find a fault of this kind, which is no request for help or for the version, and what clap names
+-- may be shown in a line; or they find none, and no command is named, or the value of an option is the first that it does not take.
 abbrev pub IsFault : List Text → LineFault → Type 0
-IsFault words (Words kind named) = IsAmong kind (faults_of words) × (kind ≢ DisplayHelp) × (kind ≢ DisplayVersion)
+IsFault words (Words kind named) = IsAmong kind (faults_of words) × (kind ≢ DisplayHelp) × (kind ≢ DisplayVersion) × IsShown named.bytes
 IsFault words NoCommand = (is_taken words ≡ true) × IfSome (found_in words) (λ found. is_command found.0 ≡ false)
 IsFault words (Value option shown) = (is_taken words ≡ true) × IsSomeAnd (found_in words) (λ found. IsFaultIn found (Value option shown))
 IsFault words NotText = ⊥
@@ -77,19 +80,18 @@ IsWhy words AsksVersion = IsAmong DisplayVersion (faults_of words)
 IsWhy words (Faulty fault) = IsFault words fault
 
 -- why the words make no order is told, memory aside
-abbrev pub TellsWhy : List Text → Result NoOrder LineError → Type 0
+abbrev pub TellsWhy : List Text → Result NoOrder NoMemory → Type 0
 TellsWhy words (Ok why) = IsWhy words why
-TellsWhy words (Err NoMemory) = Unit {0}
-TellsWhy words (Err Refused) = ⊥
+TellsWhy words (Err refused) = Unit {0}
 
 -- a refusal of clap of this kind is told as what it is, memory aside
-abbrev pub TellsKind : ErrorKind → Result NoOrder LineError → Type 0
+abbrev pub TellsKind : ErrorKind → Result NoOrder NoMemory → Type 0
 TellsKind kind (Ok AsksHelp) = kind ≡ DisplayHelp
 TellsKind kind (Ok AsksVersion) = kind ≡ DisplayVersion
-TellsKind kind (Ok (Faulty (Words told named))) = (kind ≡ told) × (kind ≢ OutOfMemory) × (kind ≢ DisplayHelp) × (kind ≢ DisplayVersion)
+TellsKind kind (Ok (Faulty (Words told named))) =
+    (kind ≡ told) × (kind ≢ OutOfMemory) × (kind ≢ DisplayHelp) × (kind ≢ DisplayVersion) × IsShown named.bytes
 TellsKind kind (Ok (Faulty fault)) = ⊥
-TellsKind kind (Err NoMemory) = Unit {0}
-TellsKind kind (Err Refused) = ⊥
+TellsKind kind (Err refused) = Unit {0}
 
 -- ---- the lines that tell it
 

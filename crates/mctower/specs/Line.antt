@@ -126,7 +126,7 @@ ghost_by Check = check
 -- a reading gives the order that is meant, or refuses where none is meant, memory aside
 abbrev pub Reads : Option Ghost → Result Order LineError → Type 0
 Reads ghost_of (Ok order) = ghost_of ≡ Some (ghost_by order)
-Reads ghost_of (Err NoMemory) = Unit {0}
+Reads ghost_of (Err (NoMemory refused)) = Unit {0}
 Reads ghost_of (Err Refused) = ghost_of ≡ None
 
 -- clap's parse takes the words exactly if its rules do, memory aside, and finds their command and values; else it names a fault of theirs
@@ -137,5 +137,5 @@ Parses words (Err error) = HasKind (faults_of words) error
 -- the same of which a refusal for memory alone is told from the others
 abbrev pub Finds : List Text → Result ArgMatches LineError → Type 0
 Finds words (Ok matches) = (is_taken words ≡ true) × (subcommand_rows_of matches ≡ found_in words)
-Finds words (Err NoMemory) = Unit {0}
+Finds words (Err (NoMemory refused)) = Unit {0}
 Finds words (Err Refused) = is_taken words ≡ false

@@ -38,7 +38,7 @@ pub record IsOfPlan (count : ℕ) (capacities : List ℕ) (s : Shown) : Type 0 w
 
 -- a refusal of a plan as the fault of a run
 abbrev pub from_boot : BootError → Fault
-from_boot refused.NoMemory = NoMemory
+from_boot (refused.NoMemory evidence) = NoMemory evidence
 from_boot refused.BadToml = Boot refused.BadToml
 from_boot (refused.MissingKey key) = Boot (refused.MissingKey key)
 from_boot (refused.OutOfRange key) = Boot (refused.OutOfRange key)
@@ -46,5 +46,5 @@ from_boot (refused.Guest t line fault) = Boot (refused.Guest t line fault)
 
 -- a refusal to gather as the fault of a run
 abbrev pub from_gather : GatherError → Fault
-from_gather gathering.NoMemory = NoMemory
+from_gather (gathering.NoMemory evidence) = NoMemory evidence
 from_gather gathering.NoOrder = NoOrder

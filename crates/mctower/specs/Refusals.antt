@@ -1,44 +1,47 @@
 -- Refusals: which fault each stands for, the exit status, and the text that tells it.
 use Rattle.std.specs.Prelude.{ℕ, List, codes}
 use Rattle.clap.specs.Walk.{Text}
+use Rattle.event_log.specs.Refusals.{no_memory}
 use Rattle.mctower.specs.{Faults.fault_text, Output.IsPut, Output.Output, Print.PrintsRefusal}
 use Rattle.mctower.specs.{declared.refusals.Refusal.Refusal, declared.run.Fault.Fault, declared.schedule.StepsError.StepsError}
 use Rattle.mctower.specs.declared.refusals.Refusal.TheVariants.{BadLine, NoMemory, BadCpu, NoThread, NoOrder, ReadFault, WriteFault, BadSchedule, Plan}
-use Rattle.cpu_workers.specs.declared.{counting.CountFault.CountFault, starting.WorkerError.WorkerError}
+use Rattle.cpu_workers.specs.declared.refusals.WorkerError.{WorkerError}
 use Rattle.mctower.specs.declared.run.Fault.TheVariants as run
 use Rattle.mctower.specs.declared.schedule.StepsError.TheVariants as steps
-use Rattle.cpu_workers.specs.declared.counting.CountFault.TheVariants as count
-use Rattle.cpu_workers.specs.declared.starting.WorkerError.TheVariants as worker
+use Rattle.cpu_workers.specs.declared.refusals.WorkerError.TheVariants as worker
+
+-- the refusal for want of memory, of which each value is evidence: it is made from the allocator's refusal alone
+abbrev pub lacks_memory : Refusal
+lacks_memory = NoMemory no_memory
+
+-- the refusal for want of a thread, which is evidence too: it is made from a refused start of a thread alone
+abbrev pub lacks_thread : Refusal
+lacks_thread = NoThread (record { refused = tt })
 
 -- the refusal of a run that had this fault
 abbrev pub from_fault : Fault → Refusal
-from_fault run.NoMemory = NoMemory
+from_fault (run.NoMemory refused) = NoMemory refused
 from_fault (run.Boot error) = Plan error
 from_fault run.BadCpu = BadCpu
 from_fault run.NoOrder = NoOrder
 from_fault run.WriteFault = WriteFault
 
--- the refusal of a count that had this fault
-abbrev pub from_count : CountFault → Refusal
-from_count count.NoMemory = NoMemory
-from_count count.NoThread = NoThread
-
--- the refusal where no worker took a step
+-- the refusal where no worker took a step, or did no section of a count
 abbrev pub from_worker : WorkerError → Refusal
-from_worker worker.NoMemory = NoMemory
-from_worker worker.NoThread = NoThread
+from_worker (worker.NoMemory refused) = NoMemory refused
+from_worker (worker.NoThread refused) = NoThread refused
 
 -- the refusal of a text that is no schedule
 abbrev pub from_steps : StepsError → Refusal
-from_steps steps.NoMemory = NoMemory
+from_steps (steps.NoMemory refused) = NoMemory refused
 from_steps steps.BadSchedule = BadSchedule
 
 -- the exit status: 2 where the command line is a bad one, else 1
 abbrev pub status_of_refusal : Refusal → ℕ
 status_of_refusal (BadLine fault) = 2
-status_of_refusal NoMemory = 1
+status_of_refusal (NoMemory refused) = 1
 status_of_refusal BadCpu = 1
-status_of_refusal NoThread = 1
+status_of_refusal (NoThread refused) = 1
 status_of_refusal NoOrder = 1
 status_of_refusal ReadFault = 1
 status_of_refusal WriteFault = 1
@@ -49,9 +52,9 @@ status_of_refusal (Plan error) = 1
 -- refused; else a line with the refusal's name and number; where the sink failed, a beginning of it
 abbrev pub PutsRefusal : List Text → Refusal → Output → Type 0
 PutsRefusal words (BadLine fault) out = IsPut out (fault_text words fault)
-PutsRefusal words NoMemory out = IsPut out (codes "error: NoMemory(1)\n")
+PutsRefusal words (NoMemory refused) out = IsPut out (codes "error: NoMemory(1)\n")
 PutsRefusal words BadCpu out = IsPut out (codes "error: BadCpu(4)\n")
-PutsRefusal words NoThread out = IsPut out (codes "error: NoThread(5)\n")
+PutsRefusal words (NoThread refused) out = IsPut out (codes "error: NoThread(5)\n")
 PutsRefusal words NoOrder out = IsPut out (codes "error: NoOrder(6)\n")
 PutsRefusal words ReadFault out = IsPut out (codes "error: ReadFault(7)\n")
 PutsRefusal words WriteFault out = IsPut out (codes "error: WriteFault(8)\n")

@@ -6,7 +6,9 @@ use Rattle.cpu.specs.{Claims.FollowPrograms, Claims.HasOneOrder, Claims.Shown, C
 use Rattle.cpu.specs.{Sound.SoundByTable, Sound.setup_for, Systems.Ran, Systems.whole_of, Observed.ObservedByTable}
 use Rattle.mctower.specs.{declared.run.Fault.Fault, Output.IsUntouched, Output.Output, Plans.IsOpened, Plans.IsSystemOf, Plans.from_boot, Plans.table_run}
 use Rattle.mctower.specs.{State.IsStateOf, declared.states.State.State, Tabled.IsTextOfRun, Texts.IsOut}
-use Rattle.mctower.specs.declared.run.Fault.TheVariants.{NoMemory, Boot, BadCpu, NoOrder, WriteFault}
+use Rattle.mctower.specs.declared.run.{Fault.TheVariants.NoMemory, Fault.TheVariants.Boot, Fault.TheVariants.BadCpu, Fault.TheVariants.NoOrder}
+use Rattle.mctower.specs.declared.run.{Fault.TheVariants.WriteFault, Ran.Ran as RanOver, Ran.TheVariants.Ticket, Ran.TheVariants.Grant}
+use Rattle.boot.specs.declared.locks.LockKind.TheVariants as kind
 
 -- The system of a plan, after a schedule's steps: it was opened with room for just these and took them in their order; the plan says its
 -- setup of the step table; where its machine does one action a step it is the step table's system of the plan after them, no wake-up is
@@ -44,7 +46,7 @@ pub record IsPrinted (IsStepwise : Type 0) (plan : BootPlan) (steps : List CpuId
 -- system takes the steps, and its text is written
 abbrev pub RunsPlan : Type 0 → BootPlan → List CpuId → Result Shown Fault → Output → Type 0
 RunsPlan IsStepwise plan steps (Ok s) out = (out.failed ≡ false) × IsPrinted IsStepwise plan steps s out
-RunsPlan IsStepwise plan steps (Err NoMemory) out = IsUntouched out
+RunsPlan IsStepwise plan steps (Err (NoMemory refused)) out = IsUntouched out
 RunsPlan IsStepwise plan steps (Err (Boot e)) out = ⊥
 RunsPlan IsStepwise plan steps (Err BadCpu) out = (¬ AreCpus plan.cpus steps) × IsUntouched out
 RunsPlan IsStepwise plan steps (Err NoOrder) out = ⊥
@@ -55,18 +57,49 @@ RunsPlan IsStepwise plan steps (Err WriteFault) out = (out.failed ≡ true) × (
 -- what a run answers where the plan's text is refused: that refusal, before anything is written
 abbrev pub Refuses : BootError → Result Shown Fault → Output → Type 0
 Refuses e (Ok s) out = ⊥
-Refuses e (Err NoMemory) out = IsUntouched out
+Refuses e (Err (NoMemory refused)) out = IsUntouched out
 Refuses e (Err (Boot f)) out = (f ≡ e) × IsUntouched out
 Refuses e (Err BadCpu) out = ⊥
 Refuses e (Err NoOrder) out = ⊥
 Refuses e (Err WriteFault) out = ⊥
 
--- what a run of a text answers, by the plan that the text gives or its first fault; want of memory aside
-abbrev pub RunsText : Type 0 → Result BootPlan BootError → List CpuId → Result Shown Fault → Output → Type 0
-RunsText IsStepwise (Ok plan) steps result out = RunsPlan IsStepwise plan steps result out
-RunsText IsStepwise (Err e) steps result out = Refuses e result out
+-- what a run of a text over these layers answers, by the plan that the text gives or its first fault; want of memory aside
+abbrev pub RunsOn : Type 0 → Result BootPlan BootError → List CpuId → Result Shown Fault → Output → Type 0
+RunsOn IsStepwise (Ok plan) steps result out = RunsPlan IsStepwise plan steps result out
+RunsOn IsStepwise (Err e) steps result out = Refuses e result out
 
 -- ---- over the lock that the plan names
+
+-- of what is said of the layers over ticket locks and of those over locks with grant words: what is said of those over this lock
+abbrev pub on_lock : Type 0 → Type 0 → LockKind → Type 0
+on_lock tickets grants kind.Ticket = tickets
+on_lock tickets grants kind.Grant = grants
+
+-- the lock beneath a system after a run, by the case of the answer
+abbrev pub lock_of : {I J M N : Type 0} → RanOver I J M N → LockKind
+lock_of (Ticket s) = kind.Ticket
+lock_of (Grant s) = kind.Grant
+
+-- the system after a run, whatever its lock is
+abbrev pub system_of : {I J M N : Type 0} → RanOver I J M N → Shown
+system_of (Ticket s) = s
+system_of (Grant s) = s
+
+-- an answer by its system alone
+abbrev pub system_in : {I J M N : Type 0} → Result (RanOver I J M N) Fault → Result Shown Fault
+system_in (Ok ran) = Ok (system_of ran)
+system_in (Err fault) = Err fault
+
+-- where there is a system, this is the lock beneath it
+abbrev pub IsOver : {I J M N : Type 0} → LockKind → Result (RanOver I J M N) Fault → Type 0
+IsOver lock (Ok ran) = lock_of ran ≡ lock
+IsOver lock (Err fault) = Unit {0}
+
+-- What a run of a text answers: the system stands on the lock that the plan names, and the run is one over the layers that stand on it; what is
+-- no plan is refused.
+abbrev pub RunsText : {I J M N : Type 0} → (LockKind → Type 0) → Result BootPlan BootError → List CpuId → Result (RanOver I J M N) Fault → Output → Type 0
+RunsText IsStepwise (Ok plan) steps result out = IsOver plan.lock result × RunsPlan (IsStepwise plan.lock) plan steps (system_in result) out
+RunsText IsStepwise (Err e) steps result out = Refuses e (system_in result) out
 
 -- what is said of layers of which each poll is one action holds of such layers without a condition
 abbrev pub NoCondition : Type 0
@@ -87,5 +120,5 @@ Tells (Err fault) (Err told) = told ≡ fault
 -- A text was run over layers of which each poll is one action, and this is told of the answer.
 pub record RunsOverTower (read : Result BootPlan BootError) (steps : List CpuId) (told : Result State Fault) (printed : Output) : Type 0 where
   pub answer : Result Shown Fault
-  pub runs : RunsText NoCondition read steps answer printed
+  pub runs : RunsOn NoCondition read steps answer printed
   pub tells : Tells answer told

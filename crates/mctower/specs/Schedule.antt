@@ -56,5 +56,5 @@ schedule_pieces (Some text) = slice_split is_comma text
 -- a reading gives these steps, or refuses where there are none, memory aside
 abbrev pub ReadsSteps : {A : Type 0} → Option (List CpuId) → Result (Vec CpuId A) StepsError → Type 0
 ReadsSteps steps (Ok read) = steps ≡ Some read.items
-ReadsSteps steps (Err NoMemory) = Unit {0}
+ReadsSteps steps (Err (NoMemory refused)) = Unit {0}
 ReadsSteps steps (Err BadSchedule) = steps ≡ None

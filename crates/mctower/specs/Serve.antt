@@ -1,19 +1,19 @@
 -- What serving an order gives: the answer, what is on standard output and on standard error, and whether the input is read.
 use Rattle.std.specs.Prelude.{◌≡◌, ◌*◌, ◌++◌, ◌⊎◌, ℕ, Bool, true, false, List, [], ◌∷◌, Option, Some, None, Result, Ok, Err, Vec, IfSome, IsUtf8, codes}
-use Rattle.std.specs.Prelude.{decimal, if◌then◌else◌, is_some}
+use Rattle.std.specs.Prelude.{decimal, if◌then◌else◌, is_some, map, string_bytes, String}
 use Rattle.std.specs.{Global.Global, declared.io.ErrorKind.ErrorKind, declared.io.ErrorKind.TheVariants.OutOfMemory}
 use Rattle.clap.specs.Walk.{Text}
 use Rattle.event_log.specs.{declared.ids.CpuId.CpuId, Streams.IsFirstInFirstOut}
 use Rattle.boot.specs.{declared.refusals.BootError.BootError, declared.refusals.BootError.TheVariants.BadToml, Plan.BootPlan, Plan.plan_of}
 use Rattle.tracer.specs.{declared.verdicts.Verdict.Verdict, Judging.verdict_of, Verdicts.IsTraceOfRun}
-use Rattle.mctower.specs.{Line.Ghost, Line.count, Line.run, Line.threads, Line.check, Output.IsPut, Output.IsUntouched, Output.Output, Refusals.PutsRefusal}
-use Rattle.mctower.specs.{Refusals.status_of_refusal, declared.refusals.Refusal.Refusal, Running.AreCpus, Running.IsRunOf}
+use Rattle.mctower.specs.{Line.Ghost, Line.count, Line.order_of, Line.run, Line.threads, Line.check, Output.IsPut, Output.IsUntouched, Output.Output, Refusals.PutsRefusal}
+use Rattle.mctower.specs.{Refusals.lacks_memory, Refusals.lacks_thread, Refusals.status_of_refusal, declared.refusals.Refusal.Refusal, Running.AreCpus, Running.IsRunOf}
 use Rattle.mctower.specs.{Faults.IsFault, Faults.IsWhy, Help.help_of, Help.topic_of, declared.faults.LineFault.LineFault, declared.faults.NoOrder.TheVariants.AsksHelp}
 use Rattle.mctower.specs.{declared.faults.NoOrder.TheVariants.AsksVersion, declared.help.TheConstants.VERSION}
 use Rattle.mctower.specs.{Running.NoCondition, State.IsStateOf, State.text_of_state, declared.serve.Done.Done, declared.serve.Done.TheVariants.Exit}
 use Rattle.mctower.specs.{declared.serve.Done.TheVariants.Ran, declared.serve.Done.TheVariants.Worked, declared.states.State.State, Schedule.steps_of}
 use Rattle.mctower.specs.{Tabled.IsStateOfRun, Tabled.IsTextOfRun, Texts.IsTextOf, Threads.IsWorked, Threads.stop_text}
-use Rattle.mctower.specs.declared.refusals.Refusal.TheVariants.{BadLine, NoMemory, BadCpu, NoThread, ReadFault, WriteFault, BadSchedule, Plan as BadPlan}
+use Rattle.mctower.specs.declared.refusals.Refusal.TheVariants.{BadLine, BadCpu, ReadFault, WriteFault, BadSchedule, Plan as BadPlan}
 use Rattle.cpu.specs.Claims.{Shown, traces_of}
 use Rattle.cpu_workers.specs.declared.stops.Stop.{Stop}
 use Rattle.tracer.specs.declared.verdicts.Verdict.TheVariants as verdict
@@ -42,7 +42,7 @@ IsInput input text = IfSome input (λ known. text ≡ known)
 
 -- what a failed read refuses: want of memory is told from a fault of the input
 abbrev pub kind_refused : ErrorKind → Refusal
-kind_refused OutOfMemory = NoMemory
+kind_refused OutOfMemory = lacks_memory
 kind_refused kind = ReadFault
 
 -- all of the input was read, or the reader failed or had no memory
@@ -58,8 +58,8 @@ count_lines number = codes "plain " ++ (decimal number ++ (codes "\ntable " ++ (
 
 -- this number was counted: it is printed, or the order is refused for want of memory or of a thread
 abbrev pub Counts : ℕ → Result Done Refusal → Output → Type 0
-Counts number answer out = RefusedBy NoMemory answer out
-    ⊎ (RefusedBy NoThread answer out
+Counts number answer out = RefusedBy lacks_memory answer out
+    ⊎ (RefusedBy lacks_thread answer out
     ⊎ Puts (Exit 0) (count_lines number) answer out)
 
 -- ---- check
@@ -69,11 +69,11 @@ abbrev pub PrintsVerdict : Verdict → Result Done Refusal → Output → Type 0
 PrintsVerdict verdict.Yes answer out = Puts (Exit 0) (codes "yes\n") answer out
 PrintsVerdict (verdict.No line reason) answer out =
     Puts (Exit 3) (codes "no " ++ (decimal line ++ (codes " " ++ (reasons.reason_name reason ++ codes "\n")))) answer out
-PrintsVerdict verdict.NoMemory answer out = RefusedBy NoMemory answer out
+PrintsVerdict (verdict.NoMemory refused) answer out = RefusedBy lacks_memory answer out
 
 -- the verdict on the input is printed, or the input was not read; after a yes the input is the trace text of a run, and of what it leaves
 abbrev pub Checks : Option (List ℕ) → Result Done Refusal → Output → Type 0
-Checks input answer out = RefusedBy NoMemory answer out
+Checks input answer out = RefusedBy lacks_memory answer out
     ⊎ (RefusedBy ReadFault answer out
     ⊎ ((text : List ℕ) × IsInput input text × PrintsVerdict (verdict_of text) answer out × (verdict_of text ≡ verdict.Yes → IsTraceOfRun text)))
 
@@ -86,13 +86,13 @@ OfPlan Means (Err error) answer out = RefusedBy (BadPlan error) answer out
 
 -- it is so for the plan of these bytes; bytes that are no UTF-8 are no document; want of memory aside
 abbrev pub OfBytes : (BootPlan → Result Done Refusal → Output → Type 0) → List ℕ → Result Done Refusal → Output → Type 0
-OfBytes Means bytes answer out = RefusedBy NoMemory answer out
+OfBytes Means bytes answer out = RefusedBy lacks_memory answer out
     ⊎ (((¬ IsUtf8 bytes) × RefusedBy (BadPlan BadToml) answer out)
     ⊎ (IsUtf8 bytes × OfPlan Means (plan_of bytes) answer out))
 
 -- it is so for the input's plan, or the input was not read
 abbrev pub OfInput : (BootPlan → Result Done Refusal → Output → Type 0) → Option (List ℕ) → Result Done Refusal → Output → Type 0
-OfInput Means input answer out = RefusedBy NoMemory answer out
+OfInput Means input answer out = RefusedBy lacks_memory answer out
     ⊎ (RefusedBy ReadFault answer out
     ⊎ ((bytes : List ℕ) × IsInput input bytes × OfBytes Means bytes answer out))
 
@@ -132,7 +132,7 @@ steps_asked (Some text) = steps_of text
 -- the steps are run; what is no schedule is a bad command line, want of memory aside
 abbrev pub RunsAsked : Option (List CpuId) → Option (List ℕ) → Result Done Refusal → Output → Type 0
 RunsAsked (Some steps) input answer out = OfInput (RunsPlan steps) input answer out
-RunsAsked None input answer out = RefusedBy NoMemory answer out ⊎ RefusedBy BadSchedule answer out
+RunsAsked None input answer out = RefusedBy lacks_memory answer out ⊎ RefusedBy BadSchedule answer out
 
 -- ---- threads
 
@@ -145,7 +145,7 @@ pub record WorksTrace (plan : BootPlan) (turns : ℕ) (answer : Result Done Refu
 
 -- the plan's workers have run, or a thread could not be started
 abbrev pub WorksPlan : ℕ → BootPlan → Result Done Refusal → Output → Type 0
-WorksPlan turns plan answer out = RefusedBy NoThread answer out ⊎ WorksTrace plan turns answer out
+WorksPlan turns plan answer out = RefusedBy lacks_thread answer out ⊎ WorksTrace plan turns answer out
 
 -- ---- no order
 
@@ -160,7 +160,7 @@ help_text words = codes "mctower " ++ (VERSION.now ++ (10 ∷ help_of (topic_of 
 -- Words that make no order: the help or the version that they ask for is out, with status 2; or they are refused for what is wrong with them, and
 -- nothing is out; memory aside.
 abbrev pub PutsAnswer : List Text → Result Done Refusal → Output → Type 0
-PutsAnswer words answer out = RefusedBy NoMemory answer out
+PutsAnswer words answer out = RefusedBy lacks_memory answer out
     ⊎ ((IsWhy words AsksHelp × Puts (Exit 2) (help_text words) answer out)
     ⊎ ((IsWhy words AsksVersion × Puts (Exit 2) version_line answer out)
     ⊎ ((fault : LineFault) × IsFault words fault × RefusedBy (BadLine fault) answer out)))
@@ -186,18 +186,17 @@ Reports words (Ok (Ran state)) out = IsPut out (text_of_state state)
 Reports words (Ok (Worked stops)) out = IsPut out (stop_text stops.items)
 Reports words (Err refusal) out = PutsRefusal words refusal out
 
--- there is one answer by which the exit status and standard error are
-pub record EndsReported (words : List Text) (status : ℕ) (err : Output) : Type 0 where
-  pub answer : Result Done Refusal
-  pub ends : status ≡ status_of answer
-  pub told : Reports words answer err
-
 -- A command line is served: there is one answer by which the exit status, standard output and standard error are.
 pub record Ends (words : List Text) (ghost_of : Option Ghost) (input : Option (List ℕ)) (status : ℕ) (out err : Output) : Type 0 where
   pub answer : Result Done Refusal
   pub ends : status ≡ status_of answer
   pub served : Serves words ghost_of input answer out
   pub told : Reports words answer err
+
+-- The process ends: its words are served. Or they could not be had: nothing is out, and what tells that is on standard error.
+abbrev pub EndsProcess : {A B : Type 0} → Result (Vec (String A) B) Refusal → Option (List ℕ) → ℕ → Output → Output → Type 0
+EndsProcess (Ok words) input status out err = Ends (map string_bytes words.items) (order_of (map string_bytes words.items)) input status out err
+EndsProcess (Err refusal) input status out err = (status ≡ status_of_refusal refusal) × IsUntouched out × PutsRefusal [] refusal err
 
 -- ---- standard input
 

@@ -39,7 +39,7 @@ pub record IsOut (caps : List ℕ) (traces : List (List Entry)) (left : List (Li
 -- what writing this text answers, by what became of the sink
 abbrev pub Writes : {A : Type 0} → List ℕ → List (List Entry) → List (List Message) → Result A Fault → Output → Type 0
 Writes caps traces left (Ok _) out = (out.failed ≡ false) × IsOut caps traces left out
-Writes caps traces left (Err NoMemory) out = IsUntouched out
+Writes caps traces left (Err (NoMemory refused)) out = IsUntouched out
 Writes caps traces left (Err (Boot e)) out = ⊥
 Writes caps traces left (Err BadCpu) out = ⊥
 Writes caps traces left (Err NoOrder) out = ⊥

@@ -1,5 +1,5 @@
 //! Counting: each of several CPUs adds 1 to one number, again and again, in critical sections. All
-//! calls but `number_in` take memory. Only `count_table` waits.
+//! calls take memory. Only `count_table` waits.
 
 ghost use Rattle.std.specs.Prelude.{◌≡◌, ℕ, ◌+◌, ◌*◌, ◌<◌, ◌≤◌, ◌%◌, ◌^◌, Some, None, IsSome, IfOk, [], length};
 ghost use Rattle.event_log.specs.{declared.ids.CpuId.CpuId, declared.ids.TheConstants.CPUS, Actions.gives, Actions.phase, Actions.Rests};
@@ -9,7 +9,7 @@ ghost use Rattle.mctower.specs.Count.{AreReady, after_round, after_rounds};
 use crate::line::MOST_TIMES;
 use crate::locks::{GrantLock, OwnedLock, TicketLock};
 use boot::LockKind;
-use cpu_workers::counting::{self, AddOne, CountFault, NUMBER};
+use cpu_workers::counting::{self, AddOne, CountFault, Counted, LockOfKind, NUMBER, number_in};
 use event_log::{CpuId, LockId, NoMemory};
 use layer_traits::{LockLayer, OwnedLocks, Payload};
 use spinlock::whole;
@@ -89,9 +89,7 @@ fn number_machine<L: OwnedLocks<AddOne>>(
     ensures room { IfOk result (λ m. L.room m ≡ events) }
 {
     let mut blocks = Vec::new(alloc);
-    if blocks.push((NUMBER, 0)).is_err() {
-        return Err(NoMemory);
-    }
+    blocks.push((NUMBER, 0))?;
     L::open(alloc, blocks, events)
 }
 
@@ -99,7 +97,7 @@ fn number_machine<L: OwnedLocks<AddOne>>(
 /// which was 0. The sections are done whole, in rounds of the CPUs from 0 on, and each CPU keeps
 /// its part of the lock over all of its sections.
 ///
-/// Requires: each poll of the lock is one action. `cpus` is at most [`CPUS`](event_log::CPUS).
+/// Requires: each poll of the lock is one action. `cpus` is from 1 to [`CPUS`](event_log::CPUS).
 /// `times` is at most [`MOST_TIMES`].
 ///
 /// Errors: `NoMemory` where the machine or the parts could not be had; then no section was done.
@@ -111,6 +109,7 @@ pub fn count_rounds<L: OwnedLocks<AddOne> + Drop>(
 where
     L::Machine: Drop,
     requires stepwise { L.IsStepwise }
+    requires some { 1 ≤ cpus }
     requires cpus { cpus ≤ CPUS }
     requires times { times ≤ MOST_TIMES }
     ensures owned { IfOk result (λ m. (c : CpuId) → c.0 < CPUS → L.ActsFor m c) }
@@ -120,59 +119,47 @@ where
     ensures order { IfOk result (λ m. L.acts m ≡ after_rounds NUMBER cpus times []) }
 {
     let mut machine = number_machine::<L>(alloc, 3 * times as usize * cpus as usize)?;
-    let Ok(mut parts) = parts_of::<L>(alloc, cpus) else {
-        return Err(NoMemory);
-    };
+    let mut parts = parts_of::<L>(alloc, cpus)?;
     rounds(parts.as_mut_slice(), &mut machine, NUMBER, times);
     Ok(machine)
 }
 
-/// The number of an owned machine at rest: how often its lock was given on, modulo 2^64.
-///
-/// Requires: each poll of the lock is one action. The holder of the machine acts for some CPU. The
-/// machine was opened with the number 0. No CPU waits at a lock or holds one.
-pub fn number_in<L: OwnedLocks<AddOne>>(machine: &L::Machine) -> u64
-    requires stepwise { L.IsStepwise }
-    requires owned { (c : CpuId) × L.ActsFor machine.now c }
-    requires opening { L.opening machine.now NUMBER ≡ Some 0 }
-    requires rests { (c : CpuId) → phase c (L.acts machine.now) ≡ Rests }
-    ensures { result ≡ gives NUMBER (L.acts machine.now) % 2 ^ 64 }
-{
-    *L::block_in(machine, NUMBER).unwrap()
-}
-
 /// Counts over the owned machine behind this lock: as [`count_plain`].
 ///
-/// Requires: there are at most `CPUS` CPUs, and each adds at most `MOST_TIMES` times. Each poll of
+/// Requires: there are from 1 to `CPUS` CPUs, and each adds at most `MOST_TIMES` times. Each poll of
 /// the lock is one action.
 ///
 /// Errors: `NoMemory` if an allocation was refused.
-pub(crate) fn count_behind<L: OwnedLocks<AddOne> + Drop>(
+pub(crate) fn count_behind<L: OwnedLocks<AddOne> + Drop, V: LockOfKind<L>>(
     alloc: Global,
     cpus: u8,
     times: u64,
-) -> Result<u64, NoMemory>
+) -> Result<Counted, NoMemory>
 where
     L::Machine: Drop,
     requires stepwise { L.IsStepwise }
+    requires some { 1 ≤ cpus }
     requires cpus { cpus ≤ CPUS }
     requires times { times ≤ MOST_TIMES }
-    ensures { IfOk result (λ number. number ≡ times * cpus) }
+    ensures number { IfOk result (λ counted. counted.number ≡ times * cpus) }
+    ensures lock { IfOk result (λ counted. counted.lock ≡ V.lock_kind) }
 {
     let machine = count_rounds::<L>(alloc, cpus, times)?;
-    Ok(number_in::<L>(&machine))
+    Ok(number_in::<L, V>(&machine))
 }
 
 /// Counts over the owned machine with locks of this kind: each of `cpus` CPUs does `times` sections
 /// that add 1.
 ///
-/// Requires: `cpus` is at most [`CPUS`](event_log::CPUS). `times` is at most [`MOST_TIMES`].
+/// Requires: `cpus` is from 1 to [`CPUS`](event_log::CPUS). `times` is at most [`MOST_TIMES`].
 ///
 /// Errors: `NoMemory` where memory ran out; then no section was done.
-pub fn count_plain(alloc: Global, cpus: u8, times: u64, lock: LockKind) -> Result<u64, NoMemory>
+pub fn count_plain(alloc: Global, cpus: u8, times: u64, lock: LockKind) -> Result<Counted, NoMemory>
+    requires some { 1 ≤ cpus }
     requires cpus { cpus ≤ CPUS }
     requires times { times ≤ MOST_TIMES }
-    ensures { IfOk result (λ number. number ≡ times * cpus) }
+    ensures number { IfOk result (λ counted. counted.number ≡ times * cpus) }
+    ensures lock { IfOk result (λ counted. counted.lock ≡ lock) }
 {
     match lock {
         LockKind::Ticket => TicketLock::count(alloc, cpus, times),
@@ -193,10 +180,11 @@ pub fn count_table<R: Threads + Wait + Sync>(
     cpus: u8,
     times: u64,
     lock: LockKind,
-) -> Result<u64, CountFault>
+) -> Result<Counted, CountFault>
     requires cpus { cpus ≤ CPUS }
     requires times { times ≤ MOST_TIMES }
-    ensures { IfOk result (λ number. number ≡ times * cpus) }
+    ensures number { IfOk result (λ counted. counted.number ≡ times * cpus) }
+    ensures lock { IfOk result (λ counted. counted.lock ≡ lock) }
 {
     counting::count_table(rt, alloc, cpus, times, lock)
 }

@@ -9,10 +9,12 @@ ghost use Rattle.mctower.specs.{Faults.IsFaultIn, Faults.TellsWhy, Faults.TellsK
 ghost use Rattle.mctower.specs.{Faults.kind_words, Faults.option_name, Faults.value_at, Faults.value_lines, Faults.wanted_of};
 
 use crate::help::usage_on;
-use crate::line::{LineError, MOST_CPUS, MOST_TIMES, MOST_TURNS, lock_given, number_of, parse};
+use crate::line::{MOST_CPUS, MOST_TIMES, MOST_TURNS, lock_given, number_of, parse};
+use crate::memory::told_by_clap;
 use crate::print::{Shown, print, shown};
 use clap::ArgMatches;
 use clap::error::ErrorKind;
+use event_log::NoMemory;
 use std::alloc::{AllocError, Global};
 use std::io::Write;
 use tracer::Sink;
@@ -205,12 +207,14 @@ fn named_in(alloc: Global, refusal: &str) -> Result<String, AllocError> {
 
 /// What `clap`'s refusal says of the words, by its kind.
 ///
-/// Errors: `NoMemory` if memory ran out.
-fn why_refused(alloc: Global, error: &clap::Error) -> Result<NoOrder, LineError>
+/// Errors: `NoMemory` if an allocation was refused.
+fn why_refused(alloc: Global, error: &clap::Error) -> Result<NoOrder, NoMemory>
     ensures { TellsKind (kind_of error.now) result }
 {
+    if let Some(refused) = told_by_clap(error.kind()) {
+        return Err(refused);
+    }
     match error.kind() {
-        ErrorKind::OutOfMemory => Err(LineError::NoMemory),
         ErrorKind::DisplayHelp => Ok(NoOrder::AsksHelp),
         ErrorKind::DisplayVersion => Ok(NoOrder::AsksVersion),
         kind => {
@@ -226,8 +230,8 @@ fn why_refused(alloc: Global, error: &clap::Error) -> Result<NoOrder, LineError>
 ///
 /// Requires: `read_line` refuses the words.
 ///
-/// Errors: `NoMemory` alone, only if memory ran out.
-pub fn why_no_order(alloc: Global, words: &[&str]) -> Result<NoOrder, LineError>
+/// Errors: `NoMemory` where an allocation was refused.
+pub fn why_no_order(alloc: Global, words: &[&str]) -> Result<NoOrder, NoMemory>
     requires { order_of (map (λ w. w.now) words.now) ≡ None }
     ensures { TellsWhy (map (λ w. w.now) words.now) result }
 {

@@ -3,15 +3,16 @@
 ghost use Rattle.std.specs.Prelude.{◌≡◌, IfOk, OkIff, codes, map, option_map, true, false};
 ghost use Rattle.clap.specs.{Simple.app_of, Simple.subcommand_rows_of, Matches.found_of, Walk.first_of, Walk.rows_of, Walk.rule_of};
 ghost use Rattle.clap.specs.{declared.builder.command.Command.TheViews.out-Command};
+ghost use Rattle.event_log.specs.Refusals.{no_memory};
 ghost use Rattle.mctower.specs.{declared.line.LineError.TheVariants.NoMemory, Line.Reads, Line.check_app, Line.count_app, Line.count_in, Line.number_in};
 ghost use Rattle.mctower.specs.{Line.number_at, Line.lock_asked, Line.optional, Line.order_of, Line.program, Line.run_app, Line.threads_app};
 ghost use Rattle.mctower.specs.{Line.required_option, Line.threads_in, Line.run_in, Line.order_in, Line.Finds, Line.Parses};
 
 use crate::help::VERSION;
+use crate::memory::told_by_clap;
 use boot::LockKind;
-use clap::error::ErrorKind;
 use clap::{Arg, ArgMatches, Command};
-use event_log::CPUS;
+use event_log::{CPUS, NoMemory};
 use std::alloc::{AllocError, AllocFailed, Global};
 use thiserror::Error;
 
@@ -40,19 +41,19 @@ pub enum Order {
 /// Why the words make no order.
 #[derive(Debug, Clone, Copy, PartialEq, Eq, Error)]
 pub enum LineError {
-    /// Memory ran out.
-    #[error("NoMemory(1)")]
-    NoMemory,
+    /// An allocation was refused.
+    #[error("{0}")]
+    NoMemory(NoMemory),
     /// The words are no command line of this program, or ask for help or the version.
     #[error("bad command line")]
     Refused,
 }
 
 impl From<AllocError> for LineError {
-    ghost from_gives = { λ _ e. e ≡ NoMemory };
+    ghost from_gives = { λ _ e. e ≡ NoMemory no_memory };
 
-    fn from(_error: AllocError) -> LineError {
-        LineError::NoMemory
+    fn from(error: AllocError) -> LineError {
+        LineError::NoMemory(NoMemory::from(error))
     }
 }
 
@@ -109,13 +110,10 @@ fn matches_in<'a>(alloc: Global, words: &'a [&'a str]) -> Result<ArgMatches<'a>,
 {
     match parse(alloc, words) {
         Ok(matches) => Ok(matches),
-        Err(error) => {
-            if error.kind() == ErrorKind::OutOfMemory {
-                Err(LineError::NoMemory)
-            } else {
-                Err(LineError::Refused)
-            }
-        }
+        Err(error) => match told_by_clap(error.kind()) {
+            Some(refused) => Err(LineError::NoMemory(refused)),
+            None => Err(LineError::Refused),
+        },
     }
 }
 

@@ -1,5 +1,7 @@
-//! The locks that a plan or a count may name, each over an owned machine. A further lock is one more
-//! impl here, and an arm where a lock is chosen by its kind: `over_lock` and `count_plain`.
+//! The locks that a plan or a count may name, each over an owned machine. What stands on a lock has
+//! its kind from the lock's words, by its type ([`OnLock`]). A further lock is two more impls here, of
+//! its words and of the lock, and an arm where a lock is chosen by its kind: `over_lock` and
+//! `count_plain`.
 //!
 //! A climb takes the memory that its work takes, and a count takes that of its machine and parts. No
 //! call waits.
@@ -12,13 +14,73 @@ use crate::count::count_behind;
 use crate::line::MOST_TIMES;
 use crate::tower::{OverTower, over_sections};
 use boot::LockKind;
-use cpu_workers::counting::{AddOne, CountLaws};
+use condvar::Cond;
+use cpu_workers::counting::{AddOne, CountLaws, Counted, LockOfKind};
 use event_log::NoMemory;
-use ipc_calls::{TowerEdit, TowerLockLaws};
-use plain_machine::{GrantPlain, Plain};
-use spinlock::{Grant, Ticket};
+use fifo_buffer::Fifo;
+use ipc_calls::{Ipc, TowerEdit, TowerLockLaws};
+use layer_traits::{Sleeps, SplitEdit};
+use plain_machine::{GrantPlain, Granting, LineWords, LockWords, Plain};
+use queuing_lock::QLock;
+use scheduler::Sched;
+use shared_queue::SharedQueues;
+use sleep_wakeup::Sleeper;
+use spinlock::{FairLock, Grant, SpinLock, Ticket};
 use std::alloc::Global;
 use std::marker::PhantomData;
+
+/// What stands on locks of one kind: their words, an owned machine of such words, and each layer of
+/// a tower over it.
+pub trait OnLock {
+    ghost use Rattle.boot.specs.declared.locks.LockKind.{LockKind};
+
+    /// The kind of these locks, as a plan names it.
+    ghost lock_kind: { LockKind };
+}
+
+impl OnLock for LockWords {
+    ghost lock_kind = { kind.Ticket };
+}
+
+impl OnLock for Granting {
+    ghost lock_kind = { kind.Grant };
+}
+
+impl<E: SplitEdit, K: LineWords + OnLock> OnLock for Plain<E, K> {
+    ghost lock_kind = { K.lock_kind };
+}
+
+impl<M: FairLock<LockProtocol> + OnLock, LockProtocol> OnLock for SpinLock<M, LockProtocol> {
+    ghost lock_kind = { M.lock_kind };
+}
+
+impl<L: OnLock> OnLock for SharedQueues<L> {
+    ghost lock_kind = { L.lock_kind };
+}
+
+impl<Q: OnLock> OnLock for Sched<Q> {
+    ghost lock_kind = { Q.lock_kind };
+}
+
+impl<E: Sleeps, S: OnLock> OnLock for Sleeper<E, S> {
+    ghost lock_kind = { S.lock_kind };
+}
+
+impl<S: OnLock> OnLock for QLock<S> {
+    ghost lock_kind = { S.lock_kind };
+}
+
+impl<Q: OnLock> OnLock for Cond<Q> {
+    ghost lock_kind = { Q.lock_kind };
+}
+
+impl<C: OnLock> OnLock for Fifo<C> {
+    ghost lock_kind = { C.lock_kind };
+}
+
+impl<B: OnLock> OnLock for Ipc<B> {
+    ghost lock_kind = { B.lock_kind };
+}
 
 /// A lock by its kind: the tower over it in an owned machine, and a count behind it.
 pub trait OwnedLock {
@@ -36,30 +98,40 @@ pub trait OwnedLock {
 
     /// Counts behind it: each of `cpus` CPUs does `times` sections that add 1.
     ///
-    /// Requires: `cpus` is at most [`CPUS`](event_log::CPUS). `times` is at most [`MOST_TIMES`].
+    /// Requires: `cpus` is from 1 to [`CPUS`](event_log::CPUS). `times` is at most [`MOST_TIMES`].
     ///
     /// Errors: `NoMemory` where memory ran out; then no section was done.
-    fn count(alloc: Global, cpus: u8, times: u64) -> Result<u64, NoMemory>
+    fn count(alloc: Global, cpus: u8, times: u64) -> Result<Counted, NoMemory>
+        requires some { 1 ≤ cpus }
         requires cpus { cpus ≤ CPUS }
         requires times { times ≤ MOST_TIMES }
-        ensures { IfOk result (λ number. number ≡ times * cpus) };
+        ensures number { IfOk result (λ counted. counted.number ≡ times * cpus) }
+        ensures lock { IfOk result (λ counted. counted.lock ≡ kind) };
 }
 
 /// A ticket lock.
 #[derive(Drop)]
 pub struct TicketLock;
 
+impl LockOfKind<Ticket<Plain<AddOne>>> for TicketLock {
+    ghost lock_kind = { kind.Ticket };
+
+    fn kind() -> LockKind {
+        LockKind::Ticket
+    }
+}
+
 impl OwnedLock for TicketLock {
     ghost kind = { kind.Ticket };
 
     fn climb<V: OverTower>(work: &mut V) -> V::Done {
         let _laws: TowerLockLaws = PhantomData;
-        over_sections::<V, Ticket<Plain<TowerEdit>>>(LockKind::Ticket, work)
+        over_sections::<V, Ticket<Plain<TowerEdit>>>(work)
     }
 
-    fn count(alloc: Global, cpus: u8, times: u64) -> Result<u64, NoMemory> {
+    fn count(alloc: Global, cpus: u8, times: u64) -> Result<Counted, NoMemory> {
         let _laws: CountLaws = PhantomData;
-        count_behind::<Ticket<Plain<AddOne>>>(alloc, cpus, times)
+        count_behind::<Ticket<Plain<AddOne>>, TicketLock>(alloc, cpus, times)
     }
 }
 
@@ -67,17 +139,25 @@ impl OwnedLock for TicketLock {
 #[derive(Drop)]
 pub struct GrantLock;
 
+impl LockOfKind<Grant<GrantPlain<AddOne>>> for GrantLock {
+    ghost lock_kind = { kind.Grant };
+
+    fn kind() -> LockKind {
+        LockKind::Grant
+    }
+}
+
 impl OwnedLock for GrantLock {
     ghost kind = { kind.Grant };
 
     fn climb<V: OverTower>(work: &mut V) -> V::Done {
         let _laws: TowerLockLaws = PhantomData;
-        over_sections::<V, Grant<GrantPlain<TowerEdit>>>(LockKind::Grant, work)
+        over_sections::<V, Grant<GrantPlain<TowerEdit>>>(work)
     }
 
-    fn count(alloc: Global, cpus: u8, times: u64) -> Result<u64, NoMemory> {
+    fn count(alloc: Global, cpus: u8, times: u64) -> Result<Counted, NoMemory> {
         let _laws: CountLaws = PhantomData;
-        count_behind::<Grant<GrantPlain<AddOne>>>(alloc, cpus, times)
+        count_behind::<Grant<GrantPlain<AddOne>>, GrantLock>(alloc, cpus, times)
     }
 }
 

@@ -13,16 +13,17 @@
 //! ```
 #![tactic(auto)]
 
-ghost use Rattle.std.specs.Prelude.{◌≡◌, false, map};
+ghost use Rattle.std.specs.Prelude.{◌≡◌, IfOk, false, map, string_bytes};
 ghost use Rattle.std.specs.Process.{exit_status};
 ghost use Rattle.tracer.specs.Sinks.{has_failed};
-ghost use Rattle.mctower.specs.{Output.between, Serve.EndsReported};
+ghost use Rattle.mctower.specs.{Output.between, Refusals.PutsRefusal, Refusals.status_of_refusal, Serve.EndsProcess};
 
 pub mod count;
 pub mod faults;
 mod help;
 pub mod line;
 pub mod locks;
+mod memory;
 pub mod print;
 pub mod reading;
 pub mod refusals;
@@ -34,10 +35,12 @@ pub mod texts;
 pub mod threads;
 pub mod tower;
 
+use event_log::NoMemory;
 use faults::LineFault;
 use refusals::{Refusal, status_of_refusal, write_report};
-use serve::serve;
-use std::io::{BufWriter, Write};
+use serve::{read_refused, serve};
+use std::alloc::Global;
+use std::io::{BufWriter, Read, Write};
 use std::process::ExitCode;
 use std::sync::Wait;
 use std::thread::Threads;
@@ -45,15 +48,11 @@ use std::{env, io};
 use tracer::Sink;
 
 fn main(rt: HostRuntime) -> ExitCode {
+    let words = words_after_the_name(&rt);
     let mut err = Sink::new(rt.stderr());
-    let words = match words_after_the_name(&rt) {
-        Ok(words) => words,
-        Err(refusal) => return refused(&mut err, &[], refusal),
-    };
-    let texts: Result<Vec<&str>, _> = words.iter().map(|word| word.as_str()).collect(rt.alloc());
-    match texts {
-        Ok(texts) => serve_words(&rt, texts.as_slice(), &mut err),
-        Err(_) => refused(&mut err, &[], Refusal::NoMemory),
+    match BufWriter::new(rt.alloc(), io::writer(&rt)) {
+        Ok(out) => serve_words(&rt, words, &mut rt.reader(), &mut Sink::new(out), &mut err),
+        Err(error) => refused(&mut err, &[], read_refused(error.kind())),
     }
 }
 
@@ -62,42 +61,61 @@ fn words_after_the_name(rt: &HostRuntime) -> Result<Vec<String>, Refusal> {
     match env::args(rt) {
         Ok(args) => match args.skip(1).collect(rt.alloc()) {
             Ok(words) => Ok(words),
-            Err(_) => Err(Refusal::NoMemory),
+            Err(error) => Err(Refusal::NoMemory(NoMemory::from(error))),
         },
         Err(error) => {
             if error.kind() == io::ErrorKind::InvalidData {
                 Err(Refusal::BadLine(LineFault::NotText))
             } else {
-                Err(Refusal::NoMemory)
+                Err(read_refused(error.kind()))
             }
         }
     }
 }
 
+/// The words as texts.
+fn texts_of<'w>(alloc: Global, words: &'w [String]) -> Result<Vec<&'w str>, NoMemory>
+    ensures { IfOk result (λ texts. map (λ t. t.now) texts.items ≡ map string_bytes words.entry.now) }
+{
+    let mut texts = Vec::new(alloc);
+    for word in words {
+        texts.push(word.as_str())?;
+    }
+    Ok(texts)
+}
+
 /// Tells a refusal of these words, and gives the exit status of the process.
 fn refused<E: Write>(err: &mut Sink<E>, words: &[&str], refusal: Refusal) -> ExitCode
     requires { has_failed err.old ≡ false }
-    ensures { EndsReported (map (λ w. w.now) words.now) (exit_status result) (between E.contents err.old err.new) }
+    ensures status { exit_status result ≡ status_of_refusal refusal }
+    ensures told { PutsRefusal (map (λ w. w.now) words.now) refusal (between E.contents err.old err.new) }
 {
     let status = status_of_refusal(&refusal);
     write_report(err, words, refusal);
     ExitCode::from(status)
 }
 
-/// Serves the words over the standard streams, and gives the exit status of the process: that of
-/// the answer that standard error tells.
-fn serve_words<T: AllocGlobal + Input + Print + Threads + Wait + Sync, E: Write>(
+/// Serves the words over these streams, as [`serve`] says, and gives the exit status of the process.
+/// Where the words could not be had, that refusal is told.
+///
+/// Requires: neither `out` nor `err` has failed.
+fn serve_words<T: AllocGlobal + Threads + Wait + Sync, R: Read, O: Write, E: Write>(
     rt: &T,
-    words: &[&str],
+    words: Result<Vec<String>, Refusal>,
+    input: &mut R,
+    out: &mut Sink<O>,
     err: &mut Sink<E>,
 ) -> ExitCode
-    requires { has_failed err.old ≡ false }
-    ensures { EndsReported (map (λ w. w.now) words.now) (exit_status result) (between E.contents err.old err.new) }
+    requires out { has_failed out.old ≡ false }
+    requires err { has_failed err.old ≡ false }
+    ensures { EndsProcess words (R.remaining input.old) (exit_status result) (between O.contents out.old out.new) (between E.contents err.old err.new) }
 {
-    let Ok(buffered) = BufWriter::new(rt.alloc(), io::writer(rt)) else {
-        return refused(err, words, Refusal::NoMemory);
+    let words = match words {
+        Ok(words) => words,
+        Err(refusal) => return refused(err, &[], refusal),
     };
-    let mut out = Sink::new(buffered);
-    let status = serve(rt, rt.alloc(), words, &mut rt.reader(), &mut out, err);
-    ExitCode::from(status)
+    match texts_of(rt.alloc(), words.as_slice()) {
+        Ok(texts) => ExitCode::from(serve(rt, rt.alloc(), texts.as_slice(), input, out, err)),
+        Err(lacking) => refused(err, &[], Refusal::NoMemory(lacking)),
+    }
 }

@@ -2,7 +2,7 @@
 
 ghost use Rattle.std.specs.Prelude.{◌≡◌, false, map};
 ghost use Rattle.tracer.specs.Sinks.{has_failed};
-ghost use Rattle.mctower.specs.{Output.IsPut, Output.between, Refusals.PutsRefusal, Refusals.from_count, Refusals.from_fault, Refusals.from_steps};
+ghost use Rattle.mctower.specs.{Output.IsPut, Output.between, Refusals.PutsRefusal, Refusals.from_fault, Refusals.from_steps};
 ghost use Rattle.mctower.specs.{Refusals.from_worker, Refusals.status_of_refusal};
 
 use crate::faults::{LineFault, write_fault};
@@ -10,8 +10,8 @@ use crate::print::{print, refuse};
 use crate::run::Fault;
 use crate::schedule::StepsError;
 use boot::BootError;
-use cpu_workers::WorkerError;
-use cpu_workers::counting::CountFault;
+use cpu_workers::{NoThread, WorkerError};
+use event_log::NoMemory;
 use std::io::Write;
 use tracer::Sink;
 
@@ -20,12 +20,12 @@ use tracer::Sink;
 pub enum Refusal {
     /// The words are no command line of this program: what is wrong with them is told.
     BadLine(LineFault),
-    /// Memory ran out.
-    NoMemory,
+    /// An allocation was refused.
+    NoMemory(NoMemory),
     /// The schedule names a CPU that the plan has not.
     BadCpu,
     /// A thread could not be started.
-    NoThread,
+    NoThread(NoThread),
     /// The traces have no order that keeps each of them. It never comes.
     NoOrder,
     /// Standard input could not be read.
@@ -43,7 +43,7 @@ pub(crate) fn run_refused(fault: Fault) -> Refusal
     ensures { result ≡ from_fault fault }
 {
     match fault {
-        Fault::NoMemory => Refusal::NoMemory,
+        Fault::NoMemory(refused) => Refusal::NoMemory(refused),
         Fault::Boot(error) => Refusal::Plan(error),
         Fault::BadCpu => Refusal::BadCpu,
         Fault::NoOrder => Refusal::NoOrder,
@@ -51,23 +51,13 @@ pub(crate) fn run_refused(fault: Fault) -> Refusal
     }
 }
 
-/// A fault of a count as a refusal.
-pub(crate) fn count_refused(fault: CountFault) -> Refusal
-    ensures { result ≡ from_count fault }
-{
-    match fault {
-        CountFault::NoMemory => Refusal::NoMemory,
-        CountFault::NoThread => Refusal::NoThread,
-    }
-}
-
-/// Why no worker took a step, as a refusal.
+/// Why no worker took a step, or did no section of a count, as a refusal.
 pub(crate) fn worker_refused(error: WorkerError) -> Refusal
     ensures { result ≡ from_worker error }
 {
     match error {
-        WorkerError::NoMemory => Refusal::NoMemory,
-        WorkerError::NoThread => Refusal::NoThread,
+        WorkerError::NoMemory(refused) => Refusal::NoMemory(refused),
+        WorkerError::NoThread(refused) => Refusal::NoThread(refused),
     }
 }
 
@@ -76,7 +66,7 @@ pub(crate) fn steps_refused(error: StepsError) -> Refusal
     ensures { result ≡ from_steps error }
 {
     match error {
-        StepsError::NoMemory => Refusal::NoMemory,
+        StepsError::NoMemory(refused) => Refusal::NoMemory(refused),
         StepsError::BadSchedule => Refusal::BadSchedule,
     }
 }
@@ -108,9 +98,9 @@ pub(crate) fn write_report<W: Write>(sink: &mut Sink<W>, words: &[&str], refusal
 {
     match refusal {
         Refusal::BadLine(fault) => write_fault(sink, words, fault),
-        Refusal::NoMemory => put_text(sink, "error: NoMemory(1)\n"),
+        Refusal::NoMemory(_) => put_text(sink, "error: NoMemory(1)\n"),
         Refusal::BadCpu => put_text(sink, "error: BadCpu(4)\n"),
-        Refusal::NoThread => put_text(sink, "error: NoThread(5)\n"),
+        Refusal::NoThread(_) => put_text(sink, "error: NoThread(5)\n"),
         Refusal::NoOrder => put_text(sink, "error: NoOrder(6)\n"),
         Refusal::ReadFault => put_text(sink, "error: ReadFault(7)\n"),
         Refusal::WriteFault => put_text(sink, "error: WriteFault(8)\n"),

@@ -2,17 +2,18 @@
 //! No call waits, unless the sink's writer does.
 
 ghost use Rattle.std.specs.Prelude.{◌≡◌, ◌≤◌, false, length, map, IfOk};
-ghost use Rattle.event_log.specs.declared.ids.TheConstants.{BUFFERS};
+ghost use Rattle.event_log.specs.{declared.ids.TheConstants.BUFFERS, Refusals.no_memory};
 ghost use Rattle.boot.specs.Plan.{plan_of};
 ghost use Rattle.tracer.specs.{Gather.traces_in, Sinks.has_failed};
 ghost use Rattle.cpu.specs.Claims.{traces_of};
-ghost use Rattle.mctower.specs.{Output.between, Plans.IsOfPlan, Plans.from_boot, Running.RunsPlan, Running.RunsText, Texts.Writes};
+ghost use Rattle.mctower.specs.{Output.between, Plans.IsOfPlan, Plans.from_boot, Running.RunsOn, Running.RunsPlan, Running.RunsText, Running.on_lock};
+ghost use Rattle.mctower.specs.Texts.{Writes};
 ghost use Rattle.mctower.specs.declared.run.Fault.TheVariants.{NoMemory, NoOrder, BadCpu as BadCpuFault, WriteFault as WriteFailed};
 
 use crate::schedule::MOST_STEPS;
 use crate::texts::write_text;
 use arrayvec::ArrayVec;
-use boot::{Boot, BootError};
+use boot::{Boot, BootError, LockKind};
 use cpu::{BadCpu, System};
 use event_log::{BUFFERS, BufId, CAPACITY, CpuId, Entry, Msg, NoMemory};
 use layer_traits::Owned;
@@ -25,8 +26,8 @@ use tracer::{GatherError, Sink, WriteFault};
 #[derive(Clone, Copy, Debug, PartialEq, Eq, Error)]
 pub enum Fault {
     /// An allocation was refused.
-    #[error("NoMemory(1)")]
-    NoMemory,
+    #[error("{0}")]
+    NoMemory(NoMemory),
     /// The plan is refused.
     #[error("{0}")]
     Boot(BootError),
@@ -42,26 +43,26 @@ pub enum Fault {
 }
 
 impl From<AllocError> for Fault {
-    ghost from_gives = { λ _ e. e ≡ NoMemory };
+    ghost from_gives = { λ _ e. e ≡ NoMemory no_memory };
 
-    fn from(_error: AllocError) -> Fault {
-        Fault::NoMemory
+    fn from(error: AllocError) -> Fault {
+        Fault::NoMemory(NoMemory::from(error))
     }
 }
 
 impl<T: Drop> From<AllocFailed<T>> for Fault {
-    ghost from_gives = { λ _ e. e ≡ NoMemory };
+    ghost from_gives = { λ _ e. e ≡ NoMemory no_memory };
 
-    fn from(_error: AllocFailed<T>) -> Fault {
-        Fault::NoMemory
+    fn from(error: AllocFailed<T>) -> Fault {
+        Fault::NoMemory(NoMemory::from(error))
     }
 }
 
 impl From<NoMemory> for Fault {
-    ghost from_gives = { λ _ e. e ≡ NoMemory };
+    ghost from_gives = { λ _ e. e ≡ NoMemory no_memory };
 
-    fn from(_error: NoMemory) -> Fault {
-        Fault::NoMemory
+    fn from(error: NoMemory) -> Fault {
+        Fault::NoMemory(error)
     }
 }
 
@@ -70,7 +71,7 @@ impl From<BootError> for Fault {
 
     fn from(error: BootError) -> Fault {
         match error {
-            BootError::NoMemory => Fault::NoMemory,
+            BootError::NoMemory(refused) => Fault::NoMemory(refused),
             refused => Fault::Boot(refused),
         }
     }
@@ -91,7 +92,7 @@ impl From<GatherError> for Fault {
 
     fn from(error: GatherError) -> Fault {
         match error {
-            GatherError::NoMemory => Fault::NoMemory,
+            GatherError::NoMemory(refused) => Fault::NoMemory(refused),
             GatherError::NoOrder => Fault::NoOrder,
         }
     }
@@ -103,6 +104,20 @@ impl From<WriteFault> for Fault {
     fn from(_error: WriteFault) -> Fault {
         Fault::WriteFault
     }
+}
+
+/// The system of a plan after a run, by the lock that the plan names: `I` is the top of the layers
+/// over ticket locks, and `J` of those over locks with grant words.
+#[derive(Drop)]
+pub enum Ran<I: Owned + Drop, J: Owned + Drop>
+where
+    I::Machine: Drop,
+    J::Machine: Drop,
+{
+    /// The plan names ticket locks.
+    Ticket(System<I>),
+    /// The plan names locks with a grant word for each waiter, or none.
+    Grant(System<J>),
 }
 
 /// What [`run_text`] does once the plan is read.
@@ -129,18 +144,13 @@ where
     Ok(system)
 }
 
-/// Reads a plan, lets its system take the steps of a schedule, and writes the trace text: the
-/// plan's capacities, the entries of all CPUs in one order, and what the buffers hold after the
-/// last step. The system stands on the layers that `I` is the top of, whatever lock the plan names,
-/// and has room for as many steps as the schedule has. Gives the system.
+/// What [`run_text`] does, over one top layer: whatever lock the plan names, its system stands on the
+/// layers that `I` is the top of.
 ///
 /// Requires: the sink has not failed. There are at most `MOST_STEPS` steps.
 ///
-/// Errors: the first of these. `Boot` where the plan is refused, and why; `BadCpu` where the
-/// schedule names a CPU that the plan has not; `WriteFault` exactly where the sink failed, and then
-/// a beginning of the text is out. Before any other error nothing was written. `NoMemory` where an
-/// allocation was refused; `NoOrder` never comes, since the traces of a system have an order.
-pub fn run_text<I: Owned + Drop, W: Write>(
+/// Errors: those of [`run_text`].
+pub(crate) fn run_on<I: Owned + Drop, W: Write>(
     alloc: Global,
     plan: &str,
     steps: &[CpuId],
@@ -150,10 +160,47 @@ where
     I::Machine: Drop,
     requires live { has_failed sink.old ≡ false }
     requires few { length steps.now ≤ MOST_STEPS }
-    ensures { RunsText I.IsStepwise (plan_of plan.now) steps.now result (between W.contents sink.old sink.new) }
+    ensures { RunsOn I.IsStepwise (plan_of plan.now) steps.now result (between W.contents sink.old sink.new) }
 {
     let boot = Boot::read(alloc, plan)?;
     run_boot(alloc, &boot, steps, sink)
+}
+
+/// Reads a plan, lets its system take the steps of a schedule, and writes the trace text: the
+/// plan's capacities, the entries of all CPUs in one order, and what the buffers hold after the
+/// last step. The system stands on the lock that the plan names, and has room for as many steps as
+/// the schedule has. Gives the system, in the case of that lock.
+///
+/// Requires: the sink has not failed. There are at most `MOST_STEPS` steps.
+///
+/// Errors: the first of these. `Boot` where the plan is refused, and why; `BadCpu` where the
+/// schedule names a CPU that the plan has not; `WriteFault` exactly where the sink failed, and then
+/// a beginning of the text is out. Before any other error nothing was written. `NoMemory` where an
+/// allocation was refused; `NoOrder` never comes, since the traces of a system have an order.
+pub fn run_text<I: Owned + Drop, J: Owned + Drop, W: Write>(
+    alloc: Global,
+    plan: &str,
+    steps: &[CpuId],
+    sink: &mut Sink<W>,
+) -> Result<Ran<I, J>, Fault>
+where
+    I::Machine: Drop,
+    J::Machine: Drop,
+    requires live { has_failed sink.old ≡ false }
+    requires few { length steps.now ≤ MOST_STEPS }
+    ensures { RunsText (on_lock I.IsStepwise J.IsStepwise) (plan_of plan.now) steps.now result (between W.contents sink.old sink.new) }
+{
+    let boot = Boot::read(alloc, plan)?;
+    match boot.lock() {
+        LockKind::Ticket => match run_boot::<I, W>(alloc, &boot, steps, sink) {
+            Ok(system) => Ok(Ran::Ticket(system)),
+            Err(fault) => Err(fault),
+        },
+        LockKind::Grant => match run_boot::<J, W>(alloc, &boot, steps, sink) {
+            Ok(system) => Ok(Ran::Grant(system)),
+            Err(fault) => Err(fault),
+        },
+    }
 }
 
 /// Writes the trace text of the system of a plan with these CPUs and capacities.

@@ -3,9 +3,10 @@
 ghost use Rattle.std.specs.Prelude.{◌≡◌, ◌+◌, ◌<◌, ◌≤◌, ◌∷◌, ◌++◌, length, replicate, option_map, IfSome, OnOk, vec_len};
 ghost use Rattle.std.specs.List.{slice_split};
 ghost use Rattle.mctower.specs.{Schedule.cpu_of, Schedule.item_of, Schedule.is_comma, Schedule.schedule_pieces, Schedule.ReadsSteps, Schedule.steps_of};
+ghost use Rattle.event_log.specs.Refusals.{no_memory};
 ghost use Rattle.mctower.specs.{declared.schedule.StepsError.TheVariants.NoMemory};
 
-use event_log::{CpuId, number_to};
+use event_log::{CpuId, NoMemory, number_to};
 use std::alloc::{AllocError, AllocFailed, Global};
 use thiserror::Error;
 
@@ -15,19 +16,19 @@ pub const MOST_STEPS: usize = 1_048_576;
 /// Why a text gives no schedule.
 #[derive(Debug, Clone, Copy, PartialEq, Eq, Error)]
 pub enum StepsError {
-    /// Memory ran out.
-    #[error("NoMemory(1)")]
-    NoMemory,
+    /// An allocation was refused.
+    #[error("{0}")]
+    NoMemory(NoMemory),
     /// The text is not in the grammar of schedules, or its steps are too many.
     #[error("BadSchedule(9)")]
     BadSchedule,
 }
 
 impl From<AllocError> for StepsError {
-    ghost from_gives = { λ _ e. e ≡ NoMemory };
+    ghost from_gives = { λ _ e. e ≡ NoMemory no_memory };
 
-    fn from(_error: AllocError) -> StepsError {
-        StepsError::NoMemory
+    fn from(error: AllocError) -> StepsError {
+        StepsError::NoMemory(NoMemory::from(error))
     }
 }
 

@@ -13,9 +13,10 @@ use crate::count::{count_plain, count_table};
 use crate::faults::{NoOrder, why_no_order};
 use crate::help::{VERSION, help_on};
 use crate::line::{LineError, MOST_TIMES, Order, read_line};
+use crate::memory::told_by_io;
 use crate::print::print;
 use crate::refusals::{
-    Refusal, count_refused, run_refused, status_of_refusal, steps_refused, write_report,
+    Refusal, run_refused, status_of_refusal, steps_refused, worker_refused, write_report,
 };
 use crate::schedule::{MOST_STEPS, StepsError, read_steps};
 use crate::states::State;
@@ -72,23 +73,25 @@ fn serve_count<O: Write, T: Threads + Wait + Sync>(
     lock: LockKind,
     out: &mut Sink<O>,
 ) -> Result<Done, Refusal>
+    requires some { 1 ≤ cpus }
     requires cpus { cpus ≤ CPUS }
     requires times { times ≤ MOST_TIMES }
     requires live { has_failed out.old ≡ false }
     ensures counts { Counts (times * cpus) result (between O.contents out.old out.new) }
     ensures flushed { IfOk result (λ _. is_flushed out.new ≡ true) }
 {
-    let Ok(number) = count_plain(alloc, cpus, times, lock) else {
-        return Err(Refusal::NoMemory);
+    let in_machine = match count_plain(alloc, cpus, times, lock) {
+        Ok(counted) => counted,
+        Err(refused) => return Err(Refusal::NoMemory(refused)),
     };
-    let shared = match count_table(rt, alloc, cpus, times, lock) {
-        Ok(shared) => shared,
-        Err(fault) => return Err(count_refused(fault)),
+    let in_table = match count_table(rt, alloc, cpus, times, lock) {
+        Ok(counted) => counted,
+        Err(fault) => return Err(worker_refused(fault)),
     };
     let mut plain = Buffer::new();
     let mut table = Buffer::new();
-    let plain = plain.format(number).as_bytes();
-    let table = table.format(shared).as_bytes();
+    let plain = plain.format(in_machine.number()).as_bytes();
+    let table = table.format(in_table.number()).as_bytes();
     let lines = [
         b"plain ".as_slice(),
         plain,
@@ -100,12 +103,12 @@ fn serve_count<O: Write, T: Threads + Wait + Sync>(
 }
 
 /// What a failed read refuses, by its kind.
-fn read_refused(kind: io::ErrorKind) -> Refusal
+pub(crate) fn read_refused(kind: io::ErrorKind) -> Refusal
     ensures { result ≡ kind_refused kind }
 {
-    match kind {
-        io::ErrorKind::OutOfMemory => Refusal::NoMemory,
-        _ => Refusal::ReadFault,
+    match told_by_io(kind) {
+        Some(refused) => Refusal::NoMemory(refused),
+        None => Refusal::ReadFault,
     }
 }
 
@@ -143,7 +146,7 @@ fn print_verdict<O: Write>(verdict: Verdict, out: &mut Sink<O>) -> Result<Done, 
             ];
             put_out(out, &pieces, Done::Exit(3))
         }
-        Verdict::NoMemory => Err(Refusal::NoMemory),
+        Verdict::NoMemory(refused) => Err(Refusal::NoMemory(refused)),
     }
 }
 
@@ -239,7 +242,7 @@ fn serve_no_order<O: Write>(
             put_out(out, &[name, version, b"\n".as_slice()], Done::Exit(2))
         }
         Ok(NoOrder::Faulty(fault)) => Err(Refusal::BadLine(fault)),
-        Err(_) => Err(Refusal::NoMemory),
+        Err(refused) => Err(Refusal::NoMemory(refused)),
     }
 }
 
@@ -258,7 +261,7 @@ fn answer<R: Read, O: Write, T: Threads + Wait + Sync>(
     ensures unread { reads_input (order_of (map (λ w. w.now) words.now)) ≡ false → input.new ≡ input.old }
 {
     match read_line(alloc, words) {
-        Err(LineError::NoMemory) => Err(Refusal::NoMemory),
+        Err(LineError::NoMemory(refused)) => Err(Refusal::NoMemory(refused)),
         Err(LineError::Refused) => serve_no_order(alloc, words, out),
         Ok(Order::Count(cpus, times, lock)) => serve_count(rt, alloc, cpus, times, lock, out),
         Ok(Order::Check) => serve_check(alloc, input, out),

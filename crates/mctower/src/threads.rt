@@ -10,7 +10,7 @@ ghost use Rattle.tracer.specs.{Sinks.WentOut, Sinks.has_failed, Sinks.is_flushed
 ghost use Rattle.cpu.specs.Claims.{buffer_at, listed};
 ghost use Rattle.cpu_workers.specs.Seating.{items_of_block};
 ghost use Rattle.mctower.specs.{Output.between, Serve.OfBytes, Serve.OfInput, Serve.OfPlan, Serve.RefusedBy, Serve.WorksPlan, Threads.stop_pieces};
-ghost use Rattle.mctower.specs.{Threads.stop_text, Threads.stop_word, declared.refusals.Refusal.TheVariants.NoMemory as LacksMemory};
+ghost use Rattle.mctower.specs.{Threads.stop_text, Threads.stop_word, Refusals.lacks_memory};
 
 use crate::refusals::{Refusal, run_refused, worker_refused};
 use crate::run::Fault;
@@ -82,7 +82,7 @@ fn work_plan<O: Write, T: Threads + Wait + Sync>(
     out: &mut Sink<O>,
 ) -> Result<Done, Refusal>
     requires { has_failed out.old ≡ false }
-    ensures works { RefusedBy LacksMemory result (between O.contents out.old out.new)
+    ensures works { RefusedBy lacks_memory result (between O.contents out.old out.new)
         ⊎ OfPlan (WorksPlan turns) (plan_of plan.now) result (between O.contents out.old out.new) }
     ensures flushed { IfOk result (λ _. is_flushed out.new ≡ true) }
 {

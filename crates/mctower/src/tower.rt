@@ -6,13 +6,14 @@
 
 ghost use Rattle.std.specs.Prelude.{◌≡◌, ◌≤◌, ◌⊎◌, Err, false, length};
 ghost use Rattle.boot.specs.Plan.{plan_of};
+ghost use Rattle.event_log.specs.Refusals.{no_memory};
 ghost use Rattle.tracer.specs.Sinks.{has_failed};
 ghost use Rattle.mctower.specs.{Output.between, Running.RunsOverTower, Running.lock_in};
 ghost use Rattle.mctower.specs.declared.run.Fault.TheVariants as fault;
 
-use crate::locks::over_lock;
+use crate::locks::{OnLock, over_lock};
 use crate::reading::state_of;
-use crate::run::{Fault, run_text};
+use crate::run::{Fault, run_on};
 use crate::schedule::MOST_STEPS;
 use crate::states::State;
 use boot::{Boot, LockKind};
@@ -45,52 +46,48 @@ pub trait OverTower {
     /// What doing it makes of it, if this comes of it.
     ghost Does: { Self → Self.Done → Self → Type 0 };
 
-    /// Does it over the top of the tower that stands on a lock of this kind.
+    /// Does it over the top of the tower.
     ///
-    /// Requires: it may be done over the tower of such a lock.
-    fn over<I: Stepwise + Drop>(&mut self, lock: LockKind) -> Self::Done
+    /// Requires: it may be done over the tower of the kind of lock on which this one stands.
+    fn over<I: Stepwise + OnLock + Drop>(&mut self) -> Self::Done
     where
         I::Machine: Drop,
-        requires { IsReady self.old lock }
+        requires { IsReady self.old I.lock_kind }
         ensures { Does self.old result self.new };
 }
 
 /// Does it over queuing locks, conditions, buffers and message calls.
-fn over_locks<V: OverTower, S: StepwiseLocks + Drop>(lock: LockKind, work: &mut V) -> V::Done
+fn over_locks<V: OverTower, S: StepwiseLocks + OnLock + Drop>(work: &mut V) -> V::Done
 where
     S::Machine: Drop,
-    requires { V.IsReady work.old lock }
+    requires { V.IsReady work.old S.lock_kind }
     ensures { V.Does work.old result work.new }
 {
     let _laws: TowerLaws = PhantomData;
-    work.over::<Ipc<Fifo<Cond<QLock<S>>>>>(lock)
+    work.over::<Ipc<Fifo<Cond<QLock<S>>>>>()
 }
 
 /// [`over_locks`] over sleep and wakeup.
-fn over_scheds<V: OverTower, S: StepwiseScheds + Drop>(lock: LockKind, work: &mut V) -> V::Done
+fn over_scheds<V: OverTower, S: StepwiseScheds + OnLock + Drop>(work: &mut V) -> V::Done
 where
     S::Machine: Drop,
-    requires { V.IsReady work.old lock }
+    requires { V.IsReady work.old S.lock_kind }
     ensures { V.Does work.old result work.new }
 {
-    over_locks::<V, Sleeper<LockEdit, S>>(lock, work)
+    over_locks::<V, Sleeper<LockEdit, S>>(work)
 }
 
-/// Does what is to be done over the tower that stands on a lock of this kind, of which `L` has the
-/// sections.
+/// Does what is to be done over the tower that stands on these sections.
 ///
-/// Requires: it may be done over the tower of such a lock.
-pub fn over_sections<V: OverTower, L: StepwiseSections + Drop>(
-    lock: LockKind,
-    work: &mut V,
-) -> V::Done
+/// Requires: it may be done over the tower of their kind of lock.
+pub fn over_sections<V: OverTower, L: StepwiseSections + OnLock + Drop>(work: &mut V) -> V::Done
 where
     L::Machine: Drop,
-    requires { V.IsReady work.old lock }
+    requires { V.IsReady work.old L.lock_kind }
     ensures { V.Does work.old result work.new }
 {
     let _laws: TowerLaws = PhantomData;
-    over_scheds::<V, Sched<SharedQueues<L>>>(lock, work)
+    over_scheds::<V, Sched<SharedQueues<L>>>(work)
 }
 
 /// A plan that is to be run under a schedule, and the sink of its trace text.
@@ -115,11 +112,11 @@ impl<O: Write> OverTower for PlanRun<'_, '_, '_, O> {
     ghost Does = { λ old told new. (new.out.ghost_name ≡ old.out.ghost_name)
         × RunsOverTower (plan_of old.plan.now) old.steps.now told (between O.contents old.out.now new.out.now) };
 
-    fn over<I: Stepwise + Drop>(&mut self, _lock: LockKind) -> Result<State, Fault>
+    fn over<I: Stepwise + OnLock + Drop>(&mut self) -> Result<State, Fault>
     where
         I::Machine: Drop,
     {
-        let system = run_text::<I, O>(self.alloc, self.plan, self.steps, self.out)?;
+        let system = run_on::<I, O>(self.alloc, self.plan, self.steps, self.out)?;
         Ok(state_of(&system))
     }
 }
@@ -128,15 +125,15 @@ impl<O: Write> OverTower for PlanRun<'_, '_, '_, O> {
 ///
 /// Errors: `Boot` where the plan is refused, and why. `NoMemory` where an allocation was refused.
 fn lock_of(alloc: Global, plan: &str) -> Result<LockKind, Fault>
-    ensures { (result ≡ Err fault.NoMemory) ⊎ (result ≡ lock_in (plan_of plan.now)) }
+    ensures { (result ≡ Err (fault.NoMemory no_memory)) ⊎ (result ≡ lock_in (plan_of plan.now)) }
 {
     let boot = Boot::read(alloc, plan)?;
     Ok(boot.lock())
 }
 
 /// Runs a plan under a schedule over the tower of the lock that it names, as
-/// [`run_text`] does, and gives what the state lines tell of the system. The plan is read twice:
-/// for the name of its lock, and for the run over that lock's tower.
+/// [`run_text`](crate::run::run_text) does, and gives what the state lines tell of the system. The
+/// plan is read twice: for the name of its lock, and for the run over that lock's tower.
 ///
 /// Requires: the sink has not failed. There are at most `MOST_STEPS` steps.
 ///

@@ -48,8 +48,9 @@ const COUNTS: [Count; 5] = [
 #[test]
 fn threads_count_together(rt: HostRuntime) -> Result<(), Fail> {
     for row in &COUNTS {
-        let number = count_table(&rt, rt.alloc(), row.cpus, row.times, row.lock)?;
-        assert_eq!(rt; number, row.number);
+        let counted = count_table(&rt, rt.alloc(), row.cpus, row.times, row.lock)?;
+        assert_eq!(rt; counted.number(), row.number);
+        assert_eq!(rt; counted.lock(), row.lock);
     }
     Ok(())
 }
@@ -59,8 +60,8 @@ fn threads_count_together(rt: HostRuntime) -> Result<(), Fail> {
 #[test]
 fn a_refused_allocation_of_the_table_is_no_memory(rt: HostRuntime) {
     match count_table(&rt, rt.alloc(), 0, 5, LockKind::Grant) {
-        Ok(number) => assert_eq!(rt; number, 0),
-        Err(fault) => assert_eq!(rt; fault, CountFault::NoMemory),
+        Ok(counted) => assert_eq!(rt; counted.number(), 0),
+        Err(fault) => assert!(rt; matches!(fault, CountFault::NoMemory)),
     }
 }
 
@@ -70,7 +71,7 @@ fn a_refused_allocation_of_the_table_is_no_memory(rt: HostRuntime) {
 #[test]
 fn after_a_refused_allocation_or_start_the_number_is_0(rt: HostRuntime) {
     match count_or_leave(&rt, rt.alloc(), 2, 5, LockKind::Grant) {
-        Ok(number) => assert_eq!(rt; number, 10),
+        Ok(counted) => assert_eq!(rt; counted.number(), 10),
         Err(not) => assert_eq!(rt; not.left, 0),
     }
 }

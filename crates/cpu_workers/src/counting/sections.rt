@@ -2,19 +2,13 @@
 
 ghost use Rattle.std.specs.Prelude.{◌≡◌, ◌+◌, ◌<◌, None, IsSome};
 ghost use Rattle.event_log.specs.declared.ids.CpuId.{CpuId};
-ghost use Rattle.layer_traits.specs.OneLock.{opened};
-ghost use Rattle.table_machine.specs.SeatViews.{new_seat_view};
-ghost use Rattle.cpu_workers.specs.Counts.{made, MayHaveMade};
+ghost use Rattle.cpu_workers.specs.Counts.{made};
 
-use crate::counting::keys::{CountTable, KeySlot};
 use crate::counting::{AddOne, NUMBER};
-use crate::plan_words::PlanWords;
-use crossbeam_utils::sync::WaitGroup;
 use event_log::{CpuId, LockId};
 use layer_traits::{LockCall, LockLayer, Payload};
 use std::sync::Wait;
 use std::thread;
-use table_machine::{Key, Shared};
 
 // How often a worker polls before it lets other threads run: with more threads than processors, the
 // one whose turn it is may not be running. So many looks take about as long as a change of threads.
@@ -88,26 +82,4 @@ pub(crate) fn work_at<L: LockLayer<AddOne> + Drop, R: Wait>(
     for _ in 0..times {
         add_one(rt, &mut part, seat, NUMBER, &mut payload);
     }
-}
-
-// A worker: it waits until all are started, and works if its key was then put into its hand.
-pub(crate) fn worker<T: CountTable, K: PlanWords, R: Wait>(
-    rt: &R,
-    shared: &Shared<AddOne, K>,
-    cpu: CpuId,
-    times: u64,
-    start: WaitGroup,
-    hand: &KeySlot<T>,
-) -> Option<Key<AddOne>>
-    requires table { shared.now ≡ T.table_view }
-    requires lock { IsSome (opened shared.now.start NUMBER) }
-    ensures { MayHaveMade NUMBER (new_seat_view shared.now cpu.0) result times }
-{
-    start.wait(rt);
-    let taken = hand.lock(rt).take();
-    let key = taken?.key();
-    if key.cpu() != cpu {
-        return None;
-    }
-    Some(K::work(rt, shared, key, times))
 }

@@ -2,17 +2,18 @@
 //! to count waits for the workers.
 
 ghost use Rattle.std.specs.Prelude.{◌≡◌, ◌*◌, ◌<◌, ◌≤◌, ◌^◌, [], ◌∷◌, IsErr, IfOk, IfErr, OnErr};
+ghost use Rattle.event_log.specs.Refusals.{no_memory};
 ghost use Rattle.table_machine.specs.SeatViews.{new_seat_views};
-ghost use Rattle.cpu_workers.specs.{Counts.AllHaveMade, Counts.IsNumberOfFrees, Counts.counting};
-ghost use Rattle.cpu_workers.specs.{declared.counting.CountFault.TheVariants.NoMemory as LacksMemory};
+ghost use Rattle.cpu_workers.specs.declared.refusals.WorkerError.TheVariants.{NoMemory as LacksMemory};
 
-use crate::counting::threads::{Refused, work_all};
+use crate::counting::counted::{Counted, number_left};
+use crate::counting::tasks::count_all;
 use crate::counting::{AddOne, CountFault, NUMBER};
 use crate::plan_words::PlanWords;
+use crate::pool::Refused;
 use boot::LockKind;
 use event_log::{CPUS, NoMemory};
 use std::alloc::Global;
-use std::marker::Brand;
 use std::sync::Wait;
 use std::thread::Threads;
 use table_machine::{Key, Shared, TableWords, TicketWords, WaiterWords};
@@ -28,32 +29,8 @@ fn open_number<K: TableWords>(
     ensures keys { IfOk result (λ r. r.1.items ≡ new_seat_views r.0 cpus) }
 {
     let mut blocks = Vec::new(alloc);
-    if blocks.push((NUMBER, 0)).is_err() {
-        return Err(NoMemory);
-    }
+    blocks.push((NUMBER, 0))?;
     Shared::open(alloc, blocks, cpus)
-}
-
-/// Closes the table, whose number was 0 before each of its CPUs did `times` sections that add 1, and
-/// gives the number. It is how often its lock was freed in one legal log, which begins with the log
-/// of each key and has no other CPU's events.
-///
-/// Requires: the table has the one lock of the number, which was 0, and at most `CPUS` CPUs. Each
-/// key has made just so many sections. All sections together are fewer than 2^64.
-pub fn number_left<K: TableWords>(
-    shared: Shared<AddOne, K>,
-    keys: Vec<Key<AddOne>>,
-    times: u64,
-) -> u64
-    requires start { shared.start ≡ (NUMBER, 0) ∷ [] }
-    requires cpus { shared.cpus ≤ CPUS }
-    requires times { times * CPUS < 2 ^ 64 }
-    requires came { AllHaveMade NUMBER (new_seat_views shared shared.cpus) keys.items times }
-    ensures number { result ≡ times * shared.cpus }
-    ensures frees { IsNumberOfFrees counting NUMBER shared keys.items result }
-{
-    let blocks = shared.close(keys);
-    blocks[0].1
 }
 
 /// Why nothing was counted, and the number that the table has when it is closed.
@@ -72,26 +49,27 @@ fn count_if_open<K: PlanWords + Sync, R: Threads + Wait + Sync>(
     alloc: Global,
     opened: Result<(Shared<AddOne, K>, Vec<Key<AddOne>>), NoMemory>,
     times: u64,
-) -> Result<u64, NotCounted>
+) -> Result<Counted, NotCounted>
     requires start { IfOk opened (λ r. r.0.start ≡ (NUMBER, 0) ∷ []) }
     requires cpus { IfOk opened (λ r. r.0.cpus ≤ CPUS) }
     requires keys { IfOk opened (λ r. r.1.items ≡ new_seat_views r.0 r.0.cpus) }
     requires times { times * CPUS < 2 ^ 64 }
-    ensures number { IfOk opened (λ r. IfOk result (λ number. number ≡ times * r.0.cpus)) }
+    ensures number { IfOk opened (λ r. IfOk result (λ counted. counted.number ≡ times * r.0.cpus)) }
+    ensures lock { IfOk result (λ counted. counted.lock ≡ K.lock_kind) }
     ensures none { IfErr result (λ not. not.left ≡ 0) }
-    ensures memory { OnErr opened (IsErr result × IfErr result (λ not. not.fault ≡ LacksMemory)) }
+    ensures memory { OnErr opened (IsErr result × IfErr result (λ not. not.fault ≡ LacksMemory no_memory)) }
 {
-    let Ok((shared, keys)) = opened else {
-        return Err(NotCounted {
-            fault: CountFault::NoMemory,
-            left: 0,
-        });
+    let (shared, keys) = match opened {
+        Ok(opened) => opened,
+        Err(error) => {
+            let fault = CountFault::from(error);
+            return Err(NotCounted { fault, left: 0 });
+        }
     };
-    match work_all::<Brand, K, R>(rt, alloc, &shared, keys, times) {
+    match count_all(rt, alloc, &shared, keys, times) {
         Ok(keys) => Ok(number_left(shared, keys, times)),
-        Err(refused) => {
-            let Refused { fault, keys } = refused;
-            let left = number_left(shared, keys, 0);
+        Err(Refused { fault, back }) => {
+            let left = number_left(shared, back, 0).number();
             Err(NotCounted { fault, left })
         }
     }
@@ -108,10 +86,11 @@ pub fn count_or_leave<R: Threads + Wait + Sync>(
     cpus: u8,
     times: u64,
     lock: LockKind,
-) -> Result<u64, NotCounted>
+) -> Result<Counted, NotCounted>
     requires cpus { cpus ≤ CPUS }
     requires times { times * CPUS < 2 ^ 64 }
-    ensures number { IfOk result (λ number. number ≡ times * cpus) }
+    ensures number { IfOk result (λ counted. counted.number ≡ times * cpus) }
+    ensures lock { IfOk result (λ counted. counted.lock ≡ lock) }
     ensures none { IfErr result (λ not. not.left ≡ 0) }
 {
     match lock {
@@ -124,10 +103,10 @@ pub fn count_or_leave<R: Threads + Wait + Sync>(
     }
 }
 
-/// Counts over shared words of locks of this kind: each of `cpus` CPUs does `times` sections that add 1 to one number, in
-/// a thread of its own, with its own seat at one table. All threads are started before any is handed
-/// its CPU's key, without which there is no section, and all are joined. The number is read from the
-/// block that the closed table gives.
+/// Counts over shared words of locks of this kind: each of `cpus` CPUs does `times` sections that add
+/// 1 to one number, in a thread of its own, with its own seat at one table. All threads are started
+/// before any is handed its CPU's key, without which there is no section, and all are joined. The
+/// number is read from the block that the closed table gives.
 ///
 /// Requires: there are at most `CPUS` CPUs, and all sections together are fewer than 2^64.
 ///
@@ -139,13 +118,14 @@ pub fn count_table<R: Threads + Wait + Sync>(
     cpus: u8,
     times: u64,
     lock: LockKind,
-) -> Result<u64, CountFault>
+) -> Result<Counted, CountFault>
     requires cpus { cpus ≤ CPUS }
     requires times { times * CPUS < 2 ^ 64 }
-    ensures { IfOk result (λ number. number ≡ times * cpus) }
+    ensures number { IfOk result (λ counted. counted.number ≡ times * cpus) }
+    ensures lock { IfOk result (λ counted. counted.lock ≡ lock) }
 {
     match count_or_leave(rt, alloc, cpus, times, lock) {
-        Ok(number) => Ok(number),
+        Ok(counted) => Ok(counted),
         Err(not) => Err(not.fault),
     }
 }

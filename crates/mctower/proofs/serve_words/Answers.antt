@@ -1,9 +1,31 @@
-use Rattle.std.proofs.Common.{◌∙◌}
+use Rattle.std.proofs.Common.{Option, Some, None, List, ℕ, Err, inl, refl, map, string_bytes}
+use Rattle.clap.specs.Walk.{Text}
+use Rattle.event_log.specs.declared.ids.CpuId.{CpuId}
+use Rattle.mctower.specs.{Line.Ghost, Line.order_of, Line.count, Line.run, Line.threads, Line.check, Output.IsUntouched, Output.Output, Output.between}
+use Rattle.mctower.specs.{Serve.RunsAsked, Serve.Serves, Serve.steps_asked, Refusals.lacks_memory}
 use Rattle.mctower.proofs.serve_words.Goals as goal
 
+-- a run may be refused for want of memory
+run_refused : (steps : Option (List CpuId)) (input : Option (List ℕ)) (out : Output) → IsUntouched out → RunsAsked steps input (Err lacks_memory) out
+run_refused (Some steps) input out untouched = inl (refl, untouched)
+run_refused None input out untouched = inl (refl, untouched)
+
+-- and so may any order
+order_refused : (words : List Text) (meant : Option Ghost) (input : Option (List ℕ)) (out : Output) → IsUntouched out
+    → Serves words meant input (Err lacks_memory) out
+order_refused words None input out untouched = inl (refl, untouched)
+order_refused words (Some (count cpus times lock)) input out untouched = inl (refl, untouched)
+order_refused words (Some check) input out untouched = inl (refl, untouched)
+order_refused words (Some (run schedule)) input out untouched = run_refused (steps_asked schedule) input out untouched
+order_refused words (Some (threads turns)) input out untouched = inl (refl, untouched)
+
 pub returns : goal.returns
-returns g c = record {
-  answer = c.serve-status.ensures.served.answer;
-  ends = c.from.ensures ∙ c.serve-status.ensures.served.ends;
-  told = c.serve-status.ensures.served.told;
-}
+returns g c =
+    let words = map string_bytes c.in-Ok.words.items in
+    let out = between g.O.Write.contents c.args.out.now c.args.out.now in
+    rw c.in-Ok.is (record {
+      answer = Err lacks_memory;
+      ends = c.refused-in-Err-texts_of.ensures.status;
+      served = order_refused words (order_of words) (g.R.Read.remaining c.args.input.now) out (c.requires.out, refl);
+      told = c.refused-in-Err-texts_of.ensures.told;
+    })

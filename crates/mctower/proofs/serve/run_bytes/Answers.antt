@@ -6,11 +6,11 @@ use Rattle.event_log.specs.declared.ids.CpuId.{CpuId}
 use Rattle.boot.specs.{declared.refusals.BootError.BootError, Plan.BootPlan, Plan.plan_of}
 use Rattle.tracer.specs.Sinks.{Outs}
 use Rattle.tracer.proofs.SinkLemmas.{all_out, outs_then}
-use Rattle.mctower.specs.declared.refusals.Refusal.{Refusal, TheVariants.NoMemory, TheVariants.WriteFault, TheVariants.Plan as BadPlan}
+use Rattle.mctower.specs.declared.refusals.Refusal.{Refusal, TheVariants.WriteFault, TheVariants.Plan as BadPlan}
 use Rattle.cpu.specs.Claims.{Shown}
 use Rattle.mctower.specs.{declared.serve.Done.Done, declared.serve.Done.TheVariants.Ran, declared.states.State.State, State.IsStateOf, Running.IsRunOf}
-use Rattle.mctower.specs.{Running.NoCondition, Running.RunsText, Running.Tells, Output.Output, Output.between, Serve.OfPlan, Serve.RefusedBy, Serve.RunsPlan}
-use Rattle.mctower.specs.{Serve.ReportsRun, Refusals.from_fault, declared.run.Fault.Fault}
+use Rattle.mctower.specs.{Running.NoCondition, Running.RunsOn, Running.Tells, Output.Output, Output.between, Serve.OfPlan, Serve.RefusedBy, Serve.RunsPlan}
+use Rattle.mctower.specs.{Serve.ReportsRun, Refusals.from_fault, Refusals.lacks_memory, declared.run.Fault.Fault}
 use Rattle.mctower.proofs.TabledLemmas.{state_of_run}
 use Rattle.mctower.specs.declared.run.Fault.TheVariants as run
 use Rattle.mctower.proofs.serve.run_bytes.Goals as goal
@@ -24,7 +24,7 @@ told plan steps s state answer true ran is given = given
 
 -- the text of a run is out, and then nothing more was put out
 ran_out : (steps : List CpuId) (ran : Result Shown Fault) (state : State) (read : Result BootPlan BootError)
-    (answer : Result Done Refusal) (first whole : Output) → RunsText NoCondition read steps ran first
+    (answer : Result Done Refusal) (first whole : Output) → RunsOn NoCondition read steps ran first
     → Tells ran (Ok state) → answer ≡ (if whole.failed then Err WriteFault else Ok (Ran state))
     → Outs whole.failed first.new whole.new [] → first.old ≡ whole.old
     → OfPlan (RunsPlan steps) read answer whole
@@ -55,9 +55,9 @@ reported_fault plan steps s true is = refl
 
 -- a run that had a fault
 fault_ran : (steps : List CpuId) (read : Result BootPlan BootError) (fault : Fault) (out : Output)
-    → RunsText NoCondition read steps (Err fault) out
-    → RefusedBy NoMemory (Err (from_fault fault)) out ⊎ OfPlan (RunsPlan steps) read (Err (from_fault fault)) out
-fault_ran steps (Ok plan) run.NoMemory out runs = inl (refl, runs)
+    → RunsOn NoCondition read steps (Err fault) out
+    → RefusedBy lacks_memory (Err (from_fault fault)) out ⊎ OfPlan (RunsPlan steps) read (Err (from_fault fault)) out
+fault_ran steps (Ok plan) (run.NoMemory refused) out runs = inl (refl, runs)
 fault_ran steps (Ok plan) (run.Boot e) out runs = absurd runs
 fault_ran steps (Ok plan) run.BadCpu out runs = inr (inl (runs.0, (refl, runs.1)))
 fault_ran steps (Ok plan) run.NoOrder out runs = absurd runs
@@ -71,7 +71,7 @@ fault_ran steps (Ok plan) run.WriteFault out runs = inr (inr (record {
   table = runs.1.1.table tt;
   put = (reported_fault plan steps runs.1.0 out.failed runs.0, runs.1.1.out.out);
 }))
-fault_ran steps (Err e) run.NoMemory out runs = inl (refl, runs)
+fault_ran steps (Err e) (run.NoMemory refused) out runs = inl (refl, runs)
 fault_ran steps (Err e) (run.Boot f) out runs = inr (ap (λ x. Err (BadPlan x)) runs.0, runs.1)
 fault_ran steps (Err e) run.BadCpu out runs = absurd runs
 fault_ran steps (Err e) run.NoOrder out runs = absurd runs
@@ -79,11 +79,11 @@ fault_ran steps (Err e) run.WriteFault out runs = absurd runs
 
 -- and one of which a fault is told
 fault_told : (steps : List CpuId) (ran : Result Shown Fault) (read : Result BootPlan BootError) (fault : Fault) (out : Output)
-    → RunsText NoCondition read steps ran out → Tells ran (Err fault)
-    → RefusedBy NoMemory (Err (from_fault fault)) out ⊎ OfPlan (RunsPlan steps) read (Err (from_fault fault)) out
+    → RunsOn NoCondition read steps ran out → Tells ran (Err fault)
+    → RefusedBy lacks_memory (Err (from_fault fault)) out ⊎ OfPlan (RunsPlan steps) read (Err (from_fault fault)) out
 fault_told steps (Ok s) read fault out runs is = absurd is
 fault_told steps (Err f) read fault out runs is =
-    subst (λ e. RefusedBy NoMemory (Err (from_fault e)) out ⊎ OfPlan (RunsPlan steps) read (Err (from_fault e)) out) (sym is)
+    subst (λ e. RefusedBy lacks_memory (Err (from_fault e)) out ⊎ OfPlan (RunsPlan steps) read (Err (from_fault e)) out) (sym is)
     (fault_ran steps read f out runs)
 
 pub returns-in-Err-clause-runs : goal.returns-in-Err-clause-runs

@@ -4,13 +4,13 @@ use Rattle.cpu_workers.specs.{declared.counting.AddOne.AddOne, declared.counting
 use Rattle.cpu_workers.proofs.Counts.{new_fresh, new_have_made_none}
 use Rattle.cpu_workers.proofs.counting.tables.count_if_open.Goals as goal
 
-pub work_all-requires-clause-fresh : goal.work_all-requires-clause-fresh
-work_all-requires-clause-fresh g c κs within =
+pub count_all-requires-clause-fresh : goal.count_all-requires-clause-fresh
+count_all-requires-clause-fresh g c κs within =
     let keys : c.in-Ok.keys.items ≡ new_seat_views {E = AddOne} c.in-Ok.shared c.in-Ok.shared.cpus = first_of (cc, search rules) in
     subst (λ l. All (IsFresh c.in-Ok.shared) l) (sym keys) (new_fresh c.in-Ok.shared c.in-Ok.shared.cpus)
 
-pub number_left-left-requires-clause-came : goal.number_left-left-requires-clause-came
-number_left-left-requires-clause-came g c =
+pub number_left-requires-in-Err-clause-came : goal.number_left-requires-in-Err-clause-came
+number_left-requires-in-Err-clause-came g c =
     let keys : c.in-Ok.keys.items ≡ new_seat_views {E = AddOne} c.in-Ok.shared c.in-Ok.shared.cpus = first_of (cc, search rules) in
     subst (λ l. AllHaveMade NUMBER (new_seat_views {E = AddOne} c.in-Ok.shared c.in-Ok.shared.cpus) l 0) (sym (c.in-Err.ensures.refused ∙ keys))
     (new_have_made_none AddOne NUMBER c.in-Ok.shared c.in-Ok.shared.cpus)

@@ -1,0 +1,93 @@
+//! What was counted: a number with the kind of the locks behind which it was counted. It is made here
+//! alone, of a machine or of a closed table. No call takes memory or waits.
+
+ghost use Rattle.std.specs.Prelude.{◌≡◌, ◌*◌, ◌%◌, ◌^◌, ◌<◌, ◌≤◌, Some, [], ◌∷◌};
+ghost use Rattle.event_log.specs.{declared.ids.CpuId.CpuId, declared.ids.TheConstants.CPUS, Actions.gives, Actions.phase, Actions.Rests};
+ghost use Rattle.table_machine.specs.SeatViews.{new_seat_views};
+ghost use Rattle.cpu_workers.specs.{Counts.AllHaveMade, Counts.IsNumberOfFrees, Counts.counting};
+
+use crate::counting::{AddOne, NUMBER};
+use crate::plan_words::PlanWords;
+use boot::LockKind;
+use layer_traits::OwnedLocks;
+use table_machine::{Key, Shared};
+
+/// A name of the lock whose layer of critical sections `L` is: it tells the lock's kind.
+pub trait LockOfKind<L> {
+    ghost use Rattle.boot.specs.declared.locks.LockKind.{LockKind};
+
+    /// The lock's kind, as a plan names it.
+    ghost lock_kind: { LockKind };
+
+    /// The lock's kind.
+    fn kind() -> LockKind
+        ensures { result ≡ lock_kind };
+}
+
+/// A number that was counted behind locks of this kind: how often a lock was given on. [`number_in`]
+/// makes it of an owned machine and [`number_left`] of a closed table, and nothing else does.
+#[derive(Clone, Copy, Debug, PartialEq, Eq)]
+pub struct Counted {
+    number: u64,
+    lock: LockKind,
+}
+
+impl Counted {
+    /// The number.
+    pub fn number(&self) -> u64
+        ensures { result ≡ self.now.number }
+    {
+        self.number
+    }
+
+    /// The kind of the locks.
+    pub fn lock(&self) -> LockKind
+        ensures { result ≡ self.now.lock }
+    {
+        self.lock
+    }
+}
+
+/// The number of an owned machine at rest: how often its lock was given on, modulo 2^64.
+///
+/// Requires: each poll of the lock is one action. The holder of the machine acts for some CPU. The
+/// machine was opened with the number 0. No CPU waits at a lock or holds one.
+pub fn number_in<L: OwnedLocks<AddOne>, V: LockOfKind<L>>(machine: &L::Machine) -> Counted
+    requires stepwise { L.IsStepwise }
+    requires owned { (c : CpuId) × L.ActsFor machine.now c }
+    requires opening { L.opening machine.now NUMBER ≡ Some 0 }
+    requires rests { (c : CpuId) → phase c (L.acts machine.now) ≡ Rests }
+    ensures number { result.number ≡ gives NUMBER (L.acts machine.now) % 2 ^ 64 }
+    ensures lock { result.lock ≡ V.lock_kind }
+{
+    Counted {
+        number: *L::block_in(machine, NUMBER).unwrap(),
+        lock: V::kind(),
+    }
+}
+
+/// Closes the table, whose number was 0 before each of its CPUs did `times` sections that add 1, and
+/// gives the number. It is how often its lock was freed in one legal log, which begins with the log
+/// of each key and has no other CPU's events.
+///
+/// Requires: the table has the one lock of the number, which was 0, and at most `CPUS` CPUs. Each
+/// key has made just so many sections. All sections together are fewer than 2^64.
+pub fn number_left<K: PlanWords>(
+    shared: Shared<AddOne, K>,
+    keys: Vec<Key<AddOne>>,
+    times: u64,
+) -> Counted
+    requires start { shared.start ≡ (NUMBER, 0) ∷ [] }
+    requires cpus { shared.cpus ≤ CPUS }
+    requires times { times * CPUS < 2 ^ 64 }
+    requires came { AllHaveMade NUMBER (new_seat_views shared shared.cpus) keys.items times }
+    ensures number { result.number ≡ times * shared.cpus }
+    ensures frees { IsNumberOfFrees counting NUMBER shared keys.items result.number }
+    ensures lock { result.lock ≡ K.lock_kind }
+{
+    let blocks = shared.close(keys);
+    Counted {
+        number: blocks[0].1,
+        lock: K::kind(),
+    }
+}
