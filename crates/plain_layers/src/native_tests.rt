@@ -5,10 +5,11 @@ ghost use Rattle.event_log.specs.Streams.{sent_to, taken_from};
 ghost use Rattle.cpu_workers.specs.Callers.{IsSameCaller};
 
 use arrayvec::ArrayVec;
-use cpu_workers::{Caller, Native, NativeReport, run_native};
+use cpu_workers::{Caller, Native, NativeReport, WorkerError, run_native};
 use event_log::{BufId, Msg};
 use layer_traits::{CallLayer, IpcLaw};
 use std::sync::Wait;
+use std::sync::atomic::{AtomicU64, Ordering};
 use std::test::Fail;
 use std::thread::Threads;
 
@@ -193,4 +194,46 @@ fn a_closed_buffer_ends_a_receive(rt: HostRuntime) -> Result<(), Fail> {
     )?;
     assert!(rt; report.natives.iter().all(|peer| peer.taken.is_empty()));
     Ok(())
+}
+
+/// A native that counts that it ran, and makes no call.
+#[derive(Drop)]
+struct Tally<'a> {
+    ran: &'a AtomicU64,
+}
+
+impl Native for Tally<'_> {
+    ghost Needs = { λ tally caps. Unit {0} };
+
+    ghost Kept = { λ tally after caller. Unit {0} };
+
+    fn run<I: CallLayer<IpcLaw> + Drop, R: Wait>(&mut self, _rt: &R, _caller: &mut Caller<I>)
+    where
+        I::Machine: Drop,
+    {
+        self.ran.fetch_add(1, Ordering::SeqCst);
+    }
+}
+
+/// Runs two natives, with memory or a thread refused perhaps: whether both ran and came back, or the
+/// refusal was told and neither had run.
+fn both_run_or_neither<T: AllocGlobal + Threads + Wait + Sync>(rt: &T) -> bool {
+    let ran = AtomicU64::new(0);
+    let Ok(natives) = Vec::from_array(rt.alloc(), [Tally { ran: &ran }, Tally { ran: &ran }]) else {
+        return true;
+    };
+    let left = run_native(rt, rt.alloc(), &[4], natives);
+    let count = ran.load(Ordering::SeqCst);
+    match left {
+        Ok(report) => count == 2 && report.natives.len() == 2 && report.items(BufId(0)).is_empty(),
+        Err(error) => {
+            count == 0 && (error == WorkerError::NoMemory || error == WorkerError::NoThread)
+        }
+    }
+}
+
+// Run with each allocation and each start of a thread refused in turn.
+#[test]
+fn natives_with_a_refused_allocation(rt: HostRuntime) {
+    assert!(rt; both_run_or_neither(&rt));
 }

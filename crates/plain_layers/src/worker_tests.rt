@@ -306,21 +306,49 @@ fn a_hundred_messages_come_in_order(rt: HostRuntime) -> Result<(), Fail> {
     Ok(())
 }
 
-/// A gate that counts how often it is asked.
+/// A gate that counts how often it is asked, and answers `Limit` at one turn alone.
 #[derive(Drop)]
 struct Counting {
     asked: AtomicU64,
+    limit_at: u64,
+}
+
+impl Counting {
+    fn new(limit_at: u64) -> Counting {
+        Counting {
+            asked: AtomicU64::new(0),
+            limit_at,
+        }
+    }
 }
 
 impl Gate for Counting {
-    ghost use Rattle.cpu_workers.specs.declared.gates.Go.TheVariants.{Pass};
+    ghost use Rattle.cpu_workers.specs.declared.gates.Go.TheVariants.{Limit};
 
-    ghost MayAnswer = { λ gate cpu go turn. go ≡ Pass };
+    ghost MayAnswer = { λ gate cpu go turn. go ≡ Limit → turn ≡ gate.limit_at };
 
-    fn pass(&self, _cpu: CpuId, _turn: u64) -> Go {
+    fn pass(&self, _cpu: CpuId, turn: u64) -> Go {
         self.asked.fetch_add(1, Ordering::SeqCst);
-        Go::Pass
+        if turn == self.limit_at {
+            Go::Limit
+        } else {
+            Go::Pass
+        }
     }
+}
+
+// The `Limit` comes inside a section, which two more turns end. Where that are as many turns as were
+// given, or more, the worker stops as held all the same.
+#[test]
+fn a_held_worker_asks_its_gate_no_more(rt: HostRuntime) -> Result<(), Fail> {
+    for turns in [1000, 5, 4] {
+        let gate = Counting::new(3);
+        let report = ran(&rt, "", ONE_SEND, turns, &gate)?;
+        assert_eq!(rt; gate.asked.load(Ordering::SeqCst), 4);
+        assert_eq!(rt; report.taken.first(), Some(&5));
+        assert_eq!(rt; report.stops.first(), Some(&Stop::Held));
+    }
+    Ok(())
 }
 
 /// Runs the two CPUs behind this first line, with memory or a thread refused perhaps: whether they
@@ -333,9 +361,7 @@ fn ends_or_never_asks<T: AllocGlobal + Threads + Wait + Sync>(rt: &T, first: &st
         Ok(boot) => boot,
         Err(error) => return error == BootError::NoMemory,
     };
-    let gate = Counting {
-        asked: AtomicU64::new(0),
-    };
+    let gate = Counting::new(u64::MAX);
     let ran = run_workers(rt, rt.alloc(), &boot, 1_000_000, &gate);
     let asked = gate.asked.load(Ordering::SeqCst);
     match ran {
