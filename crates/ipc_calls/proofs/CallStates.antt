@@ -1,8 +1,9 @@
 -- Which call a thread may poll.
-use Rattle.std.proofs.Common.{◌≡◌, List, replicate, refl, ap, sym, ◌∙◌, subst}
+use Rattle.std.proofs.Common.{◌≡◌, List, replicate, Some, refl, ap, sym, ◌∙◌, subst}
 use Rattle.event_log.specs.declared.ids.{Tid.Tid, TheConstants.THREADS}
-use Rattle.layer_traits.specs.{declared.calls.Call.Call, declared.call_states.CallState.CallState, BufferLaw.MayPollCall}
-use Rattle.layer_traits.specs.{BufferLaw.no_call, BufferLaw.call_state_of}
+use Rattle.layer_traits.specs.{declared.calls.Call.Call, declared.call_states.Stage.Stage, declared.call_states.CallState.CallState, BufferLaw.MayPollCall}
+use Rattle.layer_traits.specs.{BufferLaw.begun_at, BufferLaw.begun_of, BufferLaw.going_at, BufferLaw.no_call, BufferLaw.call_state_of}
+use Rattle.layer_traits.specs.declared.call_states.Stage.TheVariants.{Idle, Acquires, Enters, Tries, Waits, AcquiresAgain, Signals, SignalsOwn, Releases}
 use Rattle.fifo_buffer.proofs.Starting.{same_default}
 
 -- who never called may begin any call

@@ -1,3 +1,4 @@
 mod Opened
+mod Rows
 mod CallStates
 mod Towers

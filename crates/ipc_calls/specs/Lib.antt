@@ -1,4 +1,3 @@
 pub mod Parts
 pub mod PlaceLaws
-pub mod Scripts
 pub mod Laws

@@ -4,7 +4,7 @@ ghost use Rattle.std.specs.Prelude.{◌≡◌, ◌+◌, ◌<◌, ◌≤◌, None
 ghost use Rattle.event_log.specs.declared.ids.TheConstants.{THREADS};
 ghost use Rattle.layer_traits.specs.BufferLaw.{Calling, MayGoOn, MayPollCall, buffer_of, no_call, call_state_of};
 
-use crate::buffer_tests::{self, run_script};
+use crate::buffer_tests::{BufferRow, goes};
 use crate::{
     Ipc, LockEdit, OpensBuffers, OpensLocks, OpensQueues, OpensScheds, TowerEdit, TowerLaws,
     part_over, tower_blocks,
@@ -171,8 +171,8 @@ enum Row {
     Sends,
     /// A buffer is closed.
     Closes,
-    /// A script over its layer of buffers.
-    Script(&'static [buffer_tests::Row]),
+    /// What its layer of buffers is seen to do.
+    OfBuffers(BufferRow),
 }
 
 /// Runs a row over a layer of buffers.
@@ -187,9 +187,9 @@ where
     match row {
         Row::Boots | Row::Sends => runs::<Ipc<B>>(rt, alloc),
         Row::Closes => closes::<Ipc<B>>(rt, alloc),
-        Row::Script(rows) => {
-            let wrong = run_script::<B>(alloc, rows)?;
-            assert_eq!(rt; wrong, None);
+        Row::OfBuffers(row) => {
+            let went = goes::<B>(alloc, row)?;
+            assert!(rt; went);
             Ok(())
         }
     }
@@ -274,42 +274,42 @@ fn a_buffer_of_a_tower_is_closed(rt: HostRuntime) -> Result<(), Fail> {
 
 #[test]
 fn a_send_alone_and_a_receive_alone_take_18_polls_each(rt: HostRuntime) -> Result<(), Fail> {
-    tower_goes(&rt, rt.alloc(), Row::Script(buffer_tests::ALONE))?;
+    tower_goes(&rt, rt.alloc(), Row::OfBuffers(BufferRow::Alone))?;
     Ok(())
 }
 
 #[test]
 fn a_receiver_that_waits_is_woken_by_a_sender(rt: HostRuntime) -> Result<(), Fail> {
-    tower_goes(&rt, rt.alloc(), Row::Script(buffer_tests::RECEIVER_WAITS))?;
+    tower_goes(&rt, rt.alloc(), Row::OfBuffers(BufferRow::ReceiverWaits))?;
     Ok(())
 }
 
 #[test]
 fn a_sender_that_waits_is_woken_by_a_receiver(rt: HostRuntime) -> Result<(), Fail> {
-    tower_goes(&rt, rt.alloc(), Row::Script(buffer_tests::SENDER_WAITS))?;
+    tower_goes(&rt, rt.alloc(), Row::OfBuffers(BufferRow::SenderWaits))?;
     Ok(())
 }
 
 #[test]
 fn a_close_takes_15_polls_and_what_is_left_is_drained(rt: HostRuntime) -> Result<(), Fail> {
-    tower_goes(&rt, rt.alloc(), Row::Script(buffer_tests::CLOSES))?;
+    tower_goes(&rt, rt.alloc(), Row::OfBuffers(BufferRow::Closes))?;
     Ok(())
 }
 
 #[test]
 fn a_receiver_that_waits_learns_that_the_buffer_is_closed(rt: HostRuntime) -> Result<(), Fail> {
-    tower_goes(&rt, rt.alloc(), Row::Script(buffer_tests::RECEIVER_LEARNS))?;
+    tower_goes(&rt, rt.alloc(), Row::OfBuffers(BufferRow::ReceiverLearns))?;
     Ok(())
 }
 
 #[test]
 fn a_block_in_hand_is_read_from_the_part(rt: HostRuntime) -> Result<(), Fail> {
-    tower_goes(&rt, rt.alloc(), Row::Script(buffer_tests::READ_IN_HAND))?;
+    tower_goes(&rt, rt.alloc(), Row::OfBuffers(BufferRow::ReadInHand))?;
     Ok(())
 }
 
 #[test]
 fn a_thread_that_ends_has_ended(rt: HostRuntime) -> Result<(), Fail> {
-    tower_goes(&rt, rt.alloc(), Row::Script(buffer_tests::ENDS))?;
+    tower_goes(&rt, rt.alloc(), Row::OfBuffers(BufferRow::Ends))?;
     Ok(())
 }
