@@ -117,7 +117,11 @@ where
 }
 
 // What all tasks leave, put into the list, which has room.
-fn all_done<T: Task + Drop, R: Threads + Wait>(rt: &R, starts: Vec<Start<T>>, mut done: Vec<T::Done>) -> Vec<T::Done>
+fn all_done<T: Task + Drop, R: Threads + Wait>(
+    rt: &R,
+    starts: Vec<Start<T>>,
+    mut done: Vec<T::Done>,
+) -> Vec<T::Done>
 where
     T::Done: Drop,
     requires may { All T.MayRun (map (task_of (λ h. h.promise.task.value)) starts.items) }
@@ -133,7 +137,11 @@ where
 }
 
 // All tasks as they were, put into the list, which has room.
-fn all_back<T: Task + Drop, R: Threads + Wait>(rt: &R, starts: Vec<Start<T>>, mut back: Vec<T>) -> Vec<T>
+fn all_back<T: Task + Drop, R: Threads + Wait>(
+    rt: &R,
+    starts: Vec<Start<T>>,
+    mut back: Vec<T>,
+) -> Vec<T>
 where
     T::Done: Drop,
     requires empty { back.items ≡ [] }

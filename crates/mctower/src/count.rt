@@ -158,12 +158,7 @@ where
 /// Requires: `cpus` is from 1 to [`CPUS`](event_log::CPUS). `times` is at most [`MOST_TIMES`].
 ///
 /// Errors: `NoMemory` where memory ran out; then no section was done.
-pub fn count_plain(
-    alloc: Global,
-    cpus: u8,
-    times: u64,
-    lock: LockKind,
-) -> Result<Counted, NoMemory>
+pub fn count_plain(alloc: Global, cpus: u8, times: u64, lock: LockKind) -> Result<Counted, NoMemory>
     requires some { 1 ≤ cpus }
     requires cpus { cpus ≤ CPUS }
     requires times { times ≤ MOST_TIMES }
