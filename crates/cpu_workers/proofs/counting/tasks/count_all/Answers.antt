@@ -1,8 +1,8 @@
 use denote.Param.Send.{sendable}
 use Rattle.std.proofs.Crossing.{crosses}
-use Rattle.std.proofs.Common.{◌≡◌, ◌≤◌, All, IsSome, length, map, ap, subst, sym, ◌∙◌, arith}
+use Rattle.std.proofs.Common.{◌≡◌, IsSome, length, map, ap, subst, sym, ◌∙◌, arith}
 use Rattle.layer_traits.specs.OneLock.{opened}
-use Rattle.cpu_workers.specs.{declared.counting.TheConstants.NUMBER, Counts.HasMade, Counts.IsFresh, Reports.Both}
+use Rattle.cpu_workers.specs.{declared.counting.TheConstants.NUMBER, Counts.HasMade, Counts.IsFresh}
 use Rattle.table_machine.proofs.Crossing.{key_send}
 use Rattle.cpu_workers.proofs.CountCrossing.{counting_send}
 use Rattle.cpu_workers.proofs.Joining.{both_all, both_length, both_map, both_then}
