@@ -16,6 +16,13 @@ function's own is open too: the line names it, or an error stands in the functio
 open for the next round. After a round that judged none, the first open body is tried alone. What is still proved then fails by name. So does an edit that cannot be
 applied, names no function, or ends in no verdict, as for want of memory.
 
+A body that a type refuses does not compile. Its file says so in its first line, with words of the compiler's error:
+
+    refused: field `refused` of struct `NoMemory` is private
+
+Such bodies of one crate stand side by side in one check, and again those that another's error hid. One counts as refused only where an error with these words stands
+on the very line that it changes; a body that compiles, or that the compiler refuses by other words, has failed. The last lines count them apart.
+
 What was refused is kept on this machine, in the folder mctower-wrong-bodies of the user's cache ($XDG_CACHE_HOME, else ~/.cache), by sums alone: for each body one of
 the kit's logic, of the crate's text, of the contracts and definitions of all beneath it, and of the body itself. Comments do not count, nor how imports are laid
 out, nor the bodies of other files' functions: a proof reads the contract of what it calls. A body whose sum stands there is not tried again; --all tries it all the
@@ -52,6 +59,8 @@ OWN_GOAL = re.compile(r"`?search`? did not prove `[^`]+`")
 # A proof file that names what the edit took away, and a goal that the prover found open.
 STALE_NAME = re.compile(r"(?:note: )?(?:\./)?proofs/\S+:\d+:\d+: .*(has no |is not in scope|was not admitted)")
 OPEN_GOAL = re.compile(r"(?:note: )?(?:\./)?\S+:\d+:\d+: .*(is not proved|may be false|does not prove|error)")
+# An error of the compiler: its file, its line and its words.
+COMPILE_ERROR = re.compile(r"(?:\./)?(src/\S+?):(\d+):\d+: error(\[\S+\]: .*)")
 UNREAD = re.compile(r"(?:\./)?(?:src|specs)/\S+?:\d+:\d+: error: (.*)")
 # An import of definitions, and one that names them in braces.
 IMPORT = re.compile(r"\s*((unfoldable )?(pub )?use [^{}:]+(\{[^{}]+\})?|(pub )?ghost use [^{}]+(\{[^{}]+\})?;)$")
@@ -81,12 +90,13 @@ def whole(lines):
 
 @dataclasses.dataclass
 class Body:
-    """One wrong body: where it stands, the function that it turns, and its pairs of a file, an old text and a new one."""
+    """One wrong body: where it stands, the function that it turns, its pairs of a file, an old text and a new one, and the compiler's words, if it must not compile."""
 
     crate: str
     file: str
     function: str = ""
     pairs: list = dataclasses.field(default_factory=list)
+    words: str = ""
     verdict: str = ""
     is_failure: bool = False
     is_weak: bool = False
@@ -106,8 +116,12 @@ class Body:
     def read(self):
         """Reads the file, and returns why it is no wrong body, if it is none."""
         at, old = "", None
-        for line in open(self.file, encoding="utf-8").read().split("\n"):
-            if line.startswith("fn: "):
+        for number, line in enumerate(open(self.file, encoding="utf-8").read().split("\n")):
+            if line.startswith("refused:"):
+                self.words = line[8:].strip()
+                if number or not self.words:
+                    return "a 'refused:' line has words of the compiler, and is the first"
+            elif line.startswith("fn: "):
                 self.function = line[4:].strip()
             elif line.startswith("file: "):
                 at = line[6:].strip()
@@ -132,6 +146,14 @@ class Body:
                 return None, f"an 'old:' text is in {at} {found} times, and not once: {old[:80]}"
             changed[at] = changed[at].replace(old, new)
         return changed, None
+
+    def places(self, texts):
+        """Returns the files and lines that the body changes in these texts: an edit keeps the number of lines."""
+        changed, found = dict(texts), set()
+        for at, old, new in self.pairs:
+            found.add((at, changed[at][: changed[at].index(old)].count("\n") + 1))
+            changed[at] = changed[at].replace(old, new)
+        return found
 
 
 class Trial:
@@ -169,6 +191,7 @@ class Trial:
             why = it.applied(self.texts)[1]
             if why:
                 it.end(f"BAD EDIT: {why}", True)
+        self.compile_all()
         if not self.after_ci:
             self.control()
         is_alone = False
@@ -180,6 +203,32 @@ class Trial:
 
     def open(self):
         return [it for it in self.bodies if not it.verdict]
+
+    def compile_all(self):
+        """Tries the bodies that must not compile: all that can stand side by side, and alone the first of those that a check said nothing of."""
+        is_alone = False
+        while told := [it for it in self.open() if it.words]:
+            chosen = [] if is_alone else self.beside_each_other(told)
+            self.compile(chosen or told[:1])
+            self.judged()
+            is_alone = len([it for it in self.open() if it.words]) == len(told)
+
+    def compile(self, bodies):
+        """Judges these bodies by the errors of one check with all of them in it."""
+        texts = self.texts
+        for it in bodies:
+            texts = it.applied(texts)[0]
+        found = [COMPILE_ERROR.match(it) for it in whole(self.check(texts, [it.function for it in bodies]))]
+        errors = [(it[1], int(it[2]), it[3]) for it in found if it]
+        for it in bodies:
+            it.rounds += 1
+            own = [words for at, line, words in errors if (at, line) in it.places(self.texts)]
+            if any(it.words in words for words in own):
+                it.end(f"refused by the compiler: {next(words for words in own if it.words in words)[:160]}")
+            elif own:
+                it.end(f"the compiler refuses it by other words than '{it.words}': {own[0][:160]}", True)
+            elif len(bodies) == 1:
+                it.end(f"NOT REFUSED by the compiler: it has no error on the line of the body{f', but {errors[0]}' if errors else ''}", True)
 
     def control(self):
         """Fails each body whose function is not proved as it stands."""
@@ -193,14 +242,18 @@ class Trial:
                 it.end(f"its function is not proved as it stands: {said[:160]}", True)
 
     def chosen(self):
-        """Returns the bodies of the next round: of each function the first that is open and can be put in beside the others."""
+        """Returns the bodies of the next round."""
+        return self.beside_each_other([it for it in self.open() if not it.changes_a_head()]) or self.open()[:1]
+
+    def beside_each_other(self, bodies):
+        """Returns of each function the first of these bodies that can be put in beside the others."""
         found, functions, texts = [], set(), self.texts
-        for it in [it for it in self.open() if not it.changes_a_head()]:
+        for it in bodies:
             changed, why = it.applied(texts)
             if not why and it.function not in functions:
                 found, texts = [*found, it], changed
                 functions.add(it.function)
-        return found or self.open()[:1]
+        return found
 
     def round(self, bodies):
         texts = self.texts
@@ -406,12 +459,16 @@ def forget_old():
 # The words of the verdict that each edit of tests/wrong-bodies/ has to end in.
 SELF_TEST = {
     "fails_it_changes_nothing": "NOT REFUSED",
+    "fails_it_compiles": "NOT REFUSED by the compiler",
     "fails_it_edits_a_definition": "is no file below src/",
     "fails_it_names_no_function": "it has no line 'fn:'",
     "fails_its_old_text_is_missing": "0 times, and not once",
     "fails_its_old_text_stands_twice": "times, and not once",
     "fails_no_function_has_its_name": "there_is_no_such_function",
     "fails_only_its_callee_is_wrong": "NOT REFUSED",
+    "fails_the_compiler_has_other_words": "by other words than",
+    "fails_the_refusal_is_not_the_first_line": "and is the first",
+    "refused_by_the_compiler": "refused by the compiler: ",
     "refused_look_tells_the_other_way": "refused: ",
     "refused_the_callee": "refused: ",
     "refused_the_callee_of_a_right_caller": "refused: ",
@@ -481,7 +538,8 @@ def main():
     weak = [it for it in bodies if it.is_weak]
     for it in weak:
         say(f"wrong-bodies: only the shape of a proof refuses {it.name()}")
-    say(f"wrong-bodies: {len(bodies) - failed} refused, {len(weak)} weak, {failed} failed, {rounds} rounds")
+    by_type = sum(bool(it.words) and not it.is_failure for it in bodies)
+    say(f"wrong-bodies: {len(bodies) - failed - by_type} refused by the prover, {by_type} by the compiler, {len(weak)} weak, {failed} failed, {rounds} rounds")
     print(f"{len(bodies) - failed} passed, {failed} failed")
     return 1 if failed else 0
 

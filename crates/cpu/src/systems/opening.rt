@@ -38,9 +38,7 @@ impl<I: CallLayer<IpcLaw>> Cpu<I> {
         ensures own { IfOk result (λ c. I.IsStepwise → I.own c.part ≡ buffering_at_start homes.now number) }
         ensures fits { IfOk result (λ c. (m : I.Machine) → I.IsFresh m homes.now number → length (I.caps m) ≡ buffers → I.Fits c.part m) }
     {
-        let Ok(trace) = Vec::with_capacity(alloc, limit) else {
-            return Err(NoMemory);
-        };
+        let trace = Vec::with_capacity(alloc, limit)?;
         Ok(Cpu {
             part: I::part(number, homes, buffers),
             number,
@@ -78,9 +76,7 @@ fn cpus_at_boot<I: CallLayer<IpcLaw> + Drop>(
 {
     let mut tables = tables;
     let count = tables.len();
-    let Ok(mut cpus) = Vec::with_capacity(alloc, count) else {
-        return Err(NoMemory);
-    };
+    let mut cpus = Vec::with_capacity(alloc, count)?;
     for number in 0..count {
         let guests = tables.remove(0);
         let cpu = Cpu::at_boot(alloc, CpuId(number as u8), homes, buffers, guests, limit)?;

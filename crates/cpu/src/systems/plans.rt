@@ -49,9 +49,7 @@ fn guest_at(
 pub fn guests_of(alloc: Global, boot: &Boot, number: CpuId) -> Result<Vec<Option<Guest>>, NoMemory>
     ensures { IfOk result (λ guests. guests.items ≡ guests_for boot.now number.0) }
 {
-    let Ok(mut guests) = Vec::with_capacity(alloc, boot.threads()) else {
-        return Err(NoMemory);
-    };
+    let mut guests = Vec::with_capacity(alloc, boot.threads())?;
     for t in 0..boot.threads() {
         let guest = guest_at(alloc, boot, number, Tid(t as u8))?;
         guests.push(guest).unwrap();
@@ -63,9 +61,7 @@ pub fn guests_of(alloc: Global, boot: &Boot, number: CpuId) -> Result<Vec<Option
 fn tables_of(alloc: Global, boot: &Boot) -> Result<Vec<Vec<Option<Guest>>>, NoMemory>
     ensures { IfOk result (λ tables. map (λ table. table.items) tables.items ≡ tables_for boot.now) }
 {
-    let Ok(mut tables) = Vec::with_capacity(alloc, usize::from(boot.cpus())) else {
-        return Err(NoMemory);
-    };
+    let mut tables = Vec::with_capacity(alloc, usize::from(boot.cpus()))?;
     for number in 0..boot.cpus() {
         let guests = guests_of(alloc, boot, CpuId(number))?;
         tables.push(guests).unwrap();
