@@ -1,8 +1,8 @@
 -- Facts on what workers that count did.
 use Rattle.std.proofs.Common.{◌≡◌, ◌≢◌, ℕ, zero, suc, ◌+◌, ◌*◌, ◌%◌, ◌^◌, ◌<◌, ◌≤◌, Bool, true, false, if◌then◌else◌, Option, None, Some, option_map, List, []}
-use Rattle.std.proofs.Common.{◌∷◌, ◌++◌, length, get_or, slice_get, take, All, refl, ap, sym, ◌∙◌, subst, length-append, ne_eqb, zero-add, mul-le-mul}
+use Rattle.std.proofs.Common.{◌∷◌, ◌++◌, length, get_or, slice_get, All, refl, ap, sym, ◌∙◌, subst, length-append, ne_eqb, zero-add, mul-le-mul}
 use Rattle.std.proofs.Common.{mod-eq_of_lt, lt_of_not-le, arith}
-use Rattle.std.proofs.lemmas.{List.length-take, List.take_all, List.take_more, Option.get_or_from_slice_get}
+use Rattle.std.proofs.lemmas.{Option.get_or_from_slice_get}
 use Rattle.table_machine.proofs.{Elements.last_got, Elements.longer_got, Fresh.length_new}
 use Rattle.event_log.proofs.{Foreign.own_others, Same.same_cpu_self, Same.same_lock_self}
 use Rattle.event_log.specs.{declared.ids.TheConstants.CPUS, declared.ids.CpuId.CpuId, declared.ids.LockId.LockId, History.own_events, History.same_cpu}

@@ -10,11 +10,11 @@ pub(crate) mod sections;
 mod tables;
 mod tasks;
 
+pub use crate::refusals::WorkerError as CountFault;
+pub use counted::{Counted, LockOfKind, number_in, number_left};
 use event_log::{BufId, LockId};
 use layer_traits::{Edit, LockLaw, Payload, SectionOf, SplitEdit};
 use std::marker::PhantomData;
-pub use crate::refusals::WorkerError as CountFault;
-pub use counted::{Counted, LockOfKind, number_in, number_left};
 pub use tables::{NotCounted, count_or_leave, count_table};
 
 /// The lock that guards the number.

@@ -9,10 +9,10 @@ ghost use Rattle.cpu_workers.specs.{Closing.tower_rules, Natives.HaveLeftKeys, N
 
 use crate::native_seats::{LeftNative, call_over};
 use crate::natives::Native;
+use crate::refusals::WorkerError;
 use crate::report::items_at;
 use crate::run::seats_at;
 use crate::seats::TowerSeat;
-use crate::refusals::WorkerError;
 use arrayvec::ArrayVec;
 use event_log::{BufId, CAPACITY, CPUS, CpuId, LockId, Msg, NoMemory};
 use ipc_calls::{TowerBlock, TowerEdit, TowerLockLaws, tower_blocks};

@@ -117,7 +117,11 @@ where
 }
 
 // What all tasks leave, put into the list, which has room.
-fn all_done<T: Task + Drop, R: Threads + Wait>(rt: &R, starts: Vec<Start<T>>, mut done: Vec<T::Done>) -> Vec<T::Done>
+fn all_done<T: Task + Drop, R: Threads + Wait>(
+    rt: &R,
+    starts: Vec<Start<T>>,
+    mut done: Vec<T::Done>,
+) -> Vec<T::Done>
 where
     T::Done: Drop,
     requires may { All T.MayRun (map (task_of (λ h. h.promise.task.value)) starts.items) }
@@ -133,7 +137,11 @@ where
 }
 
 // All tasks as they were, put into the list, which has room.
-fn all_back<T: Task + Drop, R: Threads + Wait>(rt: &R, starts: Vec<Start<T>>, mut back: Vec<T>) -> Vec<T>
+fn all_back<T: Task + Drop, R: Threads + Wait>(
+    rt: &R,
+    starts: Vec<Start<T>>,
+    mut back: Vec<T>,
+) -> Vec<T>
 where
     T::Done: Drop,
     requires empty { back.items ≡ [] }
@@ -170,6 +178,36 @@ where
         done: Vec::with_capacity(alloc, count)?,
         back: Vec::with_capacity(alloc, count)?,
     })
+}
+
+// What comes of the starts: where one was refused all tasks are as they were, else they are let go and
+// each has run.
+fn outcome<T: Task + Drop, R: Threads + Wait>(
+    rt: &R,
+    go: &OnceLock<bool>,
+    refused: Option<NoThread>,
+    starts: Vec<Start<T>>,
+    done: Vec<T::Done>,
+    back: Vec<T>,
+) -> Result<Vec<T::Done>, Refused<T>>
+where
+    T::Done: Drop,
+    requires may { All T.MayRun (map (task_of (λ h. h.promise.task.value)) starts.items) }
+    requires done { (done.items ≡ []) × (length starts.items ≤ vec_capacity done) }
+    requires back { (back.items ≡ []) × (length starts.items ≤ vec_capacity back) }
+    ensures ran { IfOk result (λ all. Both T.HasDone (map (task_of (λ h. h.promise.task.value)) starts.items) all.items) }
+    ensures refused { IfErr result (λ r. r.back.items ≡ map (task_of (λ h. h.promise.task.value)) starts.items) }
+{
+    match refused {
+        Some(no) => Err(Refused {
+            fault: WorkerError::NoThread(no),
+            back: all_back(rt, starts, back),
+        }),
+        None => {
+            let _ = go.set(rt, true);
+            Ok(all_done(rt, starts, done))
+        }
+    }
 }
 
 // A thread for each task, all started before any is let go, and all joined. Where a thread could not be
@@ -229,16 +267,7 @@ where
                     }
                 }
             }
-            match refused {
-                Some(no) => Err(Refused {
-                    fault: WorkerError::NoThread(no),
-                    back: all_back(rt, starts, back),
-                }),
-                None => {
-                    let _ = go.set(rt, true);
-                    Ok(all_done(rt, starts, done))
-                }
-            }
+            outcome(rt, go, refused, starts, done, back)
         },
     )
 }

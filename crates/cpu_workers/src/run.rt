@@ -11,10 +11,10 @@ ghost use Rattle.cpu_workers.specs.{Closing.shown, Closing.tower_rules, Lawful.I
 
 use crate::gates::Gate;
 use crate::plan_words::PlanWords;
+use crate::refusals::WorkerError;
 use crate::report::Report;
 use crate::seating::{Left, run_over};
 use crate::seats::TowerSeat;
-use crate::refusals::WorkerError;
 use crate::stops::Stop;
 use boot::{Boot, LockKind};
 use cpu::homes_of;

@@ -119,10 +119,7 @@ pub(crate) fn count_all<K: PlanWords + Sync, R: Threads + Wait + Sync>(
             return Err(Refused { fault, back: keys });
         }
     };
-    let Room {
-        tasks,
-        keys: again,
-    } = room;
+    let Room { tasks, keys: again } = room;
     let tasks = all_counting(shared, keys, times, tasks);
     match run_all(rt, alloc, tasks) {
         Ok(came) => Ok(came),

@@ -1,4 +1,4 @@
-use Rattle.std.proofs.Common.{◌≡◌, ◌≤◌, ◌++◌, [], ◌∷◌, length, map, ap, sym, ◌∙◌, subst, rules, vec_capacity, vec_len}
+use Rattle.std.proofs.Common.{◌≡◌, ◌≤◌, length, map, ap, sym, ◌∙◌, subst, rules, vec_capacity, vec_len}
 use Rattle.cpu_workers.specs.Tasks.{task_of}
 use Rattle.cpu_workers.proofs.Joining.{map_length, mapped_more, no_more, room_for, yield_more}
 use Rattle.cpu_workers.proofs.pool.all_back.Goals as goal

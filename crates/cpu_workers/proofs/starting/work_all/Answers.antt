@@ -1,5 +1,5 @@
-use Rattle.std.proofs.Common.{◌≡◌, [], All, sym, subst, ap, ◌∙◌}
-use Rattle.cpu_workers.specs.Reports.{Both, HasRun}
+use Rattle.std.proofs.Common.{◌≡◌, [], subst, ap, ◌∙◌}
+use Rattle.cpu_workers.specs.Reports.{HasRun}
 use Rattle.cpu_workers.proofs.Joining.{both_all, both_then}
 use Rattle.cpu_workers.proofs.starting.work_all.Goals as goal
 

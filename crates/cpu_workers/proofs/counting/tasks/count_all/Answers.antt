@@ -1,8 +1,8 @@
 use denote.Param.Send.{sendable}
 use Rattle.std.proofs.Crossing.{crosses}
-use Rattle.std.proofs.Common.{◌≡◌, ◌≤◌, All, IsSome, length, map, ap, subst, sym, ◌∙◌, arith}
+use Rattle.std.proofs.Common.{◌≡◌, IsSome, length, map, ap, subst, sym, ◌∙◌, arith}
 use Rattle.layer_traits.specs.OneLock.{opened}
-use Rattle.cpu_workers.specs.{declared.counting.TheConstants.NUMBER, Counts.HasMade, Counts.IsFresh, Reports.Both}
+use Rattle.cpu_workers.specs.{declared.counting.TheConstants.NUMBER, Counts.HasMade, Counts.IsFresh}
 use Rattle.table_machine.proofs.Crossing.{key_send}
 use Rattle.cpu_workers.proofs.CountCrossing.{counting_send}
 use Rattle.cpu_workers.proofs.Joining.{both_all, both_length, both_map, both_then}
@@ -18,8 +18,10 @@ pub run_all-requires-after_bounds : goal.run_all-requires-after_bounds
 run_all-requires-after_bounds g c κs within =
     both_all (λ k t. (t.key ≡ k) × (t.shared.now ≡ c.args.shared.now) × (t.times ≡ c.args.times)) (IsFresh c.args.shared.now)
     (λ t. IsFresh t.shared.now t.key × IsSome (opened t.shared.now.start NUMBER))
-    (λ k t is fresh. (subst (λ v. IsFresh v t.key) (sym is.1) (subst (λ x. IsFresh c.args.shared.now x) (sym is.0) fresh),
-    subst (λ v. IsSome (opened v.start NUMBER)) (sym is.1) c.requires.lock))
+    (λ k t is fresh. (
+      subst (λ v. IsFresh v t.key) (sym is.1) (subst (λ x. IsFresh c.args.shared.now x) (sym is.0) fresh),
+      subst (λ v. IsSome (opened v.start NUMBER)) (sym is.1) c.requires.lock,
+    ))
     c.args.keys.items c.all_counting-tasks.result.items c.all_counting-tasks.ensures c.requires.fresh
 
 pub returns-in-Ok-run_all-clause-came : goal.returns-in-Ok-run_all-clause-came

@@ -1,4 +1,4 @@
-use Rattle.std.proofs.Common.{rules, ◌≡◌, ◌≤◌, [], ◌∷◌, ◌++◌, All, Ok, Err, length, map, refl, sym, ap, subst, ◌∙◌, vec_capacity}
+use Rattle.std.proofs.Common.{rules, ◌≡◌, ◌≤◌, All, Ok, Err, IfOk, IfErr, length, refl, sym, ap, subst, ◌∙◌, vec_capacity}
 use Rattle.cpu_workers.specs.{Reports.Both, Tasks.task_of}
 use Rattle.cpu_workers.proofs.Joining.{all_head, all_tail, came_back, map_grows, map_length, no_more, yield_more}
 use Rattle.cpu_workers.proofs.pool.fn.run_in.scope.Goals as goal
@@ -46,14 +46,25 @@ loop-task-preserved g c =
       room = subst (λ n. length c.into_iter-task-iterator.result.rest.items ≤ n) (sym c.push_reserved-in-Err.ensures.capacity) known.room;
     }
 
-pub all_done-requires : goal.all_done-requires
-all_done-requires g c =
+pub outcome-requires : goal.outcome-requires
+outcome-requires g c =
     let known = c.loop-task.invariant in
     let left = c.loop-task.task-iterator.rest in
     let whole : c.loop-task.yielded ≡ c.captures.tasks.items = no_more c.loop-task.yielded left.items c.into_iter-task-iterator.result.rest.items
     left.len known.all left.ok.0 c.in-None.ensures.steps.0 ∙ c.into_iter-task-iterator.ensures.into_iter_gives.0 in
+    let many = sym (map_length _ c.loop-task.starts.items) ∙ ap length (known.starts ∙ whole) in
     record {
       may = subst (λ l. All g.T.Task.MayRun l) (sym (known.starts ∙ whole)) c.requires.0;
-      empty = c.requires.3;
-      room = subst (λ n. n ≤ vec_capacity c.captures.done) (sym (sym (map_length _ c.loop-task.starts.items) ∙ ap length (known.starts ∙ whole))) c.requires.4;
+      done = (c.requires.3, subst (λ n. n ≤ vec_capacity c.captures.done) (sym many) c.requires.4);
+      back = (c.requires.5, subst (λ n. n ≤ vec_capacity c.captures.back) (sym many) c.requires.6);
     }
+
+pub returns : goal.returns
+returns g c =
+    let known = c.loop-task.invariant in
+    let left = c.loop-task.task-iterator.rest in
+    let whole : c.loop-task.yielded ≡ c.captures.tasks.items = no_more c.loop-task.yielded left.items c.into_iter-task-iterator.result.rest.items
+    left.len known.all left.ok.0 c.in-None.ensures.steps.0 ∙ c.into_iter-task-iterator.ensures.into_iter_gives.0 in (
+      subst (λ ts. IfOk c.outcome.result (λ done. Both g.T.Task.HasDone ts done.items)) (known.starts ∙ whole) c.outcome.ensures.ran,
+      subst (λ ts. IfErr c.outcome.result (λ r. r.back.items ≡ ts)) (known.starts ∙ whole) c.outcome.ensures.refused,
+    )

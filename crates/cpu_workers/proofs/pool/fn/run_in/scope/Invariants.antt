@@ -1,4 +1,4 @@
-use Rattle.std.proofs.Common.{◌≡◌, ◌≤◌, ◌++◌, [], All, length, map, vec_capacity}
+use Rattle.std.proofs.Common.{◌≡◌, ◌≤◌, ◌++◌, All, length, map, vec_capacity}
 use Rattle.cpu_workers.specs.Tasks.{task_of}
 use Rattle.cpu_workers.proofs.pool.fn.run_in.scope.Given as goal
 
