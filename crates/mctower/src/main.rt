@@ -37,8 +37,9 @@ pub mod tower;
 
 use event_log::NoMemory;
 use faults::LineFault;
+use memory::read_refused;
 use refusals::{Refusal, status_of_refusal, write_report};
-use serve::{read_refused, serve};
+use serve::serve;
 use std::alloc::Global;
 use std::io::{BufWriter, Read, Write};
 use std::process::ExitCode;

@@ -5,34 +5,39 @@
 //! nowhere else in this crate.
 
 ghost use Rattle.std.specs.Prelude.{◌≡◌, ◌≢◌, MatchOption};
-ghost use Rattle.clap.specs.declared.error.kind.ErrorKind.TheVariants as clap_kind;
-ghost use Rattle.std.specs.declared.io.ErrorKind.TheVariants as io_kind;
+ghost use Rattle.clap.specs.declared.error.kind.ErrorKind.TheVariants.{OutOfMemory};
+ghost use Rattle.event_log.specs.Refusals.{no_memory};
+ghost use Rattle.mctower.specs.Serve.{kind_refused};
 
+use crate::refusals::Refusal;
+use clap::error::ErrorKind;
 use event_log::NoMemory;
 use std::alloc::AllocError;
 use std::io;
 
 /// The refusal that a kind of error stands for.
-fn refused() -> NoMemory {
+fn refused() -> NoMemory
+    ensures { result ≡ no_memory }
+{
     NoMemory::from(AllocError)
 }
 
 /// The refusal of which an error of `clap` of this kind tells, if it tells one.
-pub(crate) fn told_by_clap(kind: clap::error::ErrorKind) -> Option<NoMemory>
-    ensures { MatchOption result (kind ≢ clap_kind.OutOfMemory) (λ _. kind ≡ clap_kind.OutOfMemory) }
+pub(crate) fn told_by_clap(kind: ErrorKind) -> Option<NoMemory>
+    ensures { MatchOption result (kind ≢ OutOfMemory) (λ _. kind ≡ OutOfMemory) }
 {
     match kind {
-        clap::error::ErrorKind::OutOfMemory => Some(refused()),
+        ErrorKind::OutOfMemory => Some(refused()),
         _ => None,
     }
 }
 
-/// The refusal of which an error of a reader or a writer of this kind tells, if it tells one.
-pub(crate) fn told_by_io(kind: io::ErrorKind) -> Option<NoMemory>
-    ensures { MatchOption result (kind ≢ io_kind.OutOfMemory) (λ _. kind ≡ io_kind.OutOfMemory) }
+/// What a failed read refuses, by its kind.
+pub(crate) fn read_refused(kind: io::ErrorKind) -> Refusal
+    ensures { result ≡ kind_refused kind }
 {
     match kind {
-        io::ErrorKind::OutOfMemory => Some(refused()),
-        _ => None,
+        io::ErrorKind::OutOfMemory => Refusal::NoMemory(refused()),
+        _ => Refusal::ReadFault,
     }
 }

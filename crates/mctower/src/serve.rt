@@ -6,14 +6,14 @@ ghost use Rattle.std.specs.List.{flat_map};
 ghost use Rattle.event_log.specs.declared.ids.TheConstants.{CPUS};
 ghost use Rattle.tracer.specs.Sinks.{has_failed, is_flushed};
 ghost use Rattle.mctower.specs.{Output.between, Line.order_of, Schedule.ReadsSteps, Serve.Checks, Serve.Counts, Serve.Ends, Serve.OfBytes, Serve.OfInput};
-ghost use Rattle.mctower.specs.{Serve.Puts, Serve.PutsAnswer, Serve.ReadsAll, Serve.RunsPlan, Serve.Serves, Serve.PrintsVerdict, Serve.kind_refused, Serve.reads_input};
+ghost use Rattle.mctower.specs.{Serve.Puts, Serve.PutsAnswer, Serve.ReadsAll, Serve.RunsPlan, Serve.Serves, Serve.PrintsVerdict, Serve.reads_input};
 ghost use Rattle.mctower.specs.{Serve.steps_asked};
 
 use crate::count::{count_plain, count_table};
 use crate::faults::{NoOrder, why_no_order};
 use crate::help::{VERSION, help_on};
 use crate::line::{LineError, MOST_TIMES, Order, read_line};
-use crate::memory::told_by_io;
+use crate::memory::read_refused;
 use crate::print::print;
 use crate::refusals::{
     Refusal, run_refused, status_of_refusal, steps_refused, worker_refused, write_report,
@@ -27,7 +27,6 @@ use cpu_workers::Stop;
 use event_log::CpuId;
 use itoa::Buffer;
 use std::alloc::Global;
-use std::io;
 use std::io::{Read, Write};
 use std::sync::Wait;
 use std::thread::Threads;
@@ -100,16 +99,6 @@ fn serve_count<O: Write, T: Threads + Wait + Sync>(
         b"\n".as_slice(),
     ];
     put_out(out, &lines, Done::Exit(0))
-}
-
-/// What a failed read refuses, by its kind.
-pub(crate) fn read_refused(kind: io::ErrorKind) -> Refusal
-    ensures { result ≡ kind_refused kind }
-{
-    match told_by_io(kind) {
-        Some(refused) => Refusal::NoMemory(refused),
-        None => Refusal::ReadFault,
-    }
 }
 
 /// All of the input.
