@@ -28,9 +28,7 @@ fn empty_queues<B: Drop>(
     ensures room { IfOk result (λ locks. cpus + more ≤ vec_capacity locks) }
 {
     let kept = kept_homes(homes);
-    let Ok(mut locks) = Vec::with_capacity(alloc, usize::from(cpus) + more) else {
-        return Err(NoMemory);
-    };
+    let mut locks = Vec::with_capacity(alloc, usize::from(cpus) + more)?;
     for cpu in 0..cpus {
         let queue = BlockBox::new(alloc, ThreadQueue::new())?;
         let block = QueueBlock::Queue(queue, Snapshot::of(&kept));

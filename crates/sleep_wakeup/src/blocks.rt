@@ -15,9 +15,7 @@ pub fn sleep_blocks<B: Drop>(alloc: Global, blocks: Vec<B>) -> Result<Vec<SleepB
     ensures { IfOk result (λ made. made.items ≡ map resting blocks.items) }
 {
     let mut left = blocks;
-    let Ok(mut made) = Vec::with_capacity(alloc, left.len()) else {
-        return Err(NoMemory);
-    };
+    let mut made = Vec::with_capacity(alloc, left.len())?;
     while !left.is_empty() {
         made.push(SleepBlock {
             sleepers: ThreadQueue::new(),
