@@ -18,9 +18,7 @@ pub fn empty_blocks(alloc: Global, caps: &[u8]) -> Result<Vec<BufferBlock>, NoMe
     requires { All IsCapacity caps.now }
     ensures { IfOk result (λ blocks. blocks.items ≡ map empty_block caps.now) }
 {
-    let Ok(mut blocks) = Vec::with_capacity(alloc, caps.len()) else {
-        return Err(NoMemory);
-    };
+    let mut blocks = Vec::with_capacity(alloc, caps.len())?;
     for capacity in caps {
         blocks
             .push(BufferBlock::new(usize::from(*capacity)))

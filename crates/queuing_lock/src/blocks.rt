@@ -14,9 +14,7 @@ pub fn lock_blocks<B: Drop>(alloc: Global, blocks: Vec<B>) -> Result<Vec<QBlock<
     ensures { IfOk result (λ made. made.items ≡ map unowned blocks.items) }
 {
     let mut left = blocks;
-    let Ok(mut made) = Vec::with_capacity(alloc, left.len()) else {
-        return Err(NoMemory);
-    };
+    let mut made = Vec::with_capacity(alloc, left.len())?;
     while !left.is_empty() {
         made.push(QBlock {
             busy: None,
