@@ -331,7 +331,7 @@ fn ends_or_never_asks<T: AllocGlobal + Threads + Wait + Sync>(rt: &T, first: &st
     };
     let boot = match Boot::read(rt.alloc(), text.as_str()) {
         Ok(boot) => boot,
-        Err(error) => return error == BootError::NoMemory,
+        Err(error) => return matches!(error, BootError::NoMemory(_)),
     };
     let gate = Counting {
         asked: AtomicU64::new(0),
@@ -347,7 +347,7 @@ fn ends_or_never_asks<T: AllocGlobal + Threads + Wait + Sync>(rt: &T, first: &st
                 && items.1.as_slice() == [Msg::one(2)].as_slice()
         }
         Err(error) => {
-            asked == 0 && (error == WorkerError::NoMemory || error == WorkerError::NoThread)
+            asked == 0 && matches!(error, WorkerError::NoMemory(_) | WorkerError::NoThread(_))
         }
     }
 }
