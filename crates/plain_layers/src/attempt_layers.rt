@@ -58,9 +58,7 @@ pub fn plain_buffers(alloc: Global, caps: &[u8]) -> Result<Vec<PlainBuffer>, NoM
     requires { All IsCapacity caps.now }
     ensures { IfOk result (λ buffers. buffers.items ≡ map empty_buffer caps.now) }
 {
-    let Ok(mut buffers) = Vec::with_capacity(alloc, caps.len()) else {
-        return Err(NoMemory);
-    };
+    let mut buffers = Vec::with_capacity(alloc, caps.len())?;
     for capacity in caps {
         buffers
             .push(PlainBuffer::new(usize::from(*capacity)))

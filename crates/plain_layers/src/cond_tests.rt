@@ -269,10 +269,8 @@ fn one_block(alloc: Global) -> Result<Vec<Tid>, NoMemory>
     ensures { IfOk result (λ blocks. blocks.items ≡ record { 0 = 0 } ∷ []) }
 {
     let mut blocks = Vec::new(alloc);
-    match blocks.push(Tid(0)) {
-        Ok(()) => Ok(blocks),
-        Err(_) => Err(NoMemory),
-    }
+    blocks.push(Tid(0))?;
+    Ok(blocks)
 }
 
 /// A call on a lock with conditions, as an edit.

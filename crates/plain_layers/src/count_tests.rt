@@ -61,7 +61,7 @@ fn threads_count_together(rt: HostRuntime) -> Result<(), Fail> {
 fn a_refused_allocation_of_the_table_is_no_memory(rt: HostRuntime) {
     match count_table(&rt, rt.alloc(), 0, 5, LockKind::Grant) {
         Ok(counted) => assert_eq!(rt; counted.number(), 0),
-        Err(fault) => assert!(rt; matches!(fault, CountFault::NoMemory)),
+        Err(fault) => assert!(rt; matches!(fault, CountFault::NoMemory(_))),
     }
 }
 

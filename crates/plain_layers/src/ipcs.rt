@@ -1,6 +1,7 @@
 //! Message calls in one step: the top of the layers, over one-step buffers. Only `open` takes
 //! memory. No call waits.
 
+ghost use Rattle.std.specs.Prelude.{◌≤◌, ◌^◌};
 ghost use Rattle.plain_layers.specs.Wholes.{IsCoarse};
 
 use crate::attempt_layers::OpensAttempts;
@@ -26,9 +27,22 @@ impl<S: OpensAttempts> OpensBuffers for PlainFifo<S> {
         room: usize,
     ) -> Result<S::Machine, NoMemory> {
         if usize::MAX / 2 < room {
-            return Err(NoMemory);
+            return Err(refusal_of(alloc, room));
         }
         S::open(alloc, cpus, caps, homes, room * 2)
+    }
+}
+
+/// The refusal of more bytes than a list can have.
+fn refusal_of(alloc: Global, bytes: usize) -> NoMemory
+    requires { 2 ^ 63 ≤ bytes }
+{
+    match vec![in alloc; 0u8; bytes] {
+        Ok(list) => {
+            prove!(list.as_slice().len() < bytes);
+            unreachable!()
+        }
+        Err(error) => NoMemory::from(error),
     }
 }
 

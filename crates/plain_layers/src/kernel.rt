@@ -167,9 +167,7 @@ fn do_call<E: Moves>(
 fn empty_queues(alloc: Global, cpus: u8) -> Result<Vec<ThreadQueue>, NoMemory>
     ensures { IfOk result (λ queues. queues.items ≡ replicate cpus []) }
 {
-    let Ok(mut queues) = Vec::with_capacity(alloc, usize::from(cpus)) else {
-        return Err(NoMemory);
-    };
+    let mut queues = Vec::with_capacity(alloc, usize::from(cpus))?;
     for _ in 0..cpus {
         queues.push(ThreadQueue::new()).unwrap();
     }

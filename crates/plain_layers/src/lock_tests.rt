@@ -271,10 +271,8 @@ fn one_block(alloc: Global) -> Result<Vec<u8>, NoMemory>
     ensures { IfOk result (λ blocks. blocks.items ≡ 7 ∷ []) }
 {
     let mut blocks = Vec::new(alloc);
-    match blocks.push(7) {
-        Ok(()) => Ok(blocks),
-        Err(_) => Err(NoMemory),
-    }
+    blocks.push(7)?;
+    Ok(blocks)
 }
 
 /// What a section does to the block of its lock.

@@ -104,9 +104,7 @@ fn cpus_meet(rt: &impl Abort, alloc: Global) -> Result<(), NoMemory> {
     let _laws: NapLaws = PhantomData;
     let homes = [CpuId(1), CpuId(0)];
     let mut blocks = Vec::new(alloc);
-    if blocks.push(None).is_err() {
-        return Err(NoMemory);
-    }
+    blocks.push(None)?;
     let mut m = PlainKernel::open(alloc, blocks, 2, &homes, 4)?;
     let mut first: PlainQueues<Nap> = PlainQueues::part(CpuId(0), &homes, 1);
     let mut second: PlainQueues<Nap> = PlainQueues::part(CpuId(1), &homes, 1);

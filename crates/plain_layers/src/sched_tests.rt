@@ -114,9 +114,7 @@ fn machine<S: Opens<Nap>>(alloc: Global, cpus: u8, homes: &[CpuId]) -> Result<S:
     ensures free { IfOk result (λ m. inner (S.opening m) waiters_of ≡ Some None) }
 {
     let mut blocks = Vec::new(alloc);
-    if blocks.push(None).is_err() {
-        return Err(NoMemory);
-    }
+    blocks.push(None)?;
     S::open(alloc, blocks, cpus, homes, 40)
 }
 

@@ -324,10 +324,8 @@ fn one_block(alloc: Global) -> Result<Vec<u8>, NoMemory>
     ensures { IfOk result (λ blocks. blocks.items ≡ 7 ∷ []) }
 {
     let mut blocks = Vec::new(alloc);
-    match blocks.push(7) {
-        Ok(()) => Ok(blocks),
-        Err(_) => Err(NoMemory),
-    }
+    blocks.push(7)?;
+    Ok(blocks)
 }
 
 /// A machine of two CPUs and one buffer, with room for 20 events; threads 0 and 2 are at home on CPU 0,

@@ -137,12 +137,8 @@ where
 {
     let mut traces = Vec::new(alloc);
     for cpu in 0..count {
-        let Ok(trace) = system.trace(CpuId(cpu)).to_vec(alloc) else {
-            return Err(NoMemory);
-        };
-        if traces.push(trace).is_err() {
-            return Err(NoMemory);
-        }
+        let trace = system.trace(CpuId(cpu)).to_vec(alloc)?;
+        traces.push(trace)?;
     }
     Ok(traces)
 }
@@ -167,10 +163,8 @@ where
     let traces = traces_of(alloc, count, system)?;
     let order = match gather(alloc, &traces) {
         Ok(order) => order,
-        Err(error) => {
-            assert!(rt; error == GatherError::NoMemory);
-            return Err(NoMemory);
-        }
+        Err(GatherError::NoMemory(refused)) => return Err(refused),
+        Err(GatherError::NoOrder) => panic!(rt; "traces without an order"),
     };
     let items = system.buffer(BufId(0));
     let spellable = is_spellable(&order, &items);

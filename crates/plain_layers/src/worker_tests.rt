@@ -359,7 +359,7 @@ fn ends_or_never_asks<T: AllocGlobal + Threads + Wait + Sync>(rt: &T, first: &st
     };
     let boot = match Boot::read(rt.alloc(), text.as_str()) {
         Ok(boot) => boot,
-        Err(error) => return error == BootError::NoMemory,
+        Err(error) => return matches!(error, BootError::NoMemory(_)),
     };
     let gate = Counting::new(u64::MAX);
     let ran = run_workers(rt, rt.alloc(), &boot, 1_000_000, &gate);
