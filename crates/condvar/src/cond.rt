@@ -196,4 +196,6 @@ impl<G: Guarded, Q: OwnedThreadLayer<QLockLaw<CvEdit<G>>>> OwnedThreadLayer<CvLa
         (λ p. Q.queue_with p d) (Q.queue_at m d)
         (Some (pending_by (moves_in (lock_kernel (cv_rules G.monitor_rules) (Q.opening m)) (Q.seen m)) d))
         (λ p fits. fits) (λ p fits. refl) (λ d inside. inside) (Q.queues m c d acts there) };
+
+    ghost holding = { Q.holding };
 }

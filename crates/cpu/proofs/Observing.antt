@@ -9,7 +9,7 @@ use Rattle.layer_traits.specs.declared.moves.WaitList.TheVariants.{Receivers, Se
 use Rattle.layer_traits.specs.{Acted.ItemsAre, Acted.MovesAre, Acted.guarded, Acted.owner_after, BufferEffects.contents_of, BufferProtocol.BufferLock}
 use Rattle.layer_traits.specs.{Locking.wait_list_in, Locking.owner_in, Places.pending_by, QueueBlocks.above_of, QueueBlocks.with_queue}
 use Rattle.layer_traits.proofs.PlanRenaming.{block_viewed}
-use Rattle.cpu.specs.{Claims.WaitersAgree, Claims.CpuShown, Claims.Shown, Claims.waiters_by, Claims.buffer_at, Claims.no_waiters, Sound.IsSetupFor}
+use Rattle.cpu.specs.{Claims.Waiters, Claims.CpuShown, Claims.Shown, Claims.waiters_by, Claims.buffer_at, Claims.no_waiters, Sound.IsSetupFor}
 use Rattle.cpu.specs.{Sound.SoundByTable, Table.Blocks.Buffer, Table.Blocks.OfBuffer, Table.Blocks.OfPending, Table.Blocks.stands_in, Table.Edits.edited}
 use Rattle.cpu.specs.{Table.Edits.kernel, Table.Setups.Setup, Table.Setups.opening as table_opening, Table.Setups.opening_buffer, Table.Steps.block_at}
 use Rattle.cpu.specs.{Tables.bare, Observed.AllowsNow, Observed.BufferIsObserved, Observed.HasBuffer, Observed.IsAwake, Tower.Composed.OpensAs}
@@ -73,12 +73,12 @@ module _ (setup : Setup) (m : Observed) (c : CpuId) (opening : LockId → Option
         → HasBuffer setup s b
     has_buffer b within held =
         let there = buffer_read (buffer_at b) ∙ lock_viewed (guarded opening m.acts (AtBuffer (buffer_at b))) held.lock held.there in
-        let waiters_law = listed_there (waiters_by m.wait_lists) (length m.caps) b no_waiters within in
+        let waiters = listed_there (waiters_by m.wait_lists) (length m.caps) b no_waiters within in
         let told : BufferIsObserved s b (buffer_view held.lock) = record {
           owner = listed_there (λ k. m.owner (buffer_at k)) (length m.caps) b None within ∙ owner_is (buffer_at b) ∙ ap owner_in held.there;
-          sleepers = ap (λ (x : WaitersAgree). x.sleepers) waiters_law ∙ are.waiting (buffer_at b) Sleepers ∙ ap (wait_list_in Sleepers) held.there;
-          receivers = ap (λ (x : WaitersAgree). x.receivers) waiters_law ∙ are.waiting (buffer_at b) Receivers ∙ ap (wait_list_in Receivers) held.there;
-          senders = ap (λ (x : WaitersAgree). x.senders) waiters_law ∙ are.waiting (buffer_at b) Senders ∙ ap (wait_list_in Senders) held.there;
+          sleepers = ap (λ (x : Waiters). x.sleepers) waiters ∙ are.waiting (buffer_at b) Sleepers ∙ ap (wait_list_in Sleepers) held.there;
+          receivers = ap (λ (x : Waiters). x.receivers) waiters ∙ are.waiting (buffer_at b) Receivers ∙ ap (wait_list_in Receivers) held.there;
+          senders = ap (λ (x : Waiters). x.senders) waiters ∙ are.waiting (buffer_at b) Senders ∙ ap (wait_list_in Senders) held.there;
           items = held.holds;
           capacity = held.may_hold;
           closed = listed_there (is_closed m.seen) (length m.caps) b false within ∙ held.shut;

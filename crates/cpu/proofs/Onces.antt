@@ -8,7 +8,7 @@ use Rattle.layer_traits.specs.{Places.AreMoves, Places.Asleep, Places.At, Places
 use Rattle.layer_traits.specs.{Places.Where, Places.home_of, Places.is_asleep, Places.one_if, Places.wait_channel_of, Places.where_is}
 use Rattle.layer_traits.specs.declared.moves.WaitList.TheVariants.{Sleepers, Receivers, Senders}
 use Rattle.layer_traits.proofs.OnePlaceLemmas.{one_place, total_none, total_one, total_same}
-use Rattle.cpu.specs.Claims.{WaitersAgree, CpuShown, Shown, StandsOnce, waiters_at, waiters_by, buffer_at, in_waiters, listed, no_waiters, own_at, own_in}
+use Rattle.cpu.specs.Claims.{Waiters, CpuShown, Shown, StandsOnce, waiters_at, waiters_by, buffer_at, in_waiters, listed, no_waiters, own_at, own_in}
 use Rattle.cpu.proofs.ListReads.{listed_length, listed_there, there_is}
 
 -- how often a place is one of buffer b
@@ -60,11 +60,11 @@ module _ (n : ℕ) (homes : List CpuId) (moves : List Step) (lines : BufId → W
           (total_one d.0 (λ b. times_at b (Some (At (Buffer d) line))) n known.2 (times_here d line) (λ b other. times_else d line b other))
 
 -- each thread of a system stands in exactly one place
-pub once_of : (s : Shown) (n : ℕ) (lines : BufId → WaitList → List Tid) → s.waiters_law ≡ listed (waiters_by lines) 0 n → WaitListsAgree n s.homes s.moves lines
+pub once_of : (s : Shown) (n : ℕ) (lines : BufId → WaitList → List Tid) → s.waiters ≡ listed (waiters_by lines) 0 n → WaitListsAgree n s.homes s.moves lines
     → ((t : Tid) (home : CpuId) → home_of s.homes t ≡ Some home → home.0 < length s.cpus) → AreMoves s.homes s.moves
     → ((k : ℕ) (p : CpuShown) → slice_get s.cpus k ≡ Some p → Stands s.homes (cpu_at k) s.moves p.own) → StandsOnce s
 once_of s n lines waiters_are agree within moved stands t =
-    one_place s.homes (length s.cpus) s.moves (own_at s) (λ u. total (λ b. in_waiters u (waiters_at s b)) (length s.waiters_law)) (record {
+    one_place s.homes (length s.cpus) s.moves (own_at s) (λ u. total (λ b. in_waiters u (waiters_at s b)) (length s.waiters)) (record {
       homes_within = within;
       moves_are = moved;
       stand = λ k inside. stand_at k (there_is s.cpus k inside);
@@ -75,14 +75,14 @@ once_of s n lines waiters_are agree within moved stands t =
     stand_at : (k : ℕ) → (p : CpuShown) × (slice_get s.cpus k ≡ Some p) → Stands s.homes (cpu_at k) s.moves (own_at s k)
     stand_at k there = subst (λ (o : Option CpuShown). Stands s.homes (cpu_at k) s.moves (own_in o)) (sym there.1) (stands k there.0 there.1)
 
-    count : length s.waiters_law ≡ n
-    count = ap (λ (l : List WaitersAgree). length l) waiters_are ∙ listed_length (waiters_by lines) n 0
+    count : length s.waiters ≡ n
+    count = ap (λ (l : List Waiters). length l) waiters_are ∙ listed_length (waiters_by lines) n 0
 
     waiters_of : (b : ℕ) → b < n → waiters_at s b ≡ waiters_by lines b
     waiters_of b inside =
-        ap (λ (l : List WaitersAgree). slice_index_or l b no_waiters) waiters_are ∙ listed_there (waiters_by lines) n b no_waiters inside
+        ap (λ (l : List Waiters). slice_index_or l b no_waiters) waiters_are ∙ listed_there (waiters_by lines) n b no_waiters inside
 
-    sleeps : (u : Tid) → total (λ b. in_waiters u (waiters_at s b)) (length s.waiters_law) ≡ one_if (is_asleep (where_is s.homes s.moves u))
+    sleeps : (u : Tid) → total (λ b. in_waiters u (waiters_at s b)) (length s.waiters) ≡ one_if (is_asleep (where_is s.homes s.moves u))
     sleeps u =
         ap (λ (m : ℕ). total (λ b. in_waiters u (waiters_at s b)) m) count
         ∙ total_same (λ b. in_waiters u (waiters_at s b)) (λ b. in_waiters u (waiters_by lines b)) n (λ b inside. ap (in_waiters u) (waiters_of b inside))

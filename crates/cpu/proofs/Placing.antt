@@ -12,7 +12,7 @@ use Rattle.layer_traits.specs.Places.{Asleep, At, Hand, Home, Pend, Stands, Step
 use Rattle.layer_traits.specs.Places.{is_pend, one_if, pending_by, where_is}
 use Rattle.layer_traits.proofs.{CountLemmas.in_counted, CountLemmas.is_cpu_true, ListsLemmas.wait_channel_here, ListsLemmas.counted_in, PlaceLemmas.pend_count}
 use Rattle.layer_traits.proofs.{PlaceLemmas.pend_home}
-use Rattle.cpu.specs.{declared.guests.Guest.Guest, Claims.WaitersAgree, Claims.CpuShown, Claims.IsPlaceOf, Claims.MovesAgree, Claims.Shown, Claims.waiters_at}
+use Rattle.cpu.specs.{declared.guests.Guest.Guest, Claims.Waiters, Claims.CpuShown, Claims.IsPlaceOf, Claims.MovesAgree, Claims.Shown, Claims.waiters_at}
 use Rattle.cpu.specs.{Claims.waiters_by, Claims.listed, Claims.no_waiters, Systems.whole_of, Table.Setups.Private, Table.Setups.Setup, Table.Setups.Thread}
 use Rattle.cpu.specs.{Table.Setups.thread_at, Table.Setups.home_of as table_home, Tables.private, Tables.state_of, Tables.states, Observed.CpuHas}
 use Rattle.cpu.specs.{Observed.CpuIsObserved, Observed.HasBuffer, Observed.IsPlaceByTable, Tower.Privates.threads_in}
@@ -39,7 +39,7 @@ ended_home homes c moves own stands t is = go (is_here homes c moves t) refl
         let some = in_counted t own.ended is in
         absurd (omega (arith, count, some))
 
-module _ (s : Shown) (agree : MovesAgree s) (lines : BufId → WaitList → List Tid) (waiters_law : s.waiters_law ≡ listed (waiters_by lines) 0 (length s.caps))
+module _ (s : Shown) (agree : MovesAgree s) (lines : BufId → WaitList → List Tid) (waiters : s.waiters ≡ listed (waiters_by lines) 0 (length s.caps))
     (lists : WaitListsAgree (length s.caps) s.homes s.moves lines) (setup : Setup)
     (cpus : (k : ℕ) (p : CpuShown) → slice_get s.cpus k ≡ Some p → CpuIsObserved setup s k p)
     (buffers : (b : ℕ) → b < length s.caps → HasBuffer setup s b) (homes : setup.homes ≡ s.homes) where
@@ -56,7 +56,7 @@ module _ (s : Shown) (agree : MovesAgree s) (lines : BufId → WaitList → List
       (within, counted_in t (lines b line) (omega (arith, one, count)))
 
   waiters_of : (b : ℕ) → b < length s.caps → waiters_at s b ≡ waiters_by lines b
-  waiters_of b within = ap (λ (l : List WaitersAgree). slice_index_or l b no_waiters) waiters_law
+  waiters_of b within = ap (λ (l : List Waiters). slice_index_or l b no_waiters) waiters
       ∙ listed_there (waiters_by lines) (length s.caps) b no_waiters within
 
   -- what holds of the private state of a CPU that is shown holds of that CPU in the table
@@ -103,7 +103,7 @@ module _ (s : Shown) (agree : MovesAgree s) (lines : BufId → WaitList → List
       subst (λ (x : Place). IsPlaceByTable setup (whole_of s) t x) (same_Some (place.LockSleeper b) at is) (
         has.buffer,
         has.there,
-        ap (λ (l : List Tid). is_in t l) (sym has.told.sleepers) ∙ ap (λ (x : WaitersAgree). is_in t x.sleepers) (waiters_of b.0 lies.0) ∙ lies.1,
+        ap (λ (l : List Tid). is_in t l) (sym has.told.sleepers) ∙ ap (λ (x : Waiters). is_in t x.sleepers) (waiters_of b.0 lies.0) ∙ lies.1,
       )
   queue_so t (Asleep (At (lock.Buffer b) Receivers)) at here is =
       let lies = asleep t b Receivers here in
@@ -111,7 +111,7 @@ module _ (s : Shown) (agree : MovesAgree s) (lines : BufId → WaitList → List
       subst (λ (x : Place). IsPlaceByTable setup (whole_of s) t x) (same_Some (place.WaitRecv b) at is) (
         has.buffer,
         has.there,
-        ap (λ (l : List Tid). is_in t l) (sym has.told.receivers) ∙ ap (λ (x : WaitersAgree). is_in t x.receivers) (waiters_of b.0 lies.0) ∙ lies.1,
+        ap (λ (l : List Tid). is_in t l) (sym has.told.receivers) ∙ ap (λ (x : Waiters). is_in t x.receivers) (waiters_of b.0 lies.0) ∙ lies.1,
       )
   queue_so t (Asleep (At (lock.Buffer b) Senders)) at here is =
       let lies = asleep t b Senders here in
@@ -119,7 +119,7 @@ module _ (s : Shown) (agree : MovesAgree s) (lines : BufId → WaitList → List
       subst (λ (x : Place). IsPlaceByTable setup (whole_of s) t x) (same_Some (place.WaitSend b) at is) (
         has.buffer,
         has.there,
-        ap (λ (l : List Tid). is_in t l) (sym has.told.senders) ∙ ap (λ (x : WaitersAgree). is_in t x.senders) (waiters_of b.0 lies.0) ∙ lies.1,
+        ap (λ (l : List Tid). is_in t l) (sym has.told.senders) ∙ ap (λ (x : Waiters). is_in t x.senders) (waiters_of b.0 lies.0) ∙ lies.1,
       )
 
   pub place_read : (t : Tid) (at : Place) → t.0 < length s.homes → IsPlaceOf s t at → IsPlaceByTable setup (whole_of s) t at

@@ -14,7 +14,7 @@ use Rattle.cpu.specs.{declared.guests.Guest.Guest, Guests.HasComeIn, Guests.is_e
 use Rattle.cpu.specs.{Tower.Composed.named, Tower.Views.TowerName, Cpus.IsOfHome, Cpus.guest_at, Cpus.of_thread, Cpus.programs_of}
 
 -- who sleeps at a buffer: for its lock, for a message, for room
-pub record WaitersAgree : Type 0 where
+pub record Waiters : Type 0 where
   pub sleepers : List Tid
   pub receivers : List Tid
   pub senders : List Tid
@@ -38,7 +38,7 @@ pub record Shown : Type 0 where
   pub homes : List CpuId
   pub contents : List (List Message)
   pub closed : List Bool
-  pub waiters_law : List WaitersAgree
+  pub waiters : List Waiters
   pub owners : List (Option Tid)
   pub moves : List Step
   -- the actions of all CPUs, newest first, by the names of the step table, where the machine does one action a step
@@ -56,7 +56,7 @@ abbrev pub buffer_at : ℕ → BufId
 buffer_at b = record { 0 = b }
 
 -- who sleeps at a buffer, by the lists of each line
-abbrev pub waiters_by : (BufId → WaitList → List Tid) → ℕ → WaitersAgree
+abbrev pub waiters_by : (BufId → WaitList → List Tid) → ℕ → Waiters
 waiters_by lines b = record { sleepers = lines (buffer_at b) Sleepers; receivers = lines (buffer_at b) Receivers; senders = lines (buffer_at b) Senders }
 
 abbrev pub cpu_shown : Threads → List (Option Guest) → List Entry → ℕ → Bool → Buffering → CpuShown
@@ -77,7 +77,7 @@ shown_of caps homes seen lines owner moves acts cpus room taken = record {
   homes = homes;
   contents = contents_of caps seen;
   closed = listed (is_closed seen) 0 (length caps);
-  waiters_law = listed (waiters_by lines) 0 (length caps);
+  waiters = listed (waiters_by lines) 0 (length caps);
   owners = listed (λ b. owner (buffer_at b)) 0 (length caps);
   moves = moves;
   log = named acts;
@@ -122,13 +122,13 @@ abbrev pub StayHome : Shown → Type 0
 StayHome s = (c : ℕ) (p : CpuShown) → slice_get s.cpus c ≡ Some p → AllByRecursion (IsOfHome s.homes (record { 0 = c })) p.trace
 
 -- how often a thread stands among those that sleep at a buffer
-abbrev pub in_waiters : Tid → WaitersAgree → ℕ
+abbrev pub in_waiters : Tid → Waiters → ℕ
 in_waiters t b = count_in t b.sleepers + count_in t b.receivers + count_in t b.senders
 
 abbrev pub no_threads : Threads
 no_threads = record { current = None; hand = None; ready = []; ended = [] }
 
-abbrev pub no_waiters : WaitersAgree
+abbrev pub no_waiters : Waiters
 no_waiters = record { sleepers = []; receivers = []; senders = [] }
 
 abbrev pub own_in : Option CpuShown → Threads
@@ -140,13 +140,13 @@ abbrev pub own_at : Shown → ℕ → Threads
 own_at s k = own_in (slice_get s.cpus k)
 
 -- who sleeps at buffer b
-abbrev pub waiters_at : Shown → ℕ → WaitersAgree
-waiters_at s b = slice_index_or s.waiters_law b no_waiters
+abbrev pub waiters_at : Shown → ℕ → Waiters
+waiters_at s b = slice_index_or s.waiters b no_waiters
 
 -- each thread stands in exactly one place of the whole system: it runs or is ready with a CPU, is in one CPU's hand, in one pending queue,
 -- asleep in one line, or has ended; a number that is no thread's stands nowhere
 abbrev pub StandsOnce : Shown → Type 0
-StandsOnce s = (t : Tid) → InOnePlace s.homes (length s.cpus) s.moves (own_at s) (λ u. total (λ b. in_waiters u (waiters_at s b)) (length s.waiters_law)) t
+StandsOnce s = (t : Tid) → InOnePlace s.homes (length s.cpus) s.moves (own_at s) (λ u. total (λ b. in_waiters u (waiters_at s b)) (length s.waiters)) t
 
 -- a thread's place: one CPU has it so of its own, or it stands in this queue
 abbrev pub IsPlaceOf : Shown → Tid → Place → Type 0

@@ -98,6 +98,7 @@ where
         ensures follow { FollowPrograms self.new }
         ensures stay { StayHome self.new }
         ensures once { StandsOnce self.new }
+        ensures agree { MovesAgree self.new }
     {
         if self.looks(cpu) {
             self.holds();
@@ -196,6 +197,7 @@ where
         ensures follow { FollowPrograms self.new }
         ensures stay { StayHome self.new }
         ensures once { StandsOnce self.new }
+        ensures agree { MovesAgree self.new }
     {
         if !are_below(steps, self.cpus.len()) {
             self.holds();

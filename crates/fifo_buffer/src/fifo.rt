@@ -408,4 +408,6 @@ impl<C: OwnedThreadLayer<CvLaw<BufferEdit>>> OwnedBuffers for Fifo<C> {
         (λ (p : Self). Self.Fits p m) (λ p. C.cpu_of p) (C.MayHold m) (λ p fits. fits.0)
         (λ p. C.queue_with p d) (C.queue_at m d) (pending_by (moves_in (lock_kernel (cv_rules buffer_monitor_rules) (C.opening m)) (C.seen m)) d)
         (C.queues m c d acts.0 there) };
+
+    ghost holding = { C.holding };
 }

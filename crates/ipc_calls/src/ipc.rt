@@ -375,4 +375,6 @@ impl<B: OpensBuffers> Owned for Ipc<B> {
               (B.MayHold m) (λ q. B.wait_lists_with q b) (B.wait_lists_at m b)
               (B.wait_lists m b) (λ q fit. fit.0) (λ q fit. refl) (λ d inside. inside) (B.waiters_law m cpu b acts within);
         }) t home.0 home.1 };
+
+    ghost holding = { B.holding };
 }

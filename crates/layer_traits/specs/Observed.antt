@@ -15,7 +15,7 @@ pub record IsObservedAs {P A : Type 0} (Fits : P → Type 0) (cpu_of : P → Cpu
   pub by_part : (p : P) (x : A) → Fits p → here p ≡ Some x → x ≡ truth
   pub somewhere : home ≡ None → IsHeld Fits cpu_of IsInside here
 
--- a CPU may tell where a thread stands: it is the thread's home, it has the thread in its hand, or it is in a section
+-- a CPU may tell where a thread stands: it is the thread's home, it has the thread in its hand, or it may hold a lock
 abbrev pub MayObserve : (CpuId → Type 0) → Option CpuId → Where → CpuId → Type 0
 MayObserve IsInside home where_it_is c = (home ≡ Some c) ⊎ ((where_it_is ≡ Hand c) ⊎ ((c.0 < CPUS) × IsInside c))
 

@@ -1,11 +1,11 @@
--- What a machine and its parts tell of a block: it is at home in the machine, or in the hands of a CPU that is in a section.
+-- What a machine and its parts tell of a block: it is at home in the machine, or in the hands of a CPU that may hold its lock.
 use Rattle.std.specs.Prelude.{◌≡◌, ◌≢◌, ◌<◌, List, Option, Some, None, if◌then◌else◌}
 use Rattle.event_log.specs.declared.ids.{CpuId.CpuId, Tid.Tid, TheConstants.CPUS}
 use Rattle.layer_traits.specs.{declared.moves.WaitList.WaitList, declared.moves.WaitList.TheVariants.Sleepers, declared.moves.WaitList.TheVariants.Receivers}
 use Rattle.layer_traits.specs.{declared.moves.WaitList.TheVariants.Senders, Locking.LockState, Sleeping.SleepState}
 use Rattle.thread_blocks.specs.Queues.{is_in}
 
--- a CPU of the machine that is in a section has it in its hands: each part of that CPU has something to tell
+-- a CPU of the machine that may hold a lock has it in its hands: each part of that CPU has something to tell
 pub record IsHeld {P A : Type 0} (Fits : P → Type 0) (cpu_of : P → CpuId) (IsInside : CpuId → Type 0) (here : P → Option A) : Type 0 where
   pub cpu : CpuId
   pub known : cpu.0 < CPUS

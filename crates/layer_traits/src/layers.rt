@@ -2,7 +2,7 @@
 //!
 //! No call takes memory, and none waits.
 
-ghost use Rattle.std.specs.Prelude.{◌≡◌, ℕ, ◌<◌, true, false, Bool, List, [], Option, None, Some, IsSome, OnSome, is_some, if◌then◌else◌};
+ghost use Rattle.std.specs.Prelude.{◌≡◌, ℕ, ◌<◌, true, false, Bool, List, [], Option, None, Some, OnSome, if◌then◌else◌};
 ghost use Rattle.event_log.specs.{declared.ids.CpuId.CpuId, declared.ids.LockId.LockId, Actions.Action, Actions.AreLegal, Actions.phase};
 ghost use Rattle.event_log.specs.{declared.ids.TheConstants.CPUS, History.IsLawful, History.Grows};
 ghost use Rattle.layer_traits.specs.{declared.payloads.Payload.Payload, Payloads.told_by, Plans.Plan, Plans.Table, Plans.Follows, Plans.is_in_section};
@@ -53,16 +53,16 @@ pub trait Law {
     ghost IsThere: { (LockId → Option Self.Block) → Self.Call → Payload → Type 0 };
 
     /// With this own state of the part, the call touches nothing shared.
-    ghost IsLocal: { Self.State → Self.Call → Payload → Type 0 } = { λ _ _ _. ⊥ };
+    ghost IsLocal: { Self.State → Self.Call → Payload → Type 0 };
 
     /// The homes are those of a boot.
-    ghost AreHomes: { List CpuId → Type 0 } = { λ _. Unit {0} };
+    ghost AreHomes: { List CpuId → Type 0 };
 
     /// What a part has of its own at boot.
     ghost at_boot: { List CpuId → CpuId → Self.State };
 
     /// The machine is one in which the parts of these homes may begin.
-    ghost Boots: { (LockId → Option Self.Block) → List Self.Event → List CpuId → CpuId → Type 0 } = { λ _ _ _ _. Unit {0} };
+    ghost Boots: { (LockId → Option Self.Block) → List Self.Event → List CpuId → CpuId → Type 0 };
 
     /// A call may be polled: at its first poll it may come, and after that it is the one under way.
     ghost MayPoll: { (LockId → Option Self.Block) → CpuId → List Self.Event → Self.State → Option Self.Begun → Self.Call → Payload → Type 0 };
@@ -77,7 +77,7 @@ pub trait Law {
 
     /// What the poll of a whole machine makes of what the part has of its own: it answers, or the law
     /// tells why it does not.
-    ghost IsPrompt: { Self.Call → Payload → Option Self.Answer → Self.State → Self.State → Type 0 } = { λ _ _ result _ _. IsSome result };
+    ghost IsPrompt: { Self.Call → Payload → Option Self.Answer → Self.State → Self.State → Type 0 };
 
     /// What the names of sections mean.
     ghost table: { Table Self.Name Self.Block Self.Reply };
@@ -89,19 +89,19 @@ pub trait Law {
     ghost events_in: { List (Action Self.Name) → List Self.Event };
 
     /// What a call under way tells of whether a section is.
-    ghost Inside: { Option Self.Begun → Bool → Type 0 } = { λ begun inside. inside ≡ is_some begun };
+    ghost Inside: { Option Self.Begun → Bool → Type 0 };
 
     /// The opening blocks are those of a machine that may start.
-    ghost Starts: { (LockId → Option Self.Block) → Type 0 } = { λ _. Unit {0} };
+    ghost Starts: { (LockId → Option Self.Block) → Type 0 };
 
     /// Each section of the actions edits a block of its kind.
-    ghost AreProper: { List (Action Self.Name) → Type 0 } = { λ _. Unit {0} };
+    ghost AreProper: { List (Action Self.Name) → Type 0 };
 
     /// Each thread moves from where it stands.
-    ghost MovesAreLegal: { (LockId → Option Self.Block) → List Self.Event → Type 0 } = { λ _ _. Unit {0} };
+    ghost MovesAreLegal: { (LockId → Option Self.Block) → List Self.Event → Type 0 };
 
     /// What a part has of its own agrees with the events.
-    ghost Agrees: { (LockId → Option Self.Block) → CpuId → List Self.Event → Self.State → Type 0 } = { λ _ _ _ _. Unit {0} };
+    ghost Agrees: { (LockId → Option Self.Block) → CpuId → List Self.Event → Self.State → Type 0 };
 }
 
 /// One CPU's part of a layer that meets the law `L`. A poll does at most one atomic action of the

@@ -2,7 +2,7 @@
 //!
 //! No call takes memory, and none waits.
 
-ghost use Rattle.std.specs.Prelude.{◌≡◌, IsSome};
+ghost use Rattle.std.specs.Prelude.{◌≡◌, IsSome, is_some};
 ghost use Rattle.event_log.specs.Sections.{Section, cpu_of_section, sections_in};
 ghost use Rattle.layer_traits.specs.{Protocol.section, Plans.section_plan, Plans.table_of, Polls.MayPoll, Polls.Polled, Polls.until_answered};
 
@@ -65,7 +65,13 @@ impl<E: SplitEdit> Law for LockLaw<E> {
 
     ghost IsThere = { λ opening call payload. IsSome (opening call.lock) };
 
+    ghost IsLocal = { λ _ _ _. ⊥ };
+
+    ghost AreHomes = { λ _. Unit {0} };
+
     ghost at_boot = { λ homes cpu. tt };
+
+    ghost Boots = { λ _ _ _ _. Unit {0} };
 
     ghost MayPoll = { λ opening cpu seen own under_way call payload. MayPoll (E.rules.allowed opening) seen under_way
         (section cpu call.lock (E.meant call.edit payload)) };
@@ -75,11 +81,23 @@ impl<E: SplitEdit> Law for LockLaw<E> {
     ghost Polled = { λ opening ActsFor cpu call payload told old new own own' begun. Polled E.rules opening ActsFor
         (section cpu call.lock (E.meant call.edit payload)) told old new };
 
+    ghost IsPrompt = { λ _ _ result _ _. IsSome result };
+
     ghost table = { table_of E.rules };
 
     ghost plan = { λ opening cpu call payload own. section_plan call.lock (E.meant call.edit payload) };
 
     ghost events_in = { sections_in };
+
+    ghost Inside = { λ begun inside. inside ≡ is_some begun };
+
+    ghost Starts = { λ _. Unit {0} };
+
+    ghost AreProper = { λ _. Unit {0} };
+
+    ghost MovesAreLegal = { λ _ _. Unit {0} };
+
+    ghost Agrees = { λ _ _ _ _. Unit {0} };
 }
 
 /// One CPU's part of a layer of critical sections. A poll does at most one atomic action of the

@@ -2,7 +2,7 @@
 //!
 //! Only `open` takes memory, and no call waits.
 
-ghost use Rattle.std.specs.Prelude.{◌≡◌, ◌⊎◌, ◌<◌, Bool, [], List, Option, Some, None, IfOk, length, option_map, slice_index};
+ghost use Rattle.std.specs.Prelude.{◌≡◌, ◌⊎◌, ◌<◌, Bool, true, [], List, Option, Some, None, IfOk, length, option_map, slice_index};
 
 use crate::call_layers::CallLayer;
 use crate::calls::Place;
@@ -16,10 +16,10 @@ use std::alloc::Global;
 pub trait Owned: CallLayer<IpcLaw> {
     ghost use Rattle.std.specs.List.{AllByRecursion};
     ghost use Rattle.event_log.specs.{declared.ids.BufId.BufId, declared.ids.CpuId.CpuId, declared.ids.Tid.Tid, declared.ids.TheConstants.CPUS};
-    ghost use Rattle.event_log.specs.{Buffers.items_of, Messages.Message, Runs.is_closed};
+    ghost use Rattle.event_log.specs.{Actions.phase, Buffers.items_of, Messages.Message, Runs.is_closed};
     ghost use Rattle.layer_traits.specs.{declared.calls.Place.Place, Acted.ItemsAre, Acted.owner_after, BufferEffects.contents_of, Openings.AreOpenable};
     ghost use Rattle.layer_traits.specs.{Openings.Opened, Places.home_of, Places.where_is, Observed.IsOwnPlace, Observed.IsObservedAs, Observed.ReadsPlace};
-    ghost use Rattle.layer_traits.specs.{Observed.queue_place};
+    ghost use Rattle.layer_traits.specs.{Observed.queue_place, Plans.is_in_section};
 
     /// The owner of the lock of a buffer, as its last section left it.
     ghost owner: { Self.Machine → BufId → Option Tid };
@@ -151,8 +151,11 @@ pub trait Owned: CallLayer<IpcLaw> {
         (is_closed (Self.seen m) b.0) };
 
     /// Law: of each thread some CPU can tell where it stands: its home, the CPU that has it in its
-    /// hand, or one that is in a section.
+    /// hand, or one that may hold a lock.
     ghost place: { (p : Self) (m : Self.Machine) (t : Tid) → Self.Fits p m → t.0 < length (Self.homes_of m)
         → ReadsPlace (λ (q : Self). Self.Fits q m) (λ q. Self.cpu_of q) (Self.MayHold m) (λ q. IsSilent q m t)
         (home_of (Self.homes_of m) t) (where_is (Self.homes_of m) (Self.moves m) t) };
+
+    /// Law: if a poll is one action, a CPU that may hold a lock waits at one or holds one.
+    ghost holding: { Self.IsStepwise → (m : Self.Machine) (c : CpuId) → Self.MayHold m c → is_in_section (phase c (Self.acts m)) ≡ true };
 }

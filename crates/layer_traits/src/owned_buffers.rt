@@ -2,7 +2,7 @@
 //!
 //! No call takes memory, and none waits.
 
-ghost use Rattle.std.specs.Prelude.{◌≡◌, ◌<◌, Bool, List, Option, IsSome, length, option_and_then, option_map, slice_index};
+ghost use Rattle.std.specs.Prelude.{◌≡◌, ◌<◌, Bool, true, List, Option, IsSome, length, option_and_then, option_map, slice_index};
 
 use crate::buffer_layers::BufferLaw;
 use crate::call_layers::CallLayer;
@@ -15,9 +15,9 @@ use event_log::{BufId, CAPACITY, CpuId, Msg, Tid};
 pub trait OwnedBuffers: CallLayer<BufferLaw> {
     ghost use Rattle.std.specs.List.{AllByRecursion};
     ghost use Rattle.event_log.specs.{declared.ids.BufId.BufId, declared.ids.CpuId.CpuId, declared.ids.LockId.TheVariants.Pending, declared.ids.Tid.Tid};
-    ghost use Rattle.event_log.specs.{declared.ids.TheConstants.CPUS, Buffers.items_of, Messages.Message, Runs.is_closed};
+    ghost use Rattle.event_log.specs.{declared.ids.TheConstants.CPUS, Actions.phase, Buffers.items_of, Messages.Message, Runs.is_closed};
     ghost use Rattle.layer_traits.specs.{declared.moves.WaitList.WaitList, Acted.ItemsAre, Acted.owner_after, BufferEffects.contents_of, Owned.wait_list_among};
-    ghost use Rattle.layer_traits.specs.{Places.pending_by, Observed.IsObservedAs};
+    ghost use Rattle.layer_traits.specs.{Places.pending_by, Plans.is_in_section, Observed.IsObservedAs};
     ghost use Rattle.thread_blocks.specs.Queues.{is_in};
 
     /// The owner of the lock of a buffer, as its last section left it.
@@ -162,4 +162,7 @@ pub trait OwnedBuffers: CallLayer<BufferLaw> {
         → IsObservedAs (λ (p : Self). Self.Fits p m) (λ p. Self.cpu_of p) (Self.MayHold m)
         (λ p. queue_with p d) (queue_at m d)
         (pending_by (Self.moves m) d) };
+
+    /// Law: if a poll is one action, a CPU that may hold a lock waits at one or holds one.
+    ghost holding: { Self.IsStepwise → (m : Self.Machine) (c : CpuId) → Self.MayHold m c → is_in_section (phase c (Self.acts m)) ≡ true };
 }

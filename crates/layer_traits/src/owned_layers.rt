@@ -1,11 +1,13 @@
 //! Layers that tell of the blocks of buffers and of the pending queues, at home or in hand.
 //!
-//! A block or a queue is at home in the machine, or in the hands of a CPU that is in a section: then
-//! that CPU's part has it. No call takes memory, and none waits.
+//! A block or a queue is at home in the machine, or in the hands of a CPU that may hold its lock: then
+//! that CPU's part has it. If a poll is one action, that CPU is in a section. No call takes memory,
+//! and none waits.
 
-ghost use Rattle.std.specs.Prelude.{◌≡◌, List, Option, Some, IsSome, option_and_then, option_map};
+ghost use Rattle.std.specs.Prelude.{◌≡◌, true, List, Option, Some, IsSome, option_and_then, option_map};
 ghost use Rattle.event_log.specs.declared.ids.{BufId.BufId, CpuId.CpuId, LockId.LockId, LockId.TheVariants.Buffer, LockId.TheVariants.Pending, Tid.Tid};
-ghost use Rattle.layer_traits.specs.{Owned.IsObserved, declared.moves.WaitList.WaitList};
+ghost use Rattle.event_log.specs.Actions.{phase};
+ghost use Rattle.layer_traits.specs.{Owned.IsObserved, Plans.is_in_section, declared.moves.WaitList.WaitList};
 ghost use Rattle.thread_blocks.specs.Queues.{is_in};
 
 use crate::layers::{Law, Layer};
@@ -108,6 +110,9 @@ pub trait OwnedLayer<L: BlockLaw>: Layer<L> {
         → IsObserved (λ (p : Self). Self.Fits p m) (λ p. Self.cpu_of p) (Self.MayHold m)
         (λ p. queue_with p d) (queue_at m d)
         (Some (L.pending_after (Self.opening m) (Self.seen m) d)) };
+
+    /// Law: if a poll is one action, a CPU that may hold a lock waits at one or holds one.
+    ghost holding: { Self.IsStepwise → (m : Self.Machine) (c : CpuId) → Self.MayHold m c → is_in_section (phase c (Self.acts m)) ≡ true };
 }
 
 /// The same of a layer whose calls put threads to sleep, with the owners of its locks and its waiting
@@ -188,4 +193,7 @@ pub trait OwnedThreadLayer<L: SleeperLaw>: ThreadLayer<L> {
         → IsObserved (λ (p : Self). Self.Fits p m) (λ p. Self.cpu_of p) (Self.MayHold m)
         (λ p. queue_with p d) (queue_at m d)
         (Some (L.pending_after (Self.opening m) (Self.seen m) d)) };
+
+    /// Law: if a poll is one action, a CPU that may hold a lock waits at one or holds one.
+    ghost holding: { Self.IsStepwise → (m : Self.Machine) (c : CpuId) → Self.MayHold m c → is_in_section (phase c (Self.acts m)) ≡ true };
 }

@@ -2,7 +2,7 @@
 //!
 //! No call takes memory, and none waits.
 
-ghost use Rattle.std.specs.Prelude.{◌≡◌, IsSome, map};
+ghost use Rattle.std.specs.Prelude.{◌≡◌, IsSome, is_some, map};
 ghost use Rattle.event_log.specs.{declared.ids.LockId.TheVariants.Buffer, Sections.block_after, Sections.sections_in};
 ghost use Rattle.layer_traits.specs.{Payloads.call_meant, Payloads.queue_told, Places.pending_by, Plans.table_of, Polls.until_answered, QueueBlocks.StartsWell};
 ghost use Rattle.layer_traits.specs.{QueueBlocks.inner, QueueRules.AreProper, QueueRules.queue_rules, Queues.MayQueue, Queues.QueueAllowed, Queues.QueuePolled};
@@ -93,7 +93,13 @@ impl<E: Moves> Law for QueueLaw<E> {
 
     ghost IsThere = { λ opening call payload. IsSome (opening (lock_of call)) };
 
+    ghost IsLocal = { λ _ _ _. ⊥ };
+
+    ghost AreHomes = { λ _. Unit {0} };
+
     ghost at_boot = { λ homes cpu. tt };
+
+    ghost Boots = { λ _ _ _ _. Unit {0} };
 
     ghost MayPoll = { λ opening cpu seen own under_way call payload. MayQueue (QueueAllowed (kernel E.rules E.moves opening)) seen under_way
         (event cpu (call_meant E.meant call payload)) };
@@ -103,15 +109,23 @@ impl<E: Moves> Law for QueueLaw<E> {
     ghost Polled = { λ opening ActsFor cpu call payload told old new own own' begun. QueuePolled (kernel E.rules E.moves opening) ActsFor
         (event cpu (call_meant E.meant call payload)) told old new };
 
+    ghost IsPrompt = { λ _ _ result _ _. IsSome result };
+
     ghost table = { table_of (queue_rules E.rules E.moves) };
 
     ghost plan = { λ opening cpu call payload own. queue_plan (call_meant E.meant call payload) };
 
     ghost events_in = { λ acts. map event_of (sections_in acts) };
 
+    ghost Inside = { λ begun inside. inside ≡ is_some begun };
+
     ghost Starts = { StartsWell };
 
     ghost AreProper = { λ acts. AreProper (sections_in acts) };
+
+    ghost MovesAreLegal = { λ _ _. Unit {0} };
+
+    ghost Agrees = { λ _ _ _ _. Unit {0} };
 }
 
 impl<E: Moves> BlockLaw for QueueLaw<E> {

@@ -1,6 +1,6 @@
 //! The layer of schedulers. No call takes memory or waits.
 
-ghost use Rattle.std.specs.Prelude.{◌≡◌, ◌≢◌, ◌≤◌, true, false, length, [], IsSome, map};
+ghost use Rattle.std.specs.Prelude.{◌≡◌, ◌≢◌, ◌≤◌, true, false, length, [], IsSome, is_some, map};
 ghost use Rattle.layer_traits.specs.{Places.at_boot, Places.pending_by, Places.Stands, Payloads.sched_meant, Payloads.sched_told, Plans.table_of};
 ghost use Rattle.layer_traits.specs.{Polls.until_answered, QueueBlocks.StartsWell, QueueBlocks.homes_in, QueueBlocks.inner, QueueRules.AreProper};
 ghost use Rattle.layer_traits.specs.{QueueRules.queue_rules, Scheds.BufferIsThere, Scheds.IsLocal, Scheds.MaySched, Scheds.SchedPolled, Scheds.sched_plan};
@@ -87,15 +87,21 @@ impl<E: Moves> Law for SchedLaw<E> {
     ghost Polled = { λ opening ActsFor cpu call payload told old new own own' begun. SchedPolled (kernel E.rules E.moves opening) ActsFor cpu
         (sched_meant E.meant call payload) told old new own own' };
 
+    ghost IsPrompt = { λ _ _ result _ _. IsSome result };
+
     ghost table = { table_of (queue_rules E.rules E.moves) };
 
     ghost plan = { λ opening cpu call payload own. sched_plan E.moves (homes_in opening) cpu (sched_meant E.meant call payload) own };
 
     ghost events_in = { λ acts. map event_of (sections_in acts) };
 
+    ghost Inside = { λ begun inside. inside ≡ is_some begun };
+
     ghost Starts = { StartsWell };
 
     ghost AreProper = { λ acts. AreProper (sections_in acts) };
+
+    ghost MovesAreLegal = { λ _ _. Unit {0} };
 
     ghost Agrees = { λ opening cpu seen own. Stands (homes_in opening) cpu (moves_in (kernel E.rules E.moves opening) seen) own };
 }

@@ -95,6 +95,8 @@ impl<E: Sleeps> Law for SleepLaw<E> {
 
     ghost IsThere = { λ opening call payload. IsSome (opening (Buffer call.buffer)) };
 
+    ghost IsLocal = { λ _ _ _. ⊥ };
+
     ghost AreHomes = { λ homes. length homes ≤ THREADS };
 
     ghost at_boot = { λ homes cpu. record { threads = at_boot homes cpu; deferred = None } };

@@ -352,4 +352,6 @@ impl<S: OwnedThreadLayer<SleepLaw<Attempt>>> OwnedBuffers for PlainFifo<S> {
         (λ d held. held) (λ p. S.queue_with p d) (S.queue_at m d)
         (pending_by (moves_in (sleep_kernel attempts (S.opening m)) (S.seen m)) d)
         (S.queues m c d acts.0 (there_viewed (viewed_block shown) (S.opening m (Pending d)) there)) };
+
+    ghost holding = { λ step m c held. absurd step };
 }

@@ -155,4 +155,6 @@ impl<E: Moves> OwnedLayer<SchedLaw<E>> for PlainSched<E> {
 
     ghost queues = { λ m c d acts there. queue_shown E.rules E.moves m.opening (calls_in m) m.lists acts.1 (λ (p : Self). Self.Fits p m)
         (λ p. p.cpu) (Self.MayHold m) d there };
+
+    ghost holding = { λ step m c held. absurd held };
 }

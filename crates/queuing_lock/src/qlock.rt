@@ -155,10 +155,11 @@ impl<F: Locked, S: ThreadLayer<SleepLaw<QLockEdit<F, F::Release>>>> ThreadLayer<
 impl<F: Locked, S: OwnedThreadLayer<SleepLaw<QLockEdit<F, F::Release>>>> OwnedThreadLayer<
     QLockLaw<F>,
 > for QLock<S> {
-    ghost use Rattle.std.specs.Prelude.{option_map};
+    ghost use Rattle.std.proofs.Common.{sym};
+    ghost use Rattle.std.specs.Prelude.{true, option_map};
     ghost use Rattle.event_log.specs.declared.ids.LockId.TheVariants.{Buffer, Pending};
     ghost use Rattle.layer_traits.proofs.{KernelRenaming.there_viewed, OwnedLemmas.parts_on};
-    ghost use Rattle.queuing_lock.specs.{Laws.OwnedLaws.locks_queues, Laws.OwnedLaws.locks_shown, Nested.nested_lock_of};
+    ghost use Rattle.queuing_lock.specs.{Laws.NestedLaws.locks_busy, Laws.OwnedLaws.locks_queues, Laws.OwnedLaws.locks_shown, Nested.nested_lock_of};
 
     ghost block_at = { λ m b. option_map nested_lock_of (S.block_at m b) };
 
@@ -225,4 +226,6 @@ impl<F: Locked, S: OwnedThreadLayer<SleepLaw<QLockEdit<F, F::Release>>>> OwnedTh
         (parts_on (λ (p : Self). p.lower) (λ p. S.Fits p m) (λ (p : Self). Self.Fits p m) (λ p. S.cpu_of p) (S.MayHold m) (λ p fits. fits.0))
         d (λ p. S.queue_with p d) (S.queue_at m d)
         (S.queues m c d acts (there_viewed nested_lock_of (S.opening m) (Pending d) there)) };
+
+    ghost holding = { λ step m c held. sym (locks_busy c (S.acts m) true (sym (S.holding step m c held))) };
 }

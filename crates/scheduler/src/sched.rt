@@ -176,4 +176,6 @@ impl<E: Moves, Q: OwnedLayer<QueueLaw<E>>> OwnedLayer<SchedLaw<E>> for Sched<Q> 
         (Q.MayHold m) (Q.MayHold m)
         (λ p. Q.queue_with p d) (Q.queue_at m d) (Some (pending_by (moves_in (kernel E.rules E.moves (Q.opening m)) (Q.seen m)) d))
         (λ p fits. fits.0) (λ p fits. fits.1.cpu) (λ d inside. inside) (Q.queues m c d acts there) };
+
+    ghost holding = { Q.holding };
 }

@@ -190,4 +190,6 @@ impl<E: Moves, L: OwnedLocks<QueueEdit<E>>> OwnedLayer<QueueLaw<E>> for SharedQu
         (L.MayHold m)
         (λ p. L.block_with p (Pending d)) (L.block_at m (Pending d)) (block_after (queue_edited E.rules.edited) (L.opening m) (Pending d) (L.seen m))
         (λ p fits. fits.0) (λ p fits. refl) (λ d inside. inside) (L.shown m c (Pending d) acts.0 there)) };
+
+    ghost holding = { L.holding };
 }

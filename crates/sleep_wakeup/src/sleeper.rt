@@ -158,10 +158,11 @@ impl<E: Sleeps, S: Layer<SchedLaw<SleepEdit<E>>>> ThreadLayer<SleepLaw<E>> for S
 
 impl<E: Sleeps, S: OwnedLayer<SchedLaw<SleepEdit<E>>>> OwnedThreadLayer<SleepLaw<E>>
     for Sleeper<E, S> {
-    ghost use Rattle.std.specs.Prelude.{option_map};
+    ghost use Rattle.std.proofs.Common.{sym};
+    ghost use Rattle.std.specs.Prelude.{true, option_map};
     ghost use Rattle.event_log.specs.declared.ids.LockId.TheVariants.{Buffer, Pending};
     ghost use Rattle.layer_traits.proofs.{KernelRenaming.there_viewed, OwnedLemmas.parts_on};
-    ghost use Rattle.sleep_wakeup.specs.{Laws.OwnedLaws.nested_queues, Laws.OwnedLaws.nested_shown, Nested.state_of};
+    ghost use Rattle.sleep_wakeup.specs.{Laws.NestedLaws.nested_busy, Laws.OwnedLaws.nested_queues, Laws.OwnedLaws.nested_shown, Nested.state_of};
 
     ghost block_at = { λ m b. option_map state_of (S.block_at m b) };
 
@@ -232,4 +233,6 @@ impl<E: Sleeps, S: OwnedLayer<SchedLaw<SleepEdit<E>>>> OwnedThreadLayer<SleepLaw
         (parts_on (λ (p : Self). p.lower) (λ p. S.Fits p m) (λ (p : Self). Self.Fits p m) (λ p. S.cpu_of p) (S.MayHold m) (λ p fits. fits.0))
         d (λ p. S.queue_with p d) (S.queue_at m d)
         (S.queues m c d acts (there_viewed state_of (S.opening m) (Pending d) there)) };
+
+    ghost holding = { λ step m c held. sym (nested_busy c (S.acts m) true (sym (S.holding step m c held))) };
 }

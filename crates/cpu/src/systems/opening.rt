@@ -93,7 +93,7 @@ impl<I: Owned + Drop> System<I>
 where
     I::Machine: Drop,
 {
-    ghost use Rattle.cpu.specs.{Boots.AreTables, Claims.FollowPrograms, Claims.HasOneOrder, Claims.StandsOnce, Claims.StayHome, Claims.cpu_shown};
+    ghost use Rattle.cpu.specs.{Boots.AreTables, Claims.FollowPrograms, Claims.HasOneOrder, Claims.MovesAgree, Claims.StandsOnce, Claims.StayHome, Claims.cpu_shown};
     ghost use Rattle.cpu.specs.{Claims.shown_of, Cpus.IsCpu, Sound.BootsByTable, Sound.SoundByTable, Observed.ObservedByTable, Systems.IsSystem};
     ghost use Rattle.cpu.specs.{Tables.IsTabled};
     ghost use Rattle.layer_traits.specs.Openings.{AreOpenable};
@@ -137,6 +137,7 @@ where
         ensures follow { IfOk result FollowPrograms }
         ensures stay { IfOk result StayHome }
         ensures once { IfOk result StandsOnce }
+        ensures agree { IfOk result MovesAgree }
     {
         let machine = I::open(alloc, tables.len() as u8, caps, homes, room)?;
         let cpus = cpus_at_boot(alloc, homes, caps.len() as u8, tables, limit)?;
@@ -168,6 +169,7 @@ where
         ensures follow { FollowPrograms result }
         ensures stay { StayHome result }
         ensures once { StandsOnce result }
+        ensures agree { MovesAgree result }
     {
         let system = System {
             machine,

@@ -77,7 +77,7 @@ impl<I: Owned + Drop> System<I>
 where
     I::Machine: Drop,
 {
-    ghost use Rattle.cpu.specs.{Claims.FollowPrograms, Claims.HasOneOrder, Claims.StandsOnce, Claims.StayHome, Sound.BootsByTable, Sound.IsSetupFor};
+    ghost use Rattle.cpu.specs.{Claims.FollowPrograms, Claims.HasOneOrder, Claims.MovesAgree, Claims.StandsOnce, Claims.StayHome, Sound.BootsByTable, Sound.IsSetupFor};
     ghost use Rattle.cpu.specs.{Sound.SoundByTable, Sound.setup_for, Observed.ObservedByTable};
 
     /// The system of a plan before its first step, with room for `room` steps: each CPU's threads
@@ -105,6 +105,7 @@ where
         ensures follow { IfOk result FollowPrograms }
         ensures stay { IfOk result StayHome }
         ensures once { IfOk result StandsOnce }
+        ensures agree { IfOk result MovesAgree }
     {
         let homes = homes_of(boot);
         let caps = boot.caps();
