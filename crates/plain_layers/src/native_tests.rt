@@ -5,7 +5,7 @@ ghost use Rattle.event_log.specs.Streams.{sent_to, taken_from};
 ghost use Rattle.cpu_workers.specs.Callers.{IsSameCaller};
 
 use arrayvec::ArrayVec;
-use cpu_workers::{Caller, Native, NativeReport, WorkerError, run_native};
+use cpu_workers::{Caller, Native, NativeReport, run_native};
 use event_log::{BufId, Msg};
 use layer_traits::{CallLayer, IpcLaw};
 use std::sync::Wait;
@@ -226,9 +226,7 @@ fn both_run_or_neither<T: AllocGlobal + Threads + Wait + Sync>(rt: &T) -> bool {
     let count = ran.load(Ordering::SeqCst);
     match left {
         Ok(report) => count == 2 && report.natives.len() == 2 && report.items(BufId(0)).is_empty(),
-        Err(error) => {
-            count == 0 && (error == WorkerError::NoMemory || error == WorkerError::NoThread)
-        }
+        Err(_) => count == 0,
     }
 }
 
