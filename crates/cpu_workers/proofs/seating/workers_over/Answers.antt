@@ -33,8 +33,8 @@ loop-number-preserved g c =
     let inv = c.loop-number.invariant in
     let machines = c.args.machines.items in
     let n = c.loop-number.number in
-    let w = c.in-Ok_over.worker in
-    let e = c.in-Ok_over.ensures in
+    let w = c.in-Ok.worker in
+    let e = c.in-Ok.ensures in
     let within : n < length machines =
     let test = c.loop-number-test.true in let count = c.len-count.ensures in let ok = c.args.machines.ok.0 in omega (arith, test, count, ok) in
     let grown = c.push_reserved.ensures.items in

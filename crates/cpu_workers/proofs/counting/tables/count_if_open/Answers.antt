@@ -6,11 +6,13 @@ use Rattle.cpu_workers.proofs.counting.tables.count_if_open.Goals as goal
 
 pub count_all-requires-clause-fresh : goal.count_all-requires-clause-fresh
 count_all-requires-clause-fresh g c κs within =
-    let keys : c.in-Ok.keys.items ≡ new_seat_views {E = AddOne} c.in-Ok.shared c.in-Ok.shared.cpus = first_of (cc, search rules) in
-    subst (λ l. All (IsFresh c.in-Ok.shared) l) (sym keys) (new_fresh c.in-Ok.shared c.in-Ok.shared.cpus)
+    let table = c.in-Ok.opened.0 in
+    let keys : c.in-Ok.opened.1.items ≡ new_seat_views {E = AddOne} table table.cpus = first_of (cc, search rules) in
+    subst (λ l. All (IsFresh table) l) (sym keys) (new_fresh table table.cpus)
 
-pub number_left-requires-in-Err-clause-came : goal.number_left-requires-in-Err-clause-came
-number_left-requires-in-Err-clause-came g c =
-    let keys : c.in-Ok.keys.items ≡ new_seat_views {E = AddOne} c.in-Ok.shared c.in-Ok.shared.cpus = first_of (cc, search rules) in
-    subst (λ l. AllHaveMade NUMBER (new_seat_views {E = AddOne} c.in-Ok.shared c.in-Ok.shared.cpus) l 0) (sym (c.in-Err.ensures.refused ∙ keys))
-    (new_have_made_none AddOne NUMBER c.in-Ok.shared c.in-Ok.shared.cpus)
+pub number_left-requires-in-Err-count_all-clause-came : goal.number_left-requires-in-Err-count_all-clause-came
+number_left-requires-in-Err-count_all-clause-came g c =
+    let table = c.in-Ok.opened.0 in
+    let keys : c.in-Ok.opened.1.items ≡ new_seat_views {E = AddOne} table table.cpus = first_of (cc, search rules) in
+    subst (λ l. AllHaveMade NUMBER (new_seat_views {E = AddOne} table table.cpus) l 0) (sym (c.in-Err-count_all.ensures.refused ∙ keys))
+    (new_have_made_none AddOne NUMBER table table.cpus)
