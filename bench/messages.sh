@@ -29,10 +29,6 @@ plan() {
     printf '[[thread]]\ncpu = %d\nprogram = ["set r0 %d", "set r1 1", "%s", "sub r0 r1", "jnz r0 2"]\n' "$cpu" "$messages" "$call"
   done
 }
-# Milliseconds that a time of the shell's, as 1m2.345s, says.
-milliseconds() { local seconds=${1#*m}; seconds=${seconds%s}; echo $((${1%m*} * 60000 + 10#${seconds/./})); }
-# Leaves in processor the milliseconds of processor time that the shell's commands have taken so far.
-spent() { local user system; times > "$work/spent"; { read -r _; read -r user system; } < "$work/spent"; processor=$(($(milliseconds "$user") + $(milliseconds "$system"))); }
 # Runs the command of the array $1 on the plan, and keeps what it took by the clock and of processors, in microseconds.
 timed() {
   local before

@@ -98,7 +98,7 @@ inputs() {
   local n length step=1
   length=$(wc -c < "$input")
   if [ "$length" -gt 9999 ]; then step=499; fi
-  for n in $(seq 0 "$step" "$length") "$length"; do
+  for n in $(seq 0 "$step" $((length - 1))) "$length"; do
     run "CUT_IN=$n"
     is_refusal 'ReadFault(7)' 0
     count $? "CUT_IN=$n"

@@ -18,6 +18,8 @@ use Rattle.cpu.specs.Claims.{Shown, traces_of}
 use Rattle.cpu_workers.specs.declared.stops.Stop.{Stop}
 use Rattle.tracer.specs.declared.verdicts.Verdict.TheVariants as verdict
 use Rattle.tracer.specs.Reasons as reasons
+use Rattle.tracer.specs.declared.checking.InputFault.{InputFault}
+use Rattle.tracer.specs.declared.checking.InputFault.TheVariants as unjudged
 
 -- the exit status of an answer
 abbrev pub status_of : Result Done Refusal → ℕ
@@ -44,6 +46,11 @@ IsInput input text = IfSome input (λ known. text ≡ known)
 abbrev pub kind_refused : ErrorKind → Refusal
 kind_refused OutOfMemory = lacks_memory
 kind_refused kind = ReadFault
+
+-- what an input that was not judged refuses
+abbrev pub fault_refused : InputFault → Refusal
+fault_refused (unjudged.NoMemory refused) = lacks_memory
+fault_refused (unjudged.ReadFault kind) = kind_refused kind
 
 -- all of the input was read, or the reader failed or had no memory
 abbrev pub ReadsAll : {A : Type 0} → Option (List ℕ) → Result (Vec ℕ A) Refusal → Type 0

@@ -6,7 +6,7 @@ ghost use Rattle.std.specs.List.{flat_map};
 ghost use Rattle.event_log.specs.declared.ids.TheConstants.{CPUS};
 ghost use Rattle.tracer.specs.Sinks.{has_failed, is_flushed};
 ghost use Rattle.mctower.specs.{Output.between, Line.order_of, Schedule.ReadsSteps, Serve.Checks, Serve.Counts, Serve.Ends, Serve.OfBytes, Serve.OfInput};
-ghost use Rattle.mctower.specs.{Serve.Puts, Serve.PutsAnswer, Serve.ReadsAll, Serve.RunsPlan, Serve.Serves, Serve.PrintsVerdict, Serve.reads_input};
+ghost use Rattle.mctower.specs.{Serve.Puts, Serve.PutsAnswer, Serve.ReadsAll, Serve.RunsPlan, Serve.Serves, Serve.PrintsVerdict, Serve.fault_refused, Serve.reads_input};
 ghost use Rattle.mctower.specs.{Serve.steps_asked};
 
 use crate::count::{count_plain, count_table};
@@ -30,7 +30,7 @@ use std::alloc::Global;
 use std::io::{Read, Write};
 use std::sync::Wait;
 use std::thread::Threads;
-use tracer::{Sink, Verdict, WriteFault, check};
+use tracer::{InputFault, Sink, Verdict, WriteFault, check_input};
 
 /// What serving an order gave, where it is done.
 #[derive(Drop)]
@@ -139,7 +139,17 @@ fn print_verdict<O: Write>(verdict: Verdict, out: &mut Sink<O>) -> Result<Done, 
     }
 }
 
-/// Judges the input, and prints the verdict.
+/// Why an input was not judged, as a refusal.
+fn check_refused(fault: InputFault) -> Refusal
+    ensures { result ≡ fault_refused fault }
+{
+    match fault {
+        InputFault::NoMemory(refused) => Refusal::NoMemory(refused),
+        InputFault::ReadFault(kind) => read_refused(kind),
+    }
+}
+
+/// Judges the input as it is read, and prints the verdict.
 fn serve_check<R: Read, O: Write>(
     alloc: Global,
     input: &mut R,
@@ -149,11 +159,10 @@ fn serve_check<R: Read, O: Write>(
     ensures checks { Checks (R.remaining input.old) result (between O.contents out.old out.new) }
     ensures flushed { IfOk result (λ _. is_flushed out.new ≡ true) }
 {
-    let text = match read_all(alloc, input) {
-        Ok(text) => text,
-        Err(refusal) => return Err(refusal),
-    };
-    print_verdict(check(text.as_slice()), out)
+    match check_input(alloc, input) {
+        Ok(verdict) => print_verdict(verdict, out),
+        Err(fault) => Err(check_refused(fault)),
+    }
 }
 
 /// The steps that a schedule asks for; without one there is none.

@@ -1,5 +1,5 @@
-//! The part of an input that is read and not yet judged. What reads or grows it takes memory or
-//! waits.
+//! The part of an input that is read and not yet judged. To make one, and to make room in it, takes
+//! memory; to fill it may wait.
 
 ghost use Rattle.std.specs.Prelude.{◌≡◌, ◌≢◌, ◌+◌, ◌<◌, ◌≤◌, [], Ok, true, length, take, drop, vec_len, IfErr, IfOk, OnErr, OnOk};
 ghost use Rattle.std.specs.{declared.io.ErrorKind.TheVariants.Interrupted, Io.KnownBytes.Consumes, Io.KnownBytes.IsAtEnd, Io.KnownBytes.Keeps};
