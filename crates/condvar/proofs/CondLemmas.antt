@@ -11,8 +11,8 @@ use Rattle.layer_traits.specs.declared.locked.{QEdit.TheVariants.Acquire, QEdit.
 use Rattle.layer_traits.specs.declared.locked.{QOut.TheVariants.Acquired, QOut.TheVariants.Queued, QOut.TheVariants.Did, QOut.TheVariants.Released, Side.Side}
 use Rattle.layer_traits.specs.{Conditions.MonitorRules, Conditions.CvCall, Conditions.cv_rules, CvLaw.CvPolled, CvLaw.MayCallCond, CvLaw.MayWait, CvLaw.Waiting}
 use Rattle.layer_traits.specs.{CvLaw.cv_plan_for, CvLaw.left_reported, CvLaw.left_waiting, CvLaw.waited, CvLaw.waiting_with, ListsAgree.is_at}
-use Rattle.layer_traits.specs.{Locking.LockState, Locking.lock_after, Locking.lock_caller, Locking.wait_list_in, LockLaw.Locking, LockLaw.LockPolled}
-use Rattle.layer_traits.specs.{LockLaw.LocksAgree, LockLaw.MayGo, LockLaw.MayLock, LockLaw.lock_kernel, LockLaw.lock_plan, LockLaw.slept_for}
+use Rattle.layer_traits.specs.{QLocking.LockState, QLocking.lock_after, QLocking.lock_caller, QLocking.wait_list_in, QLockLaw.Locking, QLockLaw.LockPolled}
+use Rattle.layer_traits.specs.{QLockLaw.LocksAgree, QLockLaw.MayGo, QLockLaw.MayLock, QLockLaw.lock_kernel, QLockLaw.lock_plan, QLockLaw.slept_for}
 use Rattle.layer_traits.specs.{MoveRules.MoveRules, Payloads.cv_meant, Payloads.cv_told, Payloads.lock_meant, Payloads.lock_told, Payloads.outcome_told}
 use Rattle.layer_traits.specs.{Payloads.told_by, Places.AreMoves, Places.Stands, Places.Threads, Places.home_of, Places.one_if, Places.wait_channel_of}
 use Rattle.layer_traits.specs.{Plans.Follows, Plans.Table, QueueBlocks.homes_in, QueueBlocks.inner, Queues.Kernel, Queues.buffer_sections, Queues.moves_in}

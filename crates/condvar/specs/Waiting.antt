@@ -4,7 +4,7 @@ use Rattle.layer_traits.specs.{declared.conditions.CvLeave.TheVariants.Leave, de
 use Rattle.layer_traits.specs.{declared.locked.QEdit.TheVariants.Acquire, declared.locked.QEdit.TheVariants.Inside, declared.locked.QEdit.TheVariants.Release}
 use Rattle.layer_traits.specs.{declared.locked.QOut.QOut, declared.locked.QOut.TheVariants.Acquired, declared.locked.QOut.TheVariants.Queued}
 use Rattle.layer_traits.specs.{declared.locked.QOut.TheVariants.Did, declared.locked.QOut.TheVariants.Released, declared.locked.Side.Side}
-use Rattle.layer_traits.specs.{declared.locked.Side.TheVariants.Receivers, declared.sleeps.Outcome.Outcome, Conditions.CvCall, CvLaw.Waiting, LockLaw.Locking}
+use Rattle.layer_traits.specs.{declared.locked.Side.TheVariants.Receivers, declared.sleeps.Outcome.Outcome, Conditions.CvCall, CvLaw.Waiting, QLockLaw.Locking}
 use Rattle.event_log.specs.declared.ids.BufId.{BufId}
 use Rattle.layer_traits.specs.declared.conditions.CvOut.TheVariants as answer
 

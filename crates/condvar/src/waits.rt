@@ -2,7 +2,7 @@
 
 ghost use Rattle.std.specs.Prelude.{◌≡◌, ◌<◌, ◌&&◌, Some, None, is_some, replicate, slice_set, if◌then◌else◌};
 ghost use Rattle.event_log.specs.declared.ids.TheConstants.{THREADS};
-ghost use Rattle.layer_traits.specs.LockLaw.{slept_for};
+ghost use Rattle.layer_traits.specs.QLockLaw.{slept_for};
 ghost use Rattle.condvar.specs.Waiting.{calls_wait, is_wait};
 
 use event_log::{BufId, THREADS, Tid};

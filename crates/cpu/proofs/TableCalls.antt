@@ -19,10 +19,10 @@ use Rattle.cpu.specs.{Cpus.guest_at, Cpus.halted_at, Cpus.passed_by, Cpus.reason
 use Rattle.cpu.specs.{Table.Setups.opening_buffer, Table.Steps.cpu_step, Table.Steps.halted_at as table_halted, Tower.Views.TowerBlock, Tower.Views.TowerName}
 use Rattle.cpu.specs.{Tower.Views.name_of, Tower.Views.tower, Tower.Views.view, Tower.Privates.threads_in, Tower.Composed.OpensAs, Tower.Composed.named}
 use Rattle.cpu.specs.{Tables.IsSetupOf, Tables.IsTabled, Tables.WentByTable, Tables.bare, Tables.private}
-use Rattle.cpu.proofs.{CpuStates.TabledCpu, CpuStates.Outset, CpuStates.ValidCpu, CpuStates.valid, Steps.poll_buffer, TableRows.halted_same}
+use Rattle.cpu.proofs.{CpuStates.TabledCpu, CpuStates.Outset, CpuStates.ValidCpu, CpuStates.valid, CallSteps.poll_buffer, TableRows.halted_same}
 use Rattle.cpu.proofs.{TableHalts.answers_so, TablePolls.TabledPoll, TablePolls.poll_steps, TablePolls.poll_tabled, TablePasses.TabledPass}
 use Rattle.cpu.proofs.{TablePasses.compute_steps, TablePasses.compute_tabled, TablePasses.halted_steps, TablePasses.pass_steps, TablePasses.pass_tabled}
-use Rattle.cpu.proofs.{TablePasses.passed_if, TablePasses.threads_if, Tower.Passed.boots_part, Tower.Polls.look_is_step}
+use Rattle.cpu.proofs.{TablePasses.passed_if, TablePasses.threads_if, Tower.KeptByPasses.boots_part, Tower.Polls.look_is_step}
 use Rattle.event_log.proofs.Renaming.{phase_renamed}
 
 hand_away : (c : CpuId) (w : Where) → is_hand c w ≡ true → is_home w ≡ false

@@ -22,13 +22,13 @@ use Rattle.cpu.specs.{Tower.Views.TowerName, Tower.Views.name_of, Tower.Views.to
 use Rattle.cpu.specs.{Tower.Privates.private_passed, Tower.Privates.threads_in, Tower.Composed.HandIsKnown, Tower.Composed.IsLine, Tower.Composed.OpensAs}
 use Rattle.cpu.specs.{Tower.Composed.named, Tower.Positions.IsPart, Tables.IsSetupOf, Tables.IsTabled, Tables.private, Tables.state_of, Tables.states}
 use Rattle.cpu.specs.declared.guests.Todo.{Todo, TheVariants.Finish, TheVariants.PassOn, TheVariants.Compute, TheVariants.Calls}
-use Rattle.cpu.proofs.{CpuStates.TabledCpu, CpuStates.Outset, CpuStates.valid, GuestLists.guest_within, Schedules.PassCase, Schedules.computes_at}
-use Rattle.cpu.proofs.{Schedules.finish_exit, Schedules.in_no_call, Schedules.pass_case, Schedules.switches, Schedules.drains, Schedules.sends_idle}
-use Rattle.cpu.proofs.{Schedules.sends_on, Schedules.passes_on, Schedules.finishes, TableRows.call_is, TableRows.call_of, TableRows.guest_there}
+use Rattle.cpu.proofs.{CpuStates.TabledCpu, CpuStates.Outset, CpuStates.valid, GuestLists.guest_within, PassSteps.PassCase, PassSteps.computes_at}
+use Rattle.cpu.proofs.{PassSteps.finish_exit, PassSteps.in_no_call, PassSteps.pass_case, PassSteps.switches, PassSteps.drains, PassSteps.sends_idle}
+use Rattle.cpu.proofs.{PassSteps.sends_on, PassSteps.passes_on, PassSteps.finishes, TableRows.call_is, TableRows.call_of, TableRows.guest_there}
 use Rattle.cpu.proofs.{TableRows.halted_same, TableRows.stands_there, TableRows.states_at, TableRows.states_long, TablePolls.not_halted_so, TablePolls.opens_as}
-use Rattle.cpu.proofs.{TablePolls.tabled_same, TablePolls.tabled_with, Tower.Chains.put_same, Tower.Numbered.own_at, Tower.Passed.ComesTo, Tower.Passed.at_rest}
-use Rattle.cpu.proofs.{Tower.Passed.deferred_none, Tower.Passed.pass_rest, Tower.Passed.passed_part, Tower.Passed.with_threads, Tower.Passing.computed_now}
-use Rattle.cpu.proofs.{Tower.Passing.drain_line, Tower.Passing.ended_now, Tower.Passing.make_ready_line, Tower.Passing.switched_now, Tower.Passing.yield_line}
+use Rattle.cpu.proofs.{TablePolls.tabled_same, TablePolls.tabled_with, Tower.Chains.put_same, Tower.ChangedThread.own_at, Tower.KeptByPasses.ComesTo, Tower.KeptByPasses.at_rest}
+use Rattle.cpu.proofs.{Tower.KeptByPasses.deferred_none, Tower.KeptByPasses.pass_rest, Tower.KeptByPasses.passed_part, Tower.KeptByPasses.with_threads, Tower.PassLines.computed_now}
+use Rattle.cpu.proofs.{Tower.PassLines.drain_line, Tower.PassLines.ended_now, Tower.PassLines.make_ready_line, Tower.PassLines.switched_now, Tower.PassLines.yield_line}
 use Rattle.cpu.proofs.Tower.Polls.{alone_is_step, choice_current, choice_hand, choice_idle, halted_is_step, line_is_step, step_goes}
 use Rattle.guest.specs.declared.instructions.Instruction.TheVariants as ins
 use Rattle.layer_traits.specs.declared.call_states.Stage.TheVariants as at_stage

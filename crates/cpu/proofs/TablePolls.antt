@@ -21,11 +21,11 @@ use Rattle.cpu.specs.{Tower.Privates.private_of, Tower.Privates.threads_in, Towe
 use Rattle.cpu.specs.{Tower.Composed.IsBeginning, Tower.Composed.IsGoing, Tower.Composed.IsUsed, Tower.Composed.OpensAs, Tower.Composed.named}
 use Rattle.cpu.specs.{Tower.Positions.IsPart, Tables.IsSetupOf, Tables.IsTabled, Tables.bare, Tables.private, Tables.state_of, Tables.states}
 use Rattle.cpu.specs.declared.guests.GuestStage.TheVariants.{Idle, Begun, Done, Ended}
-use Rattle.cpu.proofs.{CpuStates.TabledCpu, CpuStates.Outset, CpuStates.valid, Follow.had_going, GuestLists.at_other, GuestLists.at_same}
-use Rattle.cpu.proofs.{GuestLists.guest_within, Steps.PollsAt, Steps.polls_at, Steps.poll_number, Steps.poll_call_states, TableRows.call_is}
-use Rattle.cpu.proofs.{TableRows.halted_same, TableRows.states_at, TableRows.states_long, Tower.Begins.first_polls_are_steps, Tower.Begins.polls_are_steps}
-use Rattle.cpu.proofs.{Tower.Chains.put_same, Tower.Preserved.IsFree, Tower.Preserved.begins_keep, Tower.Preserved.preserved_by, Tower.Preserved.plans_keep}
-use Rattle.cpu.proofs.{Tower.Polled.Polled, Tower.Passed.at_rest, Tower.Passed.in_call}
+use Rattle.cpu.proofs.{CpuStates.TabledCpu, CpuStates.Outset, CpuStates.valid, GuestsFollow.had_going, GuestLists.at_other, GuestLists.at_same}
+use Rattle.cpu.proofs.{GuestLists.guest_within, CallSteps.PollsAt, CallSteps.polls_at, CallSteps.poll_number, CallSteps.poll_call_states, TableRows.call_is}
+use Rattle.cpu.proofs.{TableRows.halted_same, TableRows.states_at, TableRows.states_long, Tower.BegunPolls.first_polls_are_steps, Tower.BegunPolls.polls_are_steps}
+use Rattle.cpu.proofs.{Tower.Chains.put_same, Tower.KeptByPolls.IsFree, Tower.KeptByPolls.begins_keep, Tower.KeptByPolls.preserved_by, Tower.KeptByPolls.plans_keep}
+use Rattle.cpu.proofs.{Tower.PolledSystem.Polled, Tower.KeptByPasses.at_rest, Tower.KeptByPasses.in_call}
 use Rattle.guest.specs.declared.instructions.Instruction.TheVariants as ins
 use Rattle.layer_traits.specs.declared.call_states.Stage.TheVariants as at_stage
 

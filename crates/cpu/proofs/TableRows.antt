@@ -8,7 +8,7 @@ use Rattle.event_log.proofs.Same.{same_cpu_self, same_cpu_true}
 use Rattle.guest.specs.{declared.instructions.Instruction.Instruction, State.State, State.next_of}
 use Rattle.thread_blocks.specs.Queues.{is_in}
 use Rattle.layer_traits.specs.{declared.calls.Call.Call, declared.calls.Effect.Effect, declared.steps.Reason.Reason, declared.steps.Reason.TheVariants.AllEnded}
-use Rattle.layer_traits.specs.{declared.steps.Reason.TheVariants.TraceFull, LockLaw.slept_for, Places.home_of, BufferLaw.Buffering, BufferLaw.begun_of}
+use Rattle.layer_traits.specs.{declared.steps.Reason.TheVariants.TraceFull, QLockLaw.slept_for, Places.home_of, BufferLaw.Buffering, BufferLaw.begun_of}
 use Rattle.layer_traits.specs.{BufferLaw.call_state_of}
 use Rattle.cpu.specs.{declared.guests.Guest.Guest, declared.guests.GuestStage.GuestStage, declared.guests.GuestStage.TheVariants.Idle}
 use Rattle.cpu.specs.{declared.guests.GuestStage.TheVariants.Begun, declared.guests.GuestStage.TheVariants.Done, declared.guests.GuestStage.TheVariants.Ended}
@@ -21,7 +21,7 @@ use Rattle.cpu.specs.{Table.Setups.stands_at, Table.Setups.thread_at, Table.Choi
 use Rattle.cpu.specs.{Table.Choice.at_current, Table.Choice.at_hand, Table.Choice.at_instruction, Table.Choice.at_ready, Table.Steps.halted_at as table_halted}
 use Rattle.cpu.specs.{Table.Steps.halted_by, Tower.Privates.call_from, Tower.Privates.is_deferred, Tower.Privates.stage_from, Tower.Privates.thread_of}
 use Rattle.cpu.specs.{Tower.Privates.threads_in, Tower.Privates.tid, Tables.IsSetupOf, Tables.private, Tables.state_of, Tables.states}
-use Rattle.cpu.proofs.{CpuStates.TabledCpu, Tower.Begins.thread_here, GuestLists.guest_within}
+use Rattle.cpu.proofs.{CpuStates.TabledCpu, Tower.BegunPolls.thread_here, GuestLists.guest_within}
 use Rattle.guest.specs.declared.instructions.Instruction.TheVariants as ins
 
 -- the states of the guests

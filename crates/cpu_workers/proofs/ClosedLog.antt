@@ -10,7 +10,7 @@ use Rattle.layer_traits.specs.{declared.buffer_edits.BufferEdit.BufferEdit, decl
 use Rattle.layer_traits.specs.{declared.queue_edits.QueueBlock.QueueBlock, declared.queue_edits.QueueEdit.QueueEdit, declared.queues.QueueEvent.QueueEvent}
 use Rattle.layer_traits.specs.{Acted.ItemsAre, Acted.guarded, BufferEffects.MayTakeEffect, BufferEffects.contents_of, BufferEffects.effects_in}
 use Rattle.layer_traits.specs.{BufferProtocol.BufferLock, BufferProtocol.buffer_monitor_rules, Conditions.CvCall, Conditions.cv_rules, IpcLaw.OpensSo}
-use Rattle.layer_traits.specs.{LockLaw.lock_kernel, Locking.lock_edited, OneLock.opened, QueueBlocks.StartsWell, QueueBlocks.above_of, QueueRules.AreProper}
+use Rattle.layer_traits.specs.{QLockLaw.lock_kernel, QLocking.lock_edited, OneLock.opened, QueueBlocks.StartsWell, QueueBlocks.above_of, QueueRules.AreProper}
 use Rattle.layer_traits.specs.{QueueRules.queue_edited, Queues.QueueAllowed, Queues.buffer_sections, Queues.event_of, Renaming.renamed_edit}
 use Rattle.layer_traits.specs.{Renaming.renamed_events, Renaming.viewed, Renaming.viewed_block, Sleeping.sleep_edited, WordsProtocol.MayCome}
 use Rattle.layer_traits.specs.{WordsProtocol.edit_of, WordsProtocol.sections, Laws.Openings.opens_so}
@@ -23,7 +23,7 @@ use Rattle.fifo_buffer.proofs.Opening.{boots_well, caps_are}
 use Rattle.table_machine.specs.SeatViews.{TableView}
 use Rattle.cpu.specs.{Table.Setups.Setup, Table.Setups.opening as table_opening, Table.Steps.block_at, Tower.Composed.named, Tower.Views.TowerBlock}
 use Rattle.cpu.specs.{Tower.Views.TowerName, Tower.Views.view}
-use Rattle.cpu.proofs.{TableCalls.opens_so as opens_as, Observing.block_read}
+use Rattle.cpu.proofs.{TableCalls.opens_so as opens_as, PartsOfTable.block_read}
 use Rattle.cpu_workers.specs.{Closing.LockBlock, Closing.LockEdit, Closing.StartsSo, Closing.WordsOfTower, Closing.acts_in, Closing.blocks_read}
 use Rattle.cpu_workers.specs.{Closing.seen_above, Closing.tower_rules, Lawful.messages_in, Orders.effects_of}
 use Rattle.layer_traits.specs.declared.queue_edits.QueueBlock.TheVariants as block

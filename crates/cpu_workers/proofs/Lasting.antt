@@ -6,7 +6,7 @@ use Rattle.cpu.specs.{Table.Blocks.Name, Table.Setups.Setup, Table.Setups.Call, 
 use Rattle.cpu.specs.{Table.Setups.home_threads, Table.Setups.stands_at, Table.Setups.thread_at, Table.Choice.Halts, Table.Choice.Goes, Table.Choice.at_call}
 use Rattle.cpu.specs.{Table.Choice.at_current, Table.Choice.at_hand, Table.Choice.at_instruction, Table.Choice.at_ready, Table.Steps.AlongTable}
 use Rattle.cpu.specs.{Table.Steps.cpu_step, Table.Steps.halted_at, Table.Steps.halted_by, Wakeups.Lost.Ran}
-use Rattle.cpu.proofs.Wakeups.Working.{cpus_lose_no_wake_up}
+use Rattle.cpu.proofs.Wakeups.CpusByTable.{cpus_lose_no_wake_up}
 use Rattle.cpu_workers.specs.{declared.stops.Stop.TheVariants.AllEnded, declared.stops.Stop.TheVariants.TurnsUsed, declared.stops.Stop.TheVariants.TraceFull}
 use Rattle.cpu_workers.specs.{declared.stops.Stop.TheVariants.Held, Laws.HasWorked, Laws.StopsAreTrue, Laws.WorkersLoseNoWakeUp}
 use Rattle.cpu_workers.proofs.Turning.{along_others}

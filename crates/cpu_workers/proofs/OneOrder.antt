@@ -14,7 +14,7 @@ use Rattle.layer_traits.specs.{OnePlace.cpu_at, Protocol.section, Queues.buffer_
 use Rattle.layer_traits.proofs.EffectRunLemmas.{effects_are_run}
 use Rattle.fifo_buffer.specs.Laws.Tallies.{effect_position}
 use Rattle.cpu.specs.{Cpus.of_cpu, Tower.Views.TowerName}
-use Rattle.cpu.proofs.{ListReads.all_reversed, Orders.filter_reversed, Orders.interleaved}
+use Rattle.cpu.proofs.{ListReads.all_reversed, OneOrder.filter_reversed, OneOrder.interleaved}
 use Rattle.cpu_workers.specs.Orders.{IsTraceOf, effects_of}
 
 -- An action adds at most one effect, of its own CPU.

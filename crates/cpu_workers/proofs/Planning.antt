@@ -13,7 +13,7 @@ use Rattle.cpu.specs.{declared.guests.GuestStage.TheVariants.Begun, declared.gue
 use Rattle.cpu.specs.{Guests.HasComeIn, Guests.after_effect, Guests.is_ended, Cpus.IsCpu, Cpus.IsOfHome, Cpus.begins, Cpus.begun_count, Cpus.chosen}
 use Rattle.cpu.specs.{Cpus.guest_at, Cpus.halted_at, Cpus.is_over, Cpus.of_cpu, Cpus.of_thread, Cpus.programs_of, Table.Setups.Setup, Table.Setups.Thread}
 use Rattle.cpu.specs.{Table.Setups.thread_at, Tables.IsSetupOf, Tables.private, Tower.Privates.threads_in, Tower.Views.TowerName}
-use Rattle.cpu.proofs.{ListReads.all_reversed, Orders.filter_reversed, TableCalls.ObservedCpu, TableRows.guest_there, GuestLists.guest_with}
+use Rattle.cpu.proofs.{ListReads.all_reversed, OneOrder.filter_reversed, TableCalls.ObservedCpu, TableRows.guest_there, GuestLists.guest_with}
 use Rattle.cpu_workers.specs.{Orders.FollowsProgram, Orders.HasFollowed, Working.IsPlanned}
 
 program_there : (guests : List (Option Guest)) (t : ℕ) (g : Guest) → guest_at guests t ≡ Some g → slice_index_or (programs_of guests) t None ≡ Some g.program

@@ -15,7 +15,7 @@ use Rattle.table_machine.specs.SeatViews.{TableView, Closes}
 use Rattle.cpu.specs.{Claims.buffer_at, Claims.listed, Cpus.IsOfHome, Cpus.of_thread, Table.Blocks.Name, Table.Setups.Setup, Table.Setups.Private}
 use Rattle.cpu.specs.{Table.Setups.at_boot, Table.Setups.program_of, Table.Setups.thread_at, Table.Steps.cpu_step, Table.Steps.halted_at, Tower.Composed.named}
 use Rattle.cpu.specs.{Tower.Views.TowerName, Tower.Views.name_of, Wakeups.Lost.IsWorked}
-use Rattle.cpu.proofs.{TableQuiet.ended_at, Wakeups.Working.cpus_lose_no_wake_up}
+use Rattle.cpu.proofs.{TableQuiet.ended_at, Wakeups.CpusByTable.cpus_lose_no_wake_up}
 use Rattle.cpu_workers.specs.{declared.gates.Go.Go, declared.gates.Go.TheVariants.Limit, declared.gates.Go.TheVariants.Pass, declared.stops.Stop.Stop}
 use Rattle.cpu_workers.specs.{Lawful.AreLeft, Lawful.HasGone, Lawful.IsLawfulReport, Lawful.IsCpuReportOf, Lawful.IsReport, Lawful.CpuReport, Lawful.Shown}
 use Rattle.cpu_workers.specs.{Lawful.ReportsTrue, Lawful.left_in, Lawful.messages_in, Orders.FollowsProgram, Orders.HasFollowed, Orders.IsTraceOf}

@@ -15,7 +15,7 @@ use Rattle.spinlock.specs.Laws.LineLaws.{rests_outside}
 use Rattle.table_machine.specs.SeatViews.{TableView, Covers, SeatView, IsOf, IsOver, new_seat_view, new_seat_views, site_of}
 use Rattle.table_machine.proofs.Fresh.{length_new}
 use Rattle.cpu.specs.Tower.{Composed.named, Views.TowerName, Views.name_of}
-use Rattle.cpu.proofs.{Booting.at_end, ListReads.shows_at, ListReads.there_is}
+use Rattle.cpu.proofs.{InvariantAtBoot.at_end, ListReads.shows_at, ListReads.there_is}
 use Rattle.cpu_workers.specs.{declared.seating.Left.Left, declared.gates.Go.Go, declared.stops.Stop.Stop, Closing.Key, Closing.tower_rules, Seating.Block}
 use Rattle.cpu_workers.specs.{Seating.Edit, Seating.HasLeft, Seating.HaveLeft, Seating.IsReady, Seating.OpensPlan, Seating.tower_acts}
 

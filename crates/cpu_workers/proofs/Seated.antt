@@ -10,7 +10,7 @@ use Rattle.layer_traits.specs.{BufferLaw.no_call, IpcLaw.OpensSo, Places.Threads
 use Rattle.cpu.specs.{declared.guests.Guest.Guest, Boots.AreGuests, Boots.IsBooted, Boots.guests_for, Boots.homes_for, Cpus.IsCpu, Cpus.guest_at}
 use Rattle.cpu.specs.{Cpus.programs_of, Sound.setup_for, Table.Setups.Setup, Table.Setups.Private, Table.Setups.at_boot as boot_of, Table.Setups.program_or}
 use Rattle.cpu.specs.{Tables.IsTabled, Tables.private, Tower.Views.TowerBlock, Tower.Views.TowerName}
-use Rattle.cpu.proofs.{Booting.boots, ListReads.shows_at, ListReads.there_is, PlanGuests.by_task, Started.private_boots, TableCalls.boots_tabled}
+use Rattle.cpu.proofs.{InvariantAtBoot.boots, ListReads.shows_at, ListReads.there_is, PlanGuests.by_task, SystemsAtBoot.private_boots, TableCalls.boots_tabled}
 use Rattle.cpu.proofs.{GuestLists.guest_with}
 use Rattle.cpu_workers.specs.{declared.gates.Go.Go, declared.turns.Did.Did, Reports.Both, Reports.HasRun, Seating.HasLeft, Seating.IsApart, Seating.IsAtBoot}
 use Rattle.cpu_workers.specs.{Working.Charge, Working.IsPlanned, Working.Working}

@@ -14,8 +14,8 @@ use Rattle.layer_traits.specs.{BufferBlocks.BufferState, BufferBlocks.buffer_edi
 use Rattle.layer_traits.specs.{BufferBlocks.is_next, BufferBlocks.line_of, BufferBlocks.may_go, BufferBlocks.may_join, BufferBlocks.put_in, BufferBlocks.shut}
 use Rattle.layer_traits.specs.{BufferBlocks.taken_out, BufferEffects.drawn, BufferEffects.is_enter, BufferEffects.drawn_in, BufferProtocol.BufferLock}
 use Rattle.layer_traits.specs.{BufferProtocol.BufferSection, BufferProtocol.buffer_at, BufferProtocol.buffer_rules, BufferProtocol.has_tried_in_vain}
-use Rattle.layer_traits.specs.{BufferLaw.buffer_of, BufferLaw.side_of, Places.count_in, Places.one_if, Conditions.CvCall, Locking.IsOwners, Locking.asked}
-use Rattle.layer_traits.specs.{Locking.lock_caller, Locking.lock_edited, Locking.owner_in, Sleeping.joined}
+use Rattle.layer_traits.specs.{BufferLaw.buffer_of, BufferLaw.side_of, Places.count_in, Places.one_if, Conditions.CvCall, QLocking.IsOwners, QLocking.asked}
+use Rattle.layer_traits.specs.{QLocking.lock_caller, QLocking.lock_edited, QLocking.owner_in, Sleeping.joined}
 use Rattle.layer_traits.proofs.CountLemmas.{same_tid_sym, count_behind, count_other}
 use Rattle.thread_blocks.specs.Queues.{same_tid, is_in, rest}
 use Rattle.thread_blocks.proofs.{Members.same_tid_self, Members.same_tid_true, Distinct.out_of_rest}

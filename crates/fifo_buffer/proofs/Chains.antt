@@ -7,8 +7,8 @@ use Rattle.layer_traits.specs.{declared.queues.QueueAnswer.QueueAnswer, declared
 use Rattle.layer_traits.specs.{BufferLaw.Buffering, BufferLaw.BufferPlan, BufferLaw.buffer_of, BufferLaw.chained, BufferLaw.chained_now, BufferLaw.recorded}
 use Rattle.layer_traits.specs.{BufferLaw.left_recorded, BufferLaw.plan_at, BufferLaw.plan_beneath, BufferLaw.plan_of, BufferLaw.plan_on, BufferLaw.section_at}
 use Rattle.layer_traits.specs.{BufferLaw.call_state_of, BufferProtocol.buffer_rules, Conditions.CvCall, CvLaw.Waiting, CvLaw.cv_plan_for, CvLaw.left_over}
-use Rattle.layer_traits.specs.{CvLaw.left_waiting, LockLaw.Locking, LockLaw.left_after, LockLaw.left_handed, LockLaw.lock_plan, LockLaw.plan_for}
-use Rattle.layer_traits.specs.{LockLaw.slept_for, Locking.lock_moves, Plans.Follows, Plans.Left, Plans.Plan, Plans.Now, Plans.Act, Plans.Table, Plans.raised}
+use Rattle.layer_traits.specs.{CvLaw.left_waiting, QLockLaw.Locking, QLockLaw.left_after, QLockLaw.left_handed, QLockLaw.lock_plan, QLockLaw.plan_for}
+use Rattle.layer_traits.specs.{QLockLaw.slept_for, QLocking.lock_moves, Plans.Follows, Plans.Left, Plans.Plan, Plans.Now, Plans.Act, Plans.Table, Plans.raised}
 use Rattle.layer_traits.specs.{Scheds.sched_plan, SleepLaw.due, SleepLaw.sleep_plan}
 use Rattle.layer_traits.specs.declared.call_states.Stage.TheVariants.{Idle, Acquires, Enters, Tries, Waits, AcquiresAgain, Signals, SignalsOwn, Releases}
 use Rattle.fifo_buffer.specs.{Stances.called_at, Stances.waits_at, SectionPolls.BufferOutcome, SectionPolls.is_at_once}

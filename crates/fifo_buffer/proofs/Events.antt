@@ -10,7 +10,7 @@ use Rattle.layer_traits.specs.{declared.locked.Side.Side, declared.locked.Side.T
 use Rattle.layer_traits.specs.{declared.queue_edits.QueueBlock.QueueBlock, declared.queues.QueueCall.QueueCall, declared.queues.QueueCall.TheVariants.Push}
 use Rattle.layer_traits.specs.{declared.queues.QueueCall.TheVariants.TakeAll, declared.queues.QueueCall.TheVariants.OnBuffer, declared.call_states.Stage.Stage}
 use Rattle.layer_traits.specs.{declared.call_states.CallState.CallState, BufferBlocks.line_of, BufferLaw.buffer_of, BufferLaw.section_at, BufferLaw.side_of}
-use Rattle.layer_traits.specs.{Conditions.CvCall, Conditions.cv_rules, LockLaw.lock_kernel, Locking.IsOwners, Locking.lock_caller, Locking.owner_in}
+use Rattle.layer_traits.specs.{Conditions.CvCall, Conditions.cv_rules, QLockLaw.lock_kernel, QLocking.IsOwners, QLocking.lock_caller, QLocking.owner_in}
 use Rattle.layer_traits.specs.{Places.count_in, Places.home_of, Places.one_if, Protocol.section, QueueBlocks.homes_in, QueueBlocks.inner, Queues.QueueAllowed}
 use Rattle.layer_traits.specs.{Queues.buffer_sections, Queues.cpu_of_queue_event, Queues.with_section}
 use Rattle.layer_traits.specs.declared.call_states.Stage.TheVariants.{Idle, Acquires, Enters, Tries, Waits, AcquiresAgain}

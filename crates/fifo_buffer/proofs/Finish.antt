@@ -7,7 +7,7 @@ use Rattle.layer_traits.specs.declared.{calls.Reply.Reply, conditions.CvOut.CvOu
 use Rattle.layer_traits.specs.declared.{call_states.CallState.CallState, buffer_edits.BufferOut.TheVariants.Entered}
 use Rattle.layer_traits.specs.{BufferEffects.effects_in, BufferLaw.Answered, BufferLaw.Called, BufferLaw.begun_at, BufferLaw.buffer_of, BufferLaw.entry_of}
 use Rattle.layer_traits.specs.{BufferLaw.going, BufferLaw.recorded, BufferLaw.enlisted, BufferLaw.replied, BufferLaw.reply_of, BufferLaw.call_state_of}
-use Rattle.layer_traits.specs.{BufferLaw.reported_by, BufferLaw.tried, Conditions.CvCall, LockLaw.slept_for, Places.home_of, Queues.buffer_sections}
+use Rattle.layer_traits.specs.{BufferLaw.reported_by, BufferLaw.tried, Conditions.CvCall, QLockLaw.slept_for, Places.home_of, Queues.buffer_sections}
 use Rattle.layer_traits.specs.declared.call_states.Stage.TheVariants.{Idle, Acquires, Enters, Tries, Waits, AcquiresAgain, Signals, SignalsOwn, Releases}
 use Rattle.thread_blocks.specs.Queues.{same_tid}
 use Rattle.thread_blocks.proofs.Members.{same_tid_true}

@@ -4,7 +4,7 @@ use Rattle.event_log.specs.declared.ids.{BufId.BufId, CpuId.CpuId, LockId.LockId
 use Rattle.layer_traits.specs.{declared.buffer_edits.BufferEdit.BufferEdit, declared.buffer_edits.BufferOut.BufferOut, declared.calls.Call.Call}
 use Rattle.layer_traits.specs.{declared.locked.Side.TheVariants.Senders, declared.scheds.SchedCall.SchedCall, BufferLaw.Calling, BufferLaw.MayGoOn}
 use Rattle.layer_traits.specs.{BufferLaw.MayPollCall, BufferLaw.Passing, BufferLaw.begun, BufferLaw.going, BufferLaw.going_at, BufferLaw.call_state_of}
-use Rattle.layer_traits.specs.{BufferProtocol.BufferLock, BufferProtocol.BufferSection, Conditions.CvCall, CvLaw.Waiting, LockLaw.slept_for, Places.home_of}
+use Rattle.layer_traits.specs.{BufferProtocol.BufferLock, BufferProtocol.BufferSection, Conditions.CvCall, CvLaw.Waiting, QLockLaw.slept_for, Places.home_of}
 use Rattle.layer_traits.specs.declared.call_states.{Stage.Stage, Stage.TheVariants.Idle, Stage.TheVariants.Acquires, CallState.CallState}
 use Rattle.thread_blocks.specs.Queues.{same_tid}
 use Rattle.fifo_buffer.specs.Stances.{InCall, Stance, CallStateFits, called_at}

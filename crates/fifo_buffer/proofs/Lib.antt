@@ -3,7 +3,7 @@ pub mod OwnSteps
 pub mod Events
 pub mod Callers
 pub mod Polls
-pub mod Pacing
+pub mod ConditionPolls
 pub mod Recorded
 pub mod Parts
 pub mod Passes

@@ -18,8 +18,8 @@ use Rattle.layer_traits.specs.{BufferBlocks.is_next, BufferBlocks.line_of, Buffe
 use Rattle.layer_traits.specs.{BufferBlocks.put_in, BufferBlocks.taken_out, BufferEffects.drawn, BufferEffects.effect_of, BufferEffects.effect_on}
 use Rattle.layer_traits.specs.{BufferEffects.is_enter, BufferEffects.drawn_in, BufferLaw.IsEffectOf, BufferLaw.buffer_of, BufferLaw.entry_of}
 use Rattle.layer_traits.specs.{BufferLaw.section_at, BufferLaw.side_of, BufferProtocol.BufferLock, BufferProtocol.BufferSection, BufferProtocol.buffer_at}
-use Rattle.layer_traits.specs.{BufferProtocol.buffer_rules, BufferProtocol.has_tried_in_vain, BufferProtocol.is_next_at, Conditions.CvCall, Locking.asked}
-use Rattle.layer_traits.specs.{Locking.lock_edited, Locking.lock_out, Locking.asker_report, Places.count_in, Places.one_if, Protocol.section}
+use Rattle.layer_traits.specs.{BufferProtocol.buffer_rules, BufferProtocol.has_tried_in_vain, BufferProtocol.is_next_at, Conditions.CvCall, QLocking.asked}
+use Rattle.layer_traits.specs.{QLocking.lock_edited, QLocking.lock_out, QLocking.asker_report, Places.count_in, Places.one_if, Protocol.section}
 use Rattle.layer_traits.proofs.CountLemmas.{count_append, not_counted}
 use Rattle.thread_blocks.specs.Queues.{same_tid, is_in, rest}
 use Rattle.thread_blocks.proofs.{Members.same_tid_self, Distinct.out_of_rest}

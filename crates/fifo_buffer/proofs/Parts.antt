@@ -14,8 +14,8 @@ use Rattle.layer_traits.specs.{declared.queues.QueueCall.TheVariants.OnBuffer, d
 use Rattle.layer_traits.specs.{BufferBlocks.effect_kind, BufferBlocks.first_item, BufferBlocks.is_next, BufferEffects.effect_of, BufferEffects.effect_on}
 use Rattle.layer_traits.specs.{BufferEffects.effects_in, BufferEffects.entry, BufferLaw.MovesGrow, BufferLaw.OthersSeen, BufferLaw.cpu_of_entry}
 use Rattle.layer_traits.specs.{BufferLaw.recorded, BufferLaw.call_state_of, BufferProtocol.BufferLock, BufferProtocol.BufferSection}
-use Rattle.layer_traits.specs.{BufferProtocol.buffer_monitor_rules, Conditions.CvCall, Conditions.cv_rules, CvLaw.Waiting, LockLaw.lock_kernel}
-use Rattle.layer_traits.specs.{LockLaw.slept_for, Places.home_of, Protocol.section, QueueBlocks.homes_in, QueueBlocks.inner, Queues.QueueAllowed}
+use Rattle.layer_traits.specs.{BufferProtocol.buffer_monitor_rules, Conditions.CvCall, Conditions.cv_rules, CvLaw.Waiting, QLockLaw.lock_kernel}
+use Rattle.layer_traits.specs.{QLockLaw.slept_for, Places.home_of, Protocol.section, QueueBlocks.homes_in, QueueBlocks.inner, Queues.QueueAllowed}
 use Rattle.layer_traits.specs.{Queues.buffer_sections, Queues.cpu_of_queue_event, Queues.moves_in, Queues.with_section}
 use Rattle.layer_traits.proofs.CallLemmas.{moves_append, moves_others, moves_over}
 use Rattle.event_log.proofs.{Same.same_cpu_true, Foreign.others_both}

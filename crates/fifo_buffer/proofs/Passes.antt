@@ -5,7 +5,7 @@ use Rattle.layer_traits.specs.{declared.buffer_edits.BufferEdit.BufferEdit, decl
 use Rattle.layer_traits.specs.{declared.passes.Pass.TheVariants.Switch, declared.queue_edits.QueueBlock.QueueBlock, declared.scheds.SchedCall.SchedCall}
 use Rattle.layer_traits.specs.{declared.call_states.CallState.CallState, BufferEffects.effects_in, BufferLaw.Calling, BufferLaw.MayGoOn, BufferLaw.OthersSeen}
 use Rattle.layer_traits.specs.{BufferLaw.Passing, BufferProtocol.BufferLock, BufferProtocol.buffer_monitor_rules, Conditions.CvCall, Conditions.cv_rules}
-use Rattle.layer_traits.specs.{CvLaw.Waiting, LockLaw.lock_kernel, Passes.PassPolled, Places.Threads, QueueBlocks.homes_in, QueueBlocks.inner}
+use Rattle.layer_traits.specs.{CvLaw.Waiting, QLockLaw.lock_kernel, Passes.PassPolled, Places.Threads, QueueBlocks.homes_in, QueueBlocks.inner}
 use Rattle.layer_traits.specs.{Queues.QueueAllowed, Queues.buffer_sections, Queues.cpu_of_queue_event, Queues.moves_in, Scheds.SchedPolled, Scheds.events_of}
 use Rattle.layer_traits.specs.{Scheds.pass_call, SleepLaw.done_if}
 use Rattle.layer_traits.proofs.{CallLemmas.pass_polled, SleepLemmas.done_same, Seen.lawful_rest}

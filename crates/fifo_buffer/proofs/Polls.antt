@@ -15,8 +15,8 @@ use Rattle.layer_traits.specs.declared.call_states.Stage.TheVariants.{Idle, Acqu
 use Rattle.layer_traits.specs.{BufferEffects.effects_in, BufferLaw.IsEffectOf, BufferLaw.buffer_of, BufferLaw.recorded, BufferLaw.section_at, BufferLaw.side_of}
 use Rattle.layer_traits.specs.{BufferProtocol.BufferLock, BufferProtocol.BufferSection, BufferProtocol.buffer_at, BufferProtocol.buffer_monitor_rules}
 use Rattle.layer_traits.specs.{BufferProtocol.buffer_rules, Conditions.CvCall, Conditions.cv_rules, CvLaw.MayCallCond, CvLaw.MayWait, CvLaw.Waiting}
-use Rattle.layer_traits.specs.{CvLaw.left_waiting, LockLaw.MayGo, LockLaw.MayLock, LockLaw.Locking, LockLaw.left_after, LockLaw.lock_kernel, LockLaw.slept_for}
-use Rattle.layer_traits.specs.{Locking.wait_list_asked, Locking.wait_list_slept, Locking.lock_answer, Locking.lock_out, Locking.asker_report, Passes.own_slept}
+use Rattle.layer_traits.specs.{CvLaw.left_waiting, QLockLaw.MayGo, QLockLaw.MayLock, QLockLaw.Locking, QLockLaw.left_after, QLockLaw.lock_kernel, QLockLaw.slept_for}
+use Rattle.layer_traits.specs.{QLocking.wait_list_asked, QLocking.wait_list_slept, QLocking.lock_answer, QLocking.lock_out, QLocking.asker_report, Passes.own_slept}
 use Rattle.layer_traits.specs.{Passes.own_woken, Passes.passed_on, Passes.queue_for, Places.Threads, Places.home_of, Plans.Left, Protocol.section}
 use Rattle.layer_traits.specs.{QueueBlocks.homes_in, QueueBlocks.inner, Queues.QueueAllowed, Queues.buffer_sections, Queues.event, Queues.cpu_of_queue_event}
 use Rattle.layer_traits.specs.{Queues.out_at, SleepLaw.PollResult, SleepLaw.Does, SleepLaw.Sends, SleepLaw.Sleeping, SleepLaw.Waits as WaitsStill}

@@ -12,8 +12,8 @@ use Rattle.layer_traits.specs.{declared.locked.Side.TheVariants.Receivers, decla
 use Rattle.layer_traits.specs.{declared.queues.QueueCall.QueueCall, declared.queues.QueueCall.TheVariants.Push, declared.queues.QueueCall.TheVariants.TakeAll}
 use Rattle.layer_traits.specs.{declared.queues.QueueCall.TheVariants.OnBuffer, BufferEffects.fresh_lock, BufferEffects.drawn_in, BufferProtocol.BufferLock}
 use Rattle.layer_traits.specs.{BufferProtocol.BufferSection, BufferProtocol.IsDue, BufferProtocol.buffer_at, BufferProtocol.buffer_monitor_rules}
-use Rattle.layer_traits.specs.{BufferProtocol.buffer_rules, BufferProtocol.is_in_line, Conditions.CvCall, Conditions.cv_rules, LockLaw.lock_kernel}
-use Rattle.layer_traits.specs.{Locking.asked, Locking.lock_caller, Locking.lock_edited, Places.home_of, Protocol.section, QueueBlocks.StartsWell}
+use Rattle.layer_traits.specs.{BufferProtocol.buffer_rules, BufferProtocol.is_in_line, Conditions.CvCall, Conditions.cv_rules, QLockLaw.lock_kernel}
+use Rattle.layer_traits.specs.{QLocking.asked, QLocking.lock_caller, QLocking.lock_edited, Places.home_of, Protocol.section, QueueBlocks.StartsWell}
 use Rattle.layer_traits.specs.{QueueBlocks.homes_in, QueueBlocks.inner, Queues.QueueAllowed, Queues.buffer_sections, Queues.with_section}
 use Rattle.layer_traits.specs.declared.buffer_edits.BufferEdit.TheVariants.{Enter, TryPut, TryTake, Shut}
 use Rattle.layer_traits.specs.BufferBlocks.{BufferState, counted, entered, is_next, line_of, may_join, drawn_of, put_in, shut, taken_out}

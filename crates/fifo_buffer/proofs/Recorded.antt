@@ -4,8 +4,8 @@ use Rattle.event_log.specs.declared.ids.{CpuId.CpuId, LockId.LockId, Tid.Tid}
 use Rattle.layer_traits.specs.{declared.buffer_edits.BufferOut.BufferOut, declared.calls.Call.Call, declared.moves.WaitList.WaitList}
 use Rattle.layer_traits.specs.{declared.queue_edits.QueueBlock.QueueBlock, declared.call_states.Stage.Stage, declared.call_states.CallState.CallState}
 use Rattle.layer_traits.specs.{BufferLaw.buffering, BufferLaw.left_recorded, BufferLaw.replied, BufferProtocol.BufferLock, BufferProtocol.buffer_monitor_rules}
-use Rattle.layer_traits.specs.{Conditions.cv_rules, CvLaw.Waiting, ListsAgree.is_at, LockLaw.LocksAgree, LockLaw.lock_kernel, Locking.wait_list_in}
-use Rattle.layer_traits.specs.{Locking.lock_after, Places.AreMoves, Places.Stands, Places.Threads, Places.home_of, Places.one_if, Places.wait_channel_of}
+use Rattle.layer_traits.specs.{Conditions.cv_rules, CvLaw.Waiting, ListsAgree.is_at, QLockLaw.LocksAgree, QLockLaw.lock_kernel, QLocking.wait_list_in}
+use Rattle.layer_traits.specs.{QLocking.lock_after, Places.AreMoves, Places.Stands, Places.Threads, Places.home_of, Places.one_if, Places.wait_channel_of}
 use Rattle.layer_traits.specs.{QueueBlocks.homes_in, QueueBlocks.inner, Queues.buffer_sections, Queues.moves_in}
 use Rattle.layer_traits.proofs.{CountLemmas.not_counted, PlaceLemmas.current_at}
 use Rattle.thread_blocks.specs.Queues.{is_in}

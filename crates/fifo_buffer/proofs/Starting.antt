@@ -7,8 +7,8 @@ use Rattle.event_log.specs.declared.ids.{TheConstants.THREADS}
 use Rattle.layer_traits.specs.{declared.buffer_edits.BufferOut.BufferOut, declared.locked.Side.Side, declared.locked.Side.TheVariants.Receivers}
 use Rattle.layer_traits.specs.{declared.locked.Side.TheVariants.Senders, declared.queue_edits.QueueBlock.QueueBlock, declared.call_states.CallState.CallState}
 use Rattle.layer_traits.specs.{BufferEffects.fresh_lock, BufferEffects.opening_locks, BufferLaw.no_call, BufferLaw.call_state_of, BufferProtocol.BufferLock}
-use Rattle.layer_traits.specs.{BufferProtocol.buffer_monitor_rules, Conditions.cv_rules, CvLaw.Waiting, CvLaw.waiting_at_start, LockLaw.lock_kernel}
-use Rattle.layer_traits.specs.{LockLaw.slept_for, Locking.AreAtRest, Locking.IsAtRest, Places.count_in, QueueBlocks.inner, Queues.buffer_sections}
+use Rattle.layer_traits.specs.{BufferProtocol.buffer_monitor_rules, Conditions.cv_rules, CvLaw.Waiting, CvLaw.waiting_at_start, QLockLaw.lock_kernel}
+use Rattle.layer_traits.specs.{QLockLaw.slept_for, QLocking.AreAtRest, QLocking.IsAtRest, Places.count_in, QueueBlocks.inner, Queues.buffer_sections}
 use Rattle.layer_traits.specs.{Queues.moves_in}
 use Rattle.fifo_buffer.specs.{FifoFits.BootsSo, FifoFits.PartFits, FifoFits.caps_in, Stances.IsFreeOf, Stances.CallStateFits, Stances.line_at}
 use Rattle.fifo_buffer.specs.{SectionPolls.BufferEvent, SectionPolls.FitsAt}

@@ -6,7 +6,7 @@ use Rattle.event_log.specs.declared.ids.{BufId.BufId, LockId.LockId, Tid.Tid}
 use Rattle.layer_traits.specs.{declared.buffer_edits.BufferEdit.BufferEdit, declared.buffer_edits.BufferOut.BufferOut, declared.calls.Call.Call}
 use Rattle.layer_traits.specs.{declared.calls.Reply.Reply, declared.conditions.CvOut.CvOut, declared.locked.QOut.QOut, declared.scheds.SchedCall.SchedCall}
 use Rattle.layer_traits.specs.{declared.call_states.Stage.Stage, declared.call_states.CallState.CallState, BufferProtocol.BufferLock}
-use Rattle.layer_traits.specs.{BufferProtocol.BufferSection, Conditions.CvCall, CvLaw.Waiting, LockLaw.is_handed, LockLaw.slept_for, Queues.buffer_sections}
+use Rattle.layer_traits.specs.{BufferProtocol.BufferSection, Conditions.CvCall, CvLaw.Waiting, QLockLaw.is_handed, QLockLaw.slept_for, Queues.buffer_sections}
 use Rattle.layer_traits.specs.declared.call_states.Stage.TheVariants.{Idle, Acquires, Waits, AcquiresAgain}
 use Rattle.layer_traits.specs.BufferLaw.{RunsOn, buffer_of, going, recorded, no_call, replied, still_calling, call_state_of}
 use Rattle.thread_blocks.specs.Queues.{same_tid}

@@ -3,7 +3,7 @@ use Rattle.std.specs.Prelude.{Bool, List, Option, Some}
 use Rattle.event_log.specs.{declared.ids.BufId.BufId, declared.ids.LockId.LockId, declared.ids.LockId.TheVariants.Buffer, declared.ids.Tid.Tid}
 use Rattle.event_log.specs.{Messages.Message}
 use Rattle.layer_traits.specs.{declared.moves.WaitList.WaitList, declared.queue_edits.QueueBlock.QueueBlock, BufferProtocol.BufferLock}
-use Rattle.layer_traits.specs.{BufferProtocol.buffer_monitor_rules, Conditions.cv_rules, Locking.wait_list_in, Locking.lock_after, QueueBlocks.inner}
+use Rattle.layer_traits.specs.{BufferProtocol.buffer_monitor_rules, Conditions.cv_rules, QLocking.wait_list_in, QLocking.lock_after, QueueBlocks.inner}
 use Rattle.layer_traits.specs.{Queues.buffer_sections}
 use Rattle.fifo_buffer.specs.SectionPolls.{BufferEvent}
 

@@ -7,7 +7,7 @@ use Rattle.layer_traits.specs.{declared.conditions.CvEdit.TheVariants.Edit, decl
 use Rattle.layer_traits.specs.{declared.locked.QEdit.TheVariants.Acquire, declared.locked.QEdit.TheVariants.Inside, declared.locked.QEdit.TheVariants.Release}
 use Rattle.layer_traits.specs.{declared.locked.Side.Side, declared.queue_edits.QueueBlock.QueueBlock, BufferEffects.drawn_in, BufferProtocol.BufferLock}
 use Rattle.layer_traits.specs.{BufferProtocol.BufferSection, BufferProtocol.buffer_at, BufferProtocol.buffer_monitor_rules, Conditions.CvCall}
-use Rattle.layer_traits.specs.{Conditions.cv_rules, LockLaw.lock_kernel, QueueBlocks.StartsWell, QueueBlocks.inner, Queues.QueueAllowed, Queues.buffer_sections}
+use Rattle.layer_traits.specs.{Conditions.cv_rules, QLockLaw.lock_kernel, QueueBlocks.StartsWell, QueueBlocks.inner, Queues.QueueAllowed, Queues.buffer_sections}
 use Rattle.fifo_buffer.specs.{FifoFits.BootsSo, FifoFits.caps_in, Stances.same_side, SectionPolls.BufferEvent}
 
 -- whether a call enters this side's line

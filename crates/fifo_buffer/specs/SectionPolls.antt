@@ -11,7 +11,7 @@ use Rattle.layer_traits.specs.declared.{call_states.Stage.Stage, calls.Reply.Rep
 use Rattle.layer_traits.specs.declared.{call_states.Stage.TheVariants.AcquiresAgain, call_states.CallState.CallState}
 use Rattle.layer_traits.specs.{BufferEffects.effects_in, BufferLaw.Calling, BufferLaw.UnderWay, BufferLaw.IsEffectOf, BufferLaw.Passing, BufferLaw.buffer_of}
 use Rattle.layer_traits.specs.{BufferLaw.entry_of, BufferLaw.recorded, BufferLaw.replied, BufferLaw.section_at, BufferLaw.call_state_of}
-use Rattle.layer_traits.specs.{BufferProtocol.BufferLock, BufferProtocol.BufferSection, Conditions.CvCall, CvLaw.Waiting, LockLaw.slept_for}
+use Rattle.layer_traits.specs.{BufferProtocol.BufferLock, BufferProtocol.BufferSection, Conditions.CvCall, CvLaw.Waiting, QLockLaw.slept_for}
 use Rattle.layer_traits.specs.{Payloads.buffer_told, Payloads.cv_told, Payloads.lock_told, Payloads.outcome_told, Places.home_of, Queues.buffer_sections}
 use Rattle.thread_blocks.specs.Queues.{same_tid}
 use Rattle.fifo_buffer.specs.Stances.{InCall, CallStateFits, ThreadFits, called_at, done_at, waits_at}

@@ -3,7 +3,7 @@
 ghost use Rattle.std.specs.Prelude.{◌≡◌, ◌<◌, [], Bool, Some, None, IsSome, refl, slice_set, if◌then◌else◌};
 ghost use Rattle.event_log.specs.declared.ids.{LockId.TheVariants.Buffer, TheConstants.THREADS};
 ghost use Rattle.layer_traits.specs.BufferLaw.{answer_in, buffer_of, buffering, going, plan_of, replied, call_state_of};
-ghost use Rattle.layer_traits.specs.{BufferProtocol.buffer_rules, Framed.Framed, Locking.lock_moves, Locking.lock_rules, LockLaw.slept_for, Plans.Follows};
+ghost use Rattle.layer_traits.specs.{BufferProtocol.buffer_rules, Framed.Framed, QLocking.lock_moves, QLocking.lock_rules, QLockLaw.slept_for, Plans.Follows};
 ghost use Rattle.layer_traits.specs.{Plans.table_of, QueueBlocks.homes_in, QueueBlocks.inner, QueueRules.queue_rules, Queues.buffer_sections};
 ghost use Rattle.fifo_buffer.specs.SectionPolls.{MayPollSection, Sizes, SectionPolled, calling_after, reply_at};
 
@@ -144,8 +144,8 @@ impl<C: ThreadLayer<CvLaw<BufferEdit>>> CallLayer<BufferLaw> for Fifo<C> {
     ghost use Rattle.event_log.specs.declared.ids.LockId.TheVariants.{Buffer, Pending};
     ghost use Rattle.layer_traits.proofs.ActedLemmas.{moves_read};
     ghost use Rattle.layer_traits.specs.{BufferEffects.effects_in, BufferEffects.opening_locks, BufferLaw.buffering, Laws.Openings.opens_so};
-    ghost use Rattle.layer_traits.specs.{BufferProtocol.buffer_monitor_rules, Conditions.cv_rules, LockLaw.lock_kernel, Locking.wait_list_in};
-    ghost use Rattle.layer_traits.specs.{Locking.lock_after, QueueBlocks.inner, Queues.buffer_sections, Queues.moves_in};
+    ghost use Rattle.layer_traits.specs.{BufferProtocol.buffer_monitor_rules, Conditions.cv_rules, QLockLaw.lock_kernel, QLocking.wait_list_in};
+    ghost use Rattle.layer_traits.specs.{QLocking.lock_after, QueueBlocks.inner, Queues.buffer_sections, Queues.moves_in};
     ghost use Rattle.fifo_buffer.specs.{FifoFits.BootsSo, FifoFits.PartFits, FifoFits.caps_in, Laws.FifoLaws.fifo_lawful, Laws.FifoLaws.fifo_wait_lists};
     ghost use Rattle.fifo_buffer.specs.{Laws.FifoLaws.none_under, SectionPolls.under_way_at};
 
@@ -283,7 +283,7 @@ impl<C: OwnedThreadLayer<CvLaw<BufferEdit>>> OwnedBuffers for Fifo<C> {
     ghost use Rattle.event_log.specs.{Buffers.items_of, Runs.is_closed};
     ghost use Rattle.layer_traits.proofs.ActedLemmas.{owner_by_acts};
     ghost use Rattle.layer_traits.specs.{BufferEffects.contents_of, BufferEffects.effects_in, BufferProtocol.buffer_monitor_rules, Conditions.cv_rules};
-    ghost use Rattle.layer_traits.specs.{LockLaw.lock_kernel, Locking.wait_list_in, Locking.owner_in, Places.pending_by, QueueBlocks.inner};
+    ghost use Rattle.layer_traits.specs.{QLockLaw.lock_kernel, QLocking.wait_list_in, QLocking.owner_in, Places.pending_by, QueueBlocks.inner};
     ghost use Rattle.layer_traits.specs.{Queues.buffer_sections, Queues.moves_in};
     ghost use Rattle.fifo_buffer.specs.{FifoFits.caps_in, Laws.OwnedLaws.block_there, Laws.OwnedLaws.closed_read, Laws.OwnedLaws.effects_known};
     ghost use Rattle.fifo_buffer.specs.{Laws.OwnedLaws.items_acted, Laws.OwnedLaws.items_read, Laws.OwnedLaws.wait_lists_read, Laws.OwnedLaws.lock_read};

@@ -4,8 +4,8 @@ use Rattle.event_log.specs.{declared.ids.BufId.BufId, declared.ids.LockId.LockId
 use Rattle.event_log.specs.{declared.ids.LockId.TheVariants.Buffer, Sections.sections_in}
 use Rattle.layer_traits.specs.{declared.buffer_edits.BufferEdit.BufferEdit, declared.queue_edits.QueueBlock.QueueBlock}
 use Rattle.layer_traits.specs.{declared.queue_edits.QueueBlock.TheVariants.Above, declared.queues.QueueEvent.QueueEvent, Acted.BufferActs, Acted.MovesAre}
-use Rattle.layer_traits.specs.{Acted.guarded, Acted.owner_after, BufferProtocol.BufferLock, BufferProtocol.buffer_rules, Conditions.CvCall, LockLaw.lock_kernel}
-use Rattle.layer_traits.specs.{Locking.wait_list_in, Locking.lock_after, Locking.lock_moves, Locking.lock_rules, Locking.owner_in, Places.AreMoves}
+use Rattle.layer_traits.specs.{Acted.guarded, Acted.owner_after, BufferProtocol.BufferLock, BufferProtocol.buffer_rules, Conditions.CvCall, QLockLaw.lock_kernel}
+use Rattle.layer_traits.specs.{QLocking.wait_list_in, QLocking.lock_after, QLocking.lock_moves, QLocking.lock_rules, QLocking.owner_in, Places.AreMoves}
 use Rattle.layer_traits.specs.{Places.pending_by, QueueBlocks.StartsWell, QueueBlocks.above_of, QueueBlocks.homes_in, QueueBlocks.inner, QueueBlocks.with_queue}
 use Rattle.layer_traits.specs.{QueueRules.AreProper, Queues.buffer_sections, Queues.event_of, Queues.moves_in}
 use Rattle.layer_traits.proofs.NestedLemmas.{proper_buffer, proper_queue}

@@ -4,7 +4,7 @@ use Rattle.event_log.specs.declared.ids.{BufId.BufId, CpuId.CpuId, LockId.LockId
 use Rattle.event_log.specs.{Actions.Action, Messages.Message, Sections.block_after, Sections.sections_in}
 use Rattle.layer_traits.specs.{declared.buffer_edits.BufferEdit.BufferEdit, declared.moves.WaitList.WaitList, declared.queue_edits.QueueBlock.QueueBlock}
 use Rattle.layer_traits.specs.{declared.queue_edits.QueueEdit.QueueEdit, BufferProtocol.BufferLock, BufferProtocol.buffer_rules, Conditions.CvCall}
-use Rattle.layer_traits.specs.{LockLaw.lock_kernel, Locking.wait_list_in, Locking.lock_edited, Locking.owner_in, Places.Step, Places.pending_by}
+use Rattle.layer_traits.specs.{QLockLaw.lock_kernel, QLocking.wait_list_in, QLocking.lock_edited, QLocking.owner_in, Places.Step, Places.pending_by}
 use Rattle.layer_traits.specs.{QueueBlocks.above_of, QueueBlocks.with_queue, QueueRules.queue_edited, Queues.event_of, Queues.moves_in}
 
 -- the actions on the locks of buffers and of pending queues, newest first

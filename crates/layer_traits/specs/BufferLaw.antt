@@ -15,7 +15,7 @@ use Rattle.layer_traits.specs.declared.{passes.Pass.Pass, sleeps.Outcome.Outcome
 use Rattle.layer_traits.specs.declared.buffer_edits.BufferEdit.TheVariants.{Enter, TryPut, TryTake, Shut}
 use Rattle.layer_traits.specs.declared.buffer_edits.BufferOut.{BufferOut, TheVariants.Entered, TheVariants.NotYet, TheVariants.Done, TheVariants.WasShut}
 use Rattle.layer_traits.specs.declared.call_states.Stage.TheVariants.{Idle, Acquires, Enters, Tries, Waits, AcquiresAgain, Signals, SignalsOwn, Releases}
-use Rattle.layer_traits.specs.{Conditions.CvCall, CvLaw.Waiting, CvLaw.cv_pass_plan, CvLaw.cv_plan, CvLaw.waiting_at_start, Locking.lock_moves}
+use Rattle.layer_traits.specs.{Conditions.CvCall, CvLaw.Waiting, CvLaw.cv_pass_plan, CvLaw.cv_plan, CvLaw.waiting_at_start, QLocking.lock_moves}
 use Rattle.layer_traits.specs.{BufferProtocol.buffer_rules, BufferEffects.contents_of, BufferEffects.entry, Places.Step, Places.Threads, Places.cpu_of_step}
 use Rattle.layer_traits.specs.{Plans.Left, Plans.Plan, Plans.Now, Plans.Act, Plans.raised}
 use Rattle.event_log.specs.declared.entries.Kind.TheVariants as kind

@@ -7,8 +7,8 @@ use Rattle.layer_traits.specs.declared.{locked.Side.TheVariants.Receivers, locke
 use Rattle.layer_traits.specs.declared.{conditions.CvEdit.TheVariants.SignalFront, conditions.CvLeave.CvLeave, conditions.CvLeave.TheVariants.Leave}
 use Rattle.layer_traits.specs.declared.{conditions.CvLeave.TheVariants.Wait, conditions.CvEdit.CvEdit, conditions.CvOut.CvOut, buffer_edits.BufferOut.BufferOut}
 use Rattle.layer_traits.specs.declared.buffer_edits.BufferEdit.{BufferEdit, TheVariants.Enter, TheVariants.TryPut, TheVariants.TryTake, TheVariants.Shut}
-use Rattle.layer_traits.specs.{Conditions.CvCall, Conditions.MonitorRules, Conditions.cv_rules, Locking.LockRules, Locking.LockState}
-use Rattle.layer_traits.specs.{Locking.lock_after, Locking.lock_caller, BufferBlocks.BufferState, BufferBlocks.buffer_answer}
+use Rattle.layer_traits.specs.{Conditions.CvCall, Conditions.MonitorRules, Conditions.cv_rules, QLocking.LockRules, QLocking.LockState}
+use Rattle.layer_traits.specs.{QLocking.lock_after, QLocking.lock_caller, BufferBlocks.BufferState, BufferBlocks.buffer_answer}
 use Rattle.layer_traits.specs.{BufferBlocks.buffer_edited, BufferBlocks.thread_of_edit, BufferBlocks.front_ready, BufferBlocks.is_next, BufferBlocks.line_of}
 use Rattle.thread_blocks.specs.Queues.{same_tid, is_in}
 

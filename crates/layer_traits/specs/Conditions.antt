@@ -6,7 +6,7 @@ use Rattle.layer_traits.specs.declared.locked.{WakeWaiter.TheVariants.Nobody, Wa
 use Rattle.layer_traits.specs.declared.conditions.{CvEdit.CvEdit, CvEdit.TheVariants.Edit, CvEdit.TheVariants.SignalFront, CvLeave.CvLeave}
 use Rattle.layer_traits.specs.declared.conditions.{CvLeave.TheVariants.Leave, CvLeave.TheVariants.Wait, CvOut.CvOut, CvOut.TheVariants.Did}
 use Rattle.layer_traits.specs.declared.conditions.{CvOut.TheVariants.Signalled, CvOut.TheVariants.Left, CvOut.TheVariants.Waited}
-use Rattle.layer_traits.specs.Locking.{LockState, LockRules}
+use Rattle.layer_traits.specs.QLocking.{LockState, LockRules}
 
 -- the calls on a lock with conditions: Acquire, an edit or a signal inside, and a leave or a wait as its release
 abbrev pub CvCall : Type 0 → Type 0

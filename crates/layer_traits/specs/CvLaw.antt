@@ -8,9 +8,9 @@ use Rattle.layer_traits.specs.{declared.conditions.CvLeave.TheVariants.Leave, de
 use Rattle.layer_traits.specs.{declared.moves.WaitList.WaitList, declared.queues.QueueEvent.QueueEvent, declared.queue_edits.QueueEdit.QueueEdit}
 use Rattle.layer_traits.specs.{declared.queues.QueueAnswer.QueueAnswer, declared.passes.Pass.Pass, declared.scheds.SchedCall.SchedCall}
 use Rattle.layer_traits.specs.{declared.sleeps.Outcome.Outcome, Conditions.MonitorRules, Conditions.CvCall, Conditions.cv_rules, MoveRules.MoveRules}
-use Rattle.layer_traits.specs.{Queues.Kernel, Queues.buffer_sections, Locking.LockState, Locking.lock_after, Locking.lock_caller, Locking.wait_list_in}
-use Rattle.layer_traits.specs.{LockLaw.Locking, LockLaw.LockPolled, LockLaw.MayGo, LockLaw.MayLock, LockLaw.MustWait, LockLaw.at_start, LockLaw.slept_for}
-use Rattle.layer_traits.specs.{LockLaw.lock_plan, LockLaw.lock_pass_plan, Plans.Left, Plans.Plan, Plans.Now, Plans.raised}
+use Rattle.layer_traits.specs.{Queues.Kernel, Queues.buffer_sections, QLocking.LockState, QLocking.lock_after, QLocking.lock_caller, QLocking.wait_list_in}
+use Rattle.layer_traits.specs.{QLockLaw.Locking, QLockLaw.LockPolled, QLockLaw.MayGo, QLockLaw.MayLock, QLockLaw.MustWait, QLockLaw.at_start, QLockLaw.slept_for}
+use Rattle.layer_traits.specs.{QLockLaw.lock_plan, QLockLaw.lock_pass_plan, Plans.Left, Plans.Plan, Plans.Now, Plans.raised}
 use Rattle.thread_blocks.specs.Queues.{is_in}
 use Rattle.layer_traits.specs.declared.conditions.CvOut.TheVariants as answer
 

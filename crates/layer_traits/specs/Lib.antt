@@ -21,8 +21,8 @@ pub mod Sleeping
 pub mod SleepLaw
 pub mod ListsAgree
 pub mod Renaming
-pub mod Locking
-pub mod LockLaw
+pub mod QLocking
+pub mod QLockLaw
 pub mod Conditions
 pub mod CvLaw
 pub mod BufferBlocks

@@ -10,7 +10,7 @@ ghost use Rattle.layer_traits.specs.{declared.moves.WaitList.WaitList, declared.
 ghost use Rattle.layer_traits.specs.{declared.call_states.CallState.CallState, Acted.MovesAre, Conditions.CvCall, Places.Step, Places.Stands, Places.Threads};
 ghost use Rattle.layer_traits.specs.{Places.AreMoves, Places.at_boot, Plans.Follows, Plans.table_of, Plans.is_in_section, Framed.Framed, Looks.Tries};
 ghost use Rattle.layer_traits.specs.{QueueBlocks.StartsWell, QueueBlocks.homes_in, QueueBlocks.inner, Queues.buffer_sections, Queues.event_of};
-ghost use Rattle.layer_traits.specs.{QueueRules.queue_rules, Passes.MayPass, Passes.IsLocalPass, Passes.PassPolled, Locking.lock_moves, Locking.lock_rules};
+ghost use Rattle.layer_traits.specs.{QueueRules.queue_rules, Passes.MayPass, Passes.IsLocalPass, Passes.PassPolled, QLocking.lock_moves, QLocking.lock_rules};
 ghost use Rattle.layer_traits.specs.{BufferProtocol.BufferLock, BufferProtocol.buffer_rules, BufferEffects.MayTakeEffect, BufferEffects.effects_in};
 ghost use Rattle.layer_traits.specs.{IpcLaw.WaitListsAgree, IpcLaw.NothingDone, IpcLaw.OpensSo};
 ghost use Rattle.layer_traits.specs.BufferLaw.{BufferPlan, Buffering, Called, answer_in, reply_with, Calling, UnderWay, IsRefused, MayGoOn, MayPollCall};

@@ -4,8 +4,8 @@
 
 ghost use Rattle.std.specs.Prelude.{◌≡◌, ◌⊎◌, ◌≤◌, [], IsSome, None, length, map};
 ghost use Rattle.layer_traits.specs.{CvLaw.Waiting, CvLaw.waiting_at_start, CvLaw.CvPolled, CvLaw.MayCallCond, CvLaw.MustStay, CvLaw.cv_plan};
-ghost use Rattle.layer_traits.specs.{CvLaw.cv_pass_plan, Conditions.cv_rules, LockLaw.LockAgrees, LockLaw.lock_kernel, LockLaw.slept_for, LockLaw.is_handed};
-ghost use Rattle.layer_traits.specs.{Locking.AreAtRest, Locking.lock_after, Locking.lock_caller, Locking.lock_moves, Locking.lock_rules, Owned.wait_list_under};
+ghost use Rattle.layer_traits.specs.{CvLaw.cv_pass_plan, Conditions.cv_rules, QLockLaw.LockAgrees, QLockLaw.lock_kernel, QLockLaw.slept_for, QLockLaw.is_handed};
+ghost use Rattle.layer_traits.specs.{QLocking.AreAtRest, QLocking.lock_after, QLocking.lock_caller, QLocking.lock_moves, QLocking.lock_rules, Owned.wait_list_under};
 ghost use Rattle.layer_traits.specs.{Payloads.cv_meant, Payloads.cv_told, Payloads.lock_meant, Payloads.lock_told, Payloads.outcome_told, Places.AreMoves};
 ghost use Rattle.layer_traits.specs.{Places.pending_by, Plans.table_of, QueueBlocks.StartsWell, QueueBlocks.homes_in, QueueBlocks.inner, QueueRules.AreProper};
 ghost use Rattle.layer_traits.specs.{QueueRules.queue_rules, Queues.QueueAllowed, Queues.buffer_sections, Queues.cpu_of_queue_event, Queues.event_of};

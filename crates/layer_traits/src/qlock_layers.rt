@@ -3,9 +3,9 @@
 //! No call takes memory, and none waits.
 
 ghost use Rattle.std.specs.Prelude.{◌≡◌, ◌≤◌, [], IsSome, None, length, map};
-ghost use Rattle.layer_traits.specs.{Locking.LockState, Locking.AreAtRest, Locking.lock_after, Locking.lock_caller, Locking.lock_moves, Locking.lock_rules};
-ghost use Rattle.layer_traits.specs.{LockLaw.Locking, LockLaw.at_start, LockLaw.LockAgrees, LockLaw.LockPolled, LockLaw.MayCallLock, LockLaw.MustWait};
-ghost use Rattle.layer_traits.specs.{LockLaw.lock_kernel, LockLaw.lock_plan, LockLaw.slept_for, LockLaw.is_handed, LockLaw.lock_pass_plan};
+ghost use Rattle.layer_traits.specs.{QLocking.LockState, QLocking.AreAtRest, QLocking.lock_after, QLocking.lock_caller, QLocking.lock_moves, QLocking.lock_rules};
+ghost use Rattle.layer_traits.specs.{QLockLaw.Locking, QLockLaw.at_start, QLockLaw.LockAgrees, QLockLaw.LockPolled, QLockLaw.MayCallLock, QLockLaw.MustWait};
+ghost use Rattle.layer_traits.specs.{QLockLaw.lock_kernel, QLockLaw.lock_plan, QLockLaw.slept_for, QLockLaw.is_handed, QLockLaw.lock_pass_plan};
 ghost use Rattle.layer_traits.specs.{Owned.wait_list_under, Payloads.lock_meant, Payloads.lock_told, Payloads.outcome_told, Places.AreMoves, Places.pending_by};
 ghost use Rattle.layer_traits.specs.{Plans.table_of, QueueBlocks.StartsWell, QueueBlocks.homes_in, QueueBlocks.inner, QueueRules.AreProper};
 ghost use Rattle.layer_traits.specs.{QueueRules.queue_rules, Queues.QueueAllowed, Queues.buffer_sections, Queues.cpu_of_queue_event, Queues.event_of};

@@ -9,7 +9,7 @@ use Rattle.cpu.specs.{Boots.guests_for, Boots.homes_for, Boots.tables_for, Cpus.
 use Rattle.cpu.specs.{Claims.Shown, Claims.StandsOnce, Claims.StayHome, Claims.traces_of, Sound.BootsByTable, Sound.IsSetupFor, Sound.RanByTable}
 use Rattle.cpu.specs.{Sound.SoundByTable, Sound.after_steps, Sound.setup_for, Systems.Ran, Systems.SamePlan, Systems.whole_of, Table.Steps.Whole}
 use Rattle.cpu.specs.{Table.Steps.whole_at_boot, Observed.ObservedByTable}
-use Rattle.cpu.proofs.{ListReads.listed_length, ListReads.map_twice, Sounding.setup_on}
+use Rattle.cpu.proofs.{ListReads.listed_length, ListReads.map_twice, ReachedSystems.setup_on}
 use Rattle.mctower.specs.{Output.IsUntouched, Output.Output, Plans.IsOpened, Plans.IsSystemOf, Plans.table_run, Running.AreCpus, Running.IsRunOf}
 use Rattle.mctower.specs.{Running.IsPrinted, Running.RunsPlan, Texts.IsOut, Texts.Writes, declared.run.Fault.Fault}
 use Rattle.mctower.proofs.TabledLemmas.{text_of_run}

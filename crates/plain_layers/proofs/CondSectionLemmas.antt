@@ -9,9 +9,9 @@ use Rattle.layer_traits.specs.declared.{locked.QOut.TheVariants.Released, locked
 use Rattle.layer_traits.specs.declared.{moves.WaitList.WaitList, payloads.Parcel.Parcel, queue_edits.QueueBlock.QueueBlock, queues.QueueEvent.QueueEvent}
 use Rattle.layer_traits.specs.declared.{scheds.SchedCall.SchedCall, scheds.SchedCall.TheVariants.OnBuffer, sleeps.Outcome.Outcome}
 use Rattle.layer_traits.specs.{Conditions.CvCall, Conditions.MonitorRules, Conditions.cv_rules, CvLaw.CvPolled, CvLaw.MayWait, CvLaw.WaitOver, CvLaw.Waiting}
-use Rattle.layer_traits.specs.{CvLaw.left_reported, CvLaw.left_waiting, CvLaw.waiting_at_start, CvLaw.waiting_with, Locking.LockState, Locking.wait_list_for}
-use Rattle.layer_traits.specs.{Locking.wait_list_slept, Locking.lock_caller, Locking.owner_in, Locking.owner_of, LockLaw.IsAcquire, LockLaw.Locking}
-use Rattle.layer_traits.specs.{LockLaw.MayGo, LockLaw.MayLock, LockLaw.lock_kernel, LockLaw.slept_for, Payloads.cv_meant, Payloads.lock_meant, Plans.Left}
+use Rattle.layer_traits.specs.{CvLaw.left_reported, CvLaw.left_waiting, CvLaw.waiting_at_start, CvLaw.waiting_with, QLocking.LockState, QLocking.wait_list_for}
+use Rattle.layer_traits.specs.{QLocking.wait_list_slept, QLocking.lock_caller, QLocking.owner_in, QLocking.owner_of, QLockLaw.IsAcquire, QLockLaw.Locking}
+use Rattle.layer_traits.specs.{QLockLaw.MayGo, QLockLaw.MayLock, QLockLaw.lock_kernel, QLockLaw.slept_for, Payloads.cv_meant, Payloads.lock_meant, Plans.Left}
 use Rattle.layer_traits.specs.{QueueBlocks.inner, Queues.Kernel, Queues.buffer_sections, SleepLaw.MayCall}
 use Rattle.queuing_lock.proofs.SleptLemmas.{none_at}
 use Rattle.plain_layers.proofs.LockSectionLemmas.{After, after_polled}

@@ -8,10 +8,10 @@ use Rattle.layer_traits.specs.declared.locked.{QEdit.QEdit, QEdit.TheVariants.Ac
 use Rattle.layer_traits.specs.declared.locked.{QOut.TheVariants.Acquired, QOut.TheVariants.Queued, QOut.TheVariants.Did, QOut.TheVariants.Released}
 use Rattle.layer_traits.specs.declared.{moves.WaitList.WaitList, moves.WaitList.TheVariants.Sleepers, payloads.Parcel.Parcel, queue_edits.QueueBlock.QueueBlock}
 use Rattle.layer_traits.specs.declared.{queues.QueueCall.TheVariants.OnBuffer, queues.QueueEvent.QueueEvent, scheds.SchedCall.SchedCall, sleeps.Outcome.Outcome}
-use Rattle.layer_traits.specs.Locking.{LockRules, LockState, asked, wait_list_asked, wait_list_slept, lock_after, lock_answer, lock_caller, lock_edited}
-use Rattle.layer_traits.specs.Locking.{lock_moves, lock_out, lock_slept, owner_in, owner_of, asker_report}
-use Rattle.layer_traits.specs.{LockLaw.at_start, LockLaw.Handed, LockLaw.IsAcquire, LockLaw.LockPolled, LockLaw.Locking, LockLaw.Locks, LockLaw.MayGo}
-use Rattle.layer_traits.specs.{LockLaw.MayLock, LockLaw.left_after, LockLaw.left_locked, LockLaw.lock_kernel, LockLaw.locking, LockLaw.slept_for}
+use Rattle.layer_traits.specs.QLocking.{LockRules, LockState, asked, wait_list_asked, wait_list_slept, lock_after, lock_answer, lock_caller, lock_edited}
+use Rattle.layer_traits.specs.QLocking.{lock_moves, lock_out, lock_slept, owner_in, owner_of, asker_report}
+use Rattle.layer_traits.specs.{QLockLaw.at_start, QLockLaw.Handed, QLockLaw.IsAcquire, QLockLaw.LockPolled, QLockLaw.Locking, QLockLaw.Locks, QLockLaw.MayGo}
+use Rattle.layer_traits.specs.{QLockLaw.MayLock, QLockLaw.left_after, QLockLaw.left_locked, QLockLaw.lock_kernel, QLockLaw.locking, QLockLaw.slept_for}
 use Rattle.layer_traits.specs.{Passes.own_slept, Passes.passed_on, Payloads.lock_meant, Places.Threads, Plans.Left, QueueBlocks.homes_in, QueueBlocks.inner}
 use Rattle.layer_traits.specs.{Queues.Kernel, Queues.buffer_sections, Queues.event, Scheds.own_answered, SleepLaw.MayCall, SleepLaw.PollResult, SleepLaw.Does}
 use Rattle.layer_traits.specs.{SleepLaw.MayDo, SleepLaw.Sends, SleepLaw.Sleeping, SleepLaw.Waits, SleepLaw.left_with, SleepLaw.must_send, SleepLaw.seen_with}

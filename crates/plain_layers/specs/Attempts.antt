@@ -6,7 +6,7 @@ use Rattle.event_log.specs.{declared.ids.Tid.Tid, Messages.Message, Messages.no_
 use Rattle.thread_blocks.specs.Queues.{first, rest}
 use Rattle.layer_traits.specs.{declared.calls.Effect.Effect, declared.locked.Side.Side, declared.locked.Side.TheVariants.Receivers}
 use Rattle.layer_traits.specs.{declared.locked.Side.TheVariants.Senders, declared.moves.WaitList.WaitList, declared.sleeps.Wake.Wake, BufferBlocks.counted}
-use Rattle.layer_traits.specs.{BufferBlocks.first_item, BufferBlocks.items_put, BufferBlocks.other_items, Locking.wait_list_for, Sleeping.SleepRules}
+use Rattle.layer_traits.specs.{BufferBlocks.first_item, BufferBlocks.items_put, BufferBlocks.other_items, QLocking.wait_list_for, Sleeping.SleepRules}
 use Rattle.layer_traits.specs.{Sleeping.joined}
 use Rattle.plain_layers.specs.declared.attempts.{Ask.Ask, Ask.TheVariants.Send, Ask.TheVariants.Receive, Ask.TheVariants.Close, Attempt.Attempt, Tried.Tried}
 use Rattle.plain_layers.specs.declared.attempts.{Tried.TheVariants.Acted, Tried.TheVariants.Refused}

@@ -3,7 +3,7 @@ use Rattle.std.specs.Prelude.{◌≡◌, ◌<◌, List, length, Option, Some, No
 use Rattle.event_log.specs.declared.ids.{BufId.BufId, CpuId.CpuId, Tid.Tid}
 use Rattle.layer_traits.specs.{declared.conditions.CvOut.CvOut, declared.locked.QOut.QOut, declared.queues.QueueEvent.QueueEvent}
 use Rattle.layer_traits.specs.{declared.scheds.SchedCall.SchedCall, declared.sleeps.Outcome.Outcome, Conditions.CvCall, Conditions.MonitorRules}
-use Rattle.layer_traits.specs.{Conditions.cv_rules, CvLaw.MayCallCond, CvLaw.Waiting, Locking.LockState, Locking.lock_caller, LockLaw.slept_for, Queues.Kernel}
+use Rattle.layer_traits.specs.{Conditions.cv_rules, CvLaw.MayCallCond, CvLaw.Waiting, QLocking.LockState, QLocking.lock_caller, QLockLaw.slept_for, Queues.Kernel}
 use Rattle.plain_layers.specs.LockSections.{IsSteady}
 
 -- the part has a place for the thread, and keeps no outcome of a call by which its caller fell asleep

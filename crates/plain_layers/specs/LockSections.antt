@@ -2,8 +2,8 @@
 use Rattle.std.specs.Prelude.{◌≡◌, ◌<◌, List, length, Option, Some, None}
 use Rattle.event_log.specs.{declared.ids.BufId.BufId, declared.ids.CpuId.CpuId, declared.ids.Tid.Tid, Messages.no_message}
 use Rattle.layer_traits.specs.{declared.locked.QEdit.QEdit, declared.locked.QOut.QOut, declared.payloads.Parcel.Parcel, declared.queues.QueueEvent.QueueEvent}
-use Rattle.layer_traits.specs.{declared.scheds.SchedCall.SchedCall, declared.sleeps.Outcome.Outcome, Locking.LockRules, Locking.LockState}
-use Rattle.layer_traits.specs.{Locking.wait_list_slept, Locking.lock_caller, LockLaw.Locking, LockLaw.MayCallLock, LockLaw.slept_for, Payloads.lock_meant}
+use Rattle.layer_traits.specs.{declared.scheds.SchedCall.SchedCall, declared.sleeps.Outcome.Outcome, QLocking.LockRules, QLocking.LockState}
+use Rattle.layer_traits.specs.{QLocking.wait_list_slept, QLocking.lock_caller, QLockLaw.Locking, QLockLaw.MayCallLock, QLockLaw.slept_for, Payloads.lock_meant}
 use Rattle.layer_traits.specs.{Queues.Kernel}
 
 -- a parcel with no message, and with zeros

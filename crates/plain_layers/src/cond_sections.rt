@@ -3,7 +3,7 @@
 
 ghost use Rattle.std.specs.Prelude.{◌≡◌, ◌≢◌, ◌+◌, ◌<◌, ◌≤◌, true, Some, None, IsSome, OnSome};
 ghost use Rattle.event_log.specs.declared.ids.LockId.TheVariants.{Buffer};
-ghost use Rattle.layer_traits.specs.{Conditions.cv_rules, LockLaw.IsAcquire, LockLaw.lock_kernel, Locking.IsOwners, Locking.lock_caller, Locking.owner_of};
+ghost use Rattle.layer_traits.specs.{Conditions.cv_rules, QLockLaw.IsAcquire, QLockLaw.lock_kernel, QLocking.IsOwners, QLocking.lock_caller, QLocking.owner_of};
 ghost use Rattle.layer_traits.specs.{QueueBlocks.inner, Queues.buffer_sections, Payloads.cv_meant};
 ghost use Rattle.plain_layers.specs.declared.cond_sections.PollSection.TheVariants.{Answered, GoesOn, Sleeps};
 ghost use Rattle.plain_layers.specs.{CondSections.CondHasEnded, CondSections.MayPollCondSection, CondSections.WaitsAt, LockSections.call_alone};

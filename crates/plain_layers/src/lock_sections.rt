@@ -3,7 +3,7 @@
 
 ghost use Rattle.std.specs.Prelude.{◌≡◌, ◌≢◌, ◌+◌, ◌<◌, ◌≤◌, true, Some, None, IsSome, OnSome};
 ghost use Rattle.event_log.specs.declared.ids.LockId.TheVariants.{Buffer};
-ghost use Rattle.layer_traits.specs.{LockLaw.IsAcquire, LockLaw.lock_kernel, Locking.lock_caller, Locking.owner_of, QueueBlocks.inner, Queues.buffer_sections};
+ghost use Rattle.layer_traits.specs.{QLockLaw.IsAcquire, QLockLaw.lock_kernel, QLocking.lock_caller, QLocking.owner_of, QueueBlocks.inner, Queues.buffer_sections};
 ghost use Rattle.layer_traits.specs.{declared.locked.QEdit.TheVariants.Release};
 ghost use Rattle.plain_layers.specs.declared.lock_sections.PollSection.TheVariants.{Answered, GoesOn, Sleeps};
 ghost use Rattle.plain_layers.specs.LockSections.{LockHasEnded, MayPollLockSection, SleepsFor, call_alone};

@@ -3,7 +3,7 @@
 ghost use Rattle.std.specs.Prelude.{◌≡◌, ◌≢◌, ◌+◌, ◌*◌, ◌<◌, ◌≤◌, [], ◌∷◌, true, IsSome, IfOk};
 ghost use Rattle.event_log.specs.declared.ids.{CpuId.CpuId, Tid.Tid, LockId.TheVariants.Buffer, LockId.TheVariants.Pending, TheConstants.CPUS};
 ghost use Rattle.event_log.specs.declared.ids.{TheConstants.THREADS};
-ghost use Rattle.layer_traits.specs.{Locking.AreAtRest, QueueBlocks.homes_in, QueueBlocks.inner, Renaming.viewed};
+ghost use Rattle.layer_traits.specs.{QLocking.AreAtRest, QueueBlocks.homes_in, QueueBlocks.inner, Renaming.viewed};
 ghost use Rattle.queuing_lock.specs.Nested.{nested_lock_of};
 ghost use Rattle.plain_layers.specs.LockSections.{LockHasEnded, SleepsFor};
 ghost use Rattle.sleep_wakeup.specs.Nested.{state_of};

@@ -1,7 +1,7 @@
 -- The locks of a machine at boot: nobody owns one, and nobody sleeps.
 use Rattle.std.proofs.Common.{◌≡◌, List, Option, Some, None, map, option_map, refl, ap, sym, ◌∙◌, subst, slice_get}
 use Rattle.event_log.specs.declared.ids.{BufId.BufId, CpuId.CpuId, LockId.LockId, LockId.TheVariants.Pending, LockId.TheVariants.Buffer}
-use Rattle.layer_traits.specs.{declared.queue_edits.QueueBlock.QueueBlock, Locking.AreAtRest, Locking.IsAtRest, QueueBlocks.StartsAs, QueueBlocks.StartsWell}
+use Rattle.layer_traits.specs.{declared.queue_edits.QueueBlock.QueueBlock, QLocking.AreAtRest, QLocking.IsAtRest, QueueBlocks.StartsAs, QueueBlocks.StartsWell}
 use Rattle.layer_traits.specs.{QueueBlocks.above_of, QueueBlocks.inner, Renaming.viewed}
 use Rattle.layer_traits.proofs.KernelRenaming.{inner_viewed}
 use Rattle.sleep_wakeup.specs.{declared.edits.SleepBlock.SleepBlock, Nested.resting, Nested.state_of}

@@ -8,9 +8,9 @@ use Rattle.layer_traits.specs.declared.{locked.QOut.QOut, moves.WaitList.WaitLis
 use Rattle.layer_traits.specs.declared.{moves.WaitList.TheVariants.Senders, queue_edits.QueueBlock.QueueBlock, queues.QueueEvent.QueueEvent}
 use Rattle.layer_traits.specs.declared.{scheds.SchedCall.SchedCall, scheds.SchedCall.TheVariants.Pass, scheds.SchedCall.TheVariants.OnBuffer}
 use Rattle.layer_traits.specs.declared.{passes.Pass.Pass as PassCall, sleeps.Outcome.Outcome}
-use Rattle.layer_traits.specs.{Locking.AreAtRest, Locking.IsAtRest, Locking.LockRules, Locking.LockState, Locking.wait_list_asked, Locking.wait_list_slept}
-use Rattle.layer_traits.specs.{Locking.lock_answer, Locking.lock_edited, Locking.lock_moves, Locking.lock_out, Locking.asker_report, LockLaw.IsAcquire}
-use Rattle.layer_traits.specs.{LockLaw.lock_kernel, Places.Threads, QueueBlocks.inner, Queues.buffer_sections, Renaming.renamed_sched, Renaming.viewed}
+use Rattle.layer_traits.specs.{QLocking.AreAtRest, QLocking.IsAtRest, QLocking.LockRules, QLocking.LockState, QLocking.wait_list_asked, QLocking.wait_list_slept}
+use Rattle.layer_traits.specs.{QLocking.lock_answer, QLocking.lock_edited, QLocking.lock_moves, QLocking.lock_out, QLocking.asker_report, QLockLaw.IsAcquire}
+use Rattle.layer_traits.specs.{QLockLaw.lock_kernel, Places.Threads, QueueBlocks.inner, Queues.buffer_sections, Renaming.renamed_sched, Renaming.viewed}
 use Rattle.layer_traits.specs.{Passes.own_slept, Passes.passed_on, Plans.Left, Scheds.own_answered, SleepLaw.PollResult, SleepLaw.MayCall, SleepLaw.MayDo}
 use Rattle.layer_traits.specs.{SleepLaw.Sleeping, SleepLaw.Waits, SleepLaw.Does, SleepLaw.Sends, SleepLaw.left_with, SleepLaw.must_send, Sleeping.NobodySleeps}
 use Rattle.layer_traits.specs.{Sleeping.SleepState, Sleeping.wait_list_at}

@@ -4,9 +4,9 @@ use Rattle.event_log.specs.{declared.ids.BufId.BufId, declared.ids.CpuId.CpuId, 
 use Rattle.event_log.specs.{declared.ids.Tid.Tid, History.AreOthers, History.IsLawful, Sections.renamed_section}
 use Rattle.layer_traits.specs.{declared.locked.QEdit.QEdit, declared.locked.QEdit.TheVariants.Acquire, declared.locked.QEdit.TheVariants.Inside}
 use Rattle.layer_traits.specs.{declared.locked.QEdit.TheVariants.Release, declared.moves.WaitList.TheVariants.Sleepers}
-use Rattle.layer_traits.specs.{declared.queue_edits.QueueBlock.QueueBlock, declared.queues.QueueEvent.QueueEvent, Locking.IsOwners, Locking.LockAllowed}
-use Rattle.layer_traits.specs.{Locking.LockRules, Locking.LockState, Locking.wait_list_in, Locking.lock_after, Locking.lock_caller, Locking.owner_in}
-use Rattle.layer_traits.specs.{Locking.owner_of, LockLaw.LocksAgree, LockLaw.MayLock, LockLaw.lock_kernel, ListsAgree.is_at, Places.AreMoves, Places.Home}
+use Rattle.layer_traits.specs.{declared.queue_edits.QueueBlock.QueueBlock, declared.queues.QueueEvent.QueueEvent, QLocking.IsOwners, QLocking.LockAllowed}
+use Rattle.layer_traits.specs.{QLocking.LockRules, QLocking.LockState, QLocking.wait_list_in, QLocking.lock_after, QLocking.lock_caller, QLocking.owner_in}
+use Rattle.layer_traits.specs.{QLocking.owner_of, QLockLaw.LocksAgree, QLockLaw.MayLock, QLockLaw.lock_kernel, ListsAgree.is_at, Places.AreMoves, Places.Home}
 use Rattle.layer_traits.specs.{Places.Stands, Places.Threads, Places.home_of, Places.one_if, Places.wait_channel_of, Places.where_is, QueueBlocks.homes_in}
 use Rattle.layer_traits.specs.{QueueBlocks.inner, Queues.QueueAllowed, Queues.buffer_sections, Queues.cpu_of_queue_event, Queues.moves_in}
 use Rattle.layer_traits.specs.{Renaming.renamed_events, Renaming.viewed, Scheds.EditStays, SleepLaw.MaySleep, Sleeping.SleepState}

@@ -9,9 +9,9 @@ use Rattle.layer_traits.specs.{declared.locked.QEdit.QEdit, declared.locked.QEdi
 use Rattle.layer_traits.specs.{declared.locked.QEdit.TheVariants.Release, declared.locked.QOut.QOut, declared.passes.Pass.Pass, declared.payloads.Parcel.Parcel}
 use Rattle.layer_traits.specs.{declared.queue_edits.QueueBlock.QueueBlock, declared.queue_edits.QueueEdit.QueueEdit, declared.queues.QueueEvent.QueueEvent}
 use Rattle.layer_traits.specs.{declared.scheds.SchedAnswer.SchedAnswer, declared.scheds.SchedCall.SchedCall, declared.sleeps.Outcome.Outcome}
-use Rattle.layer_traits.specs.{ListsAgree.ListsAgree, Locking.LockRules, Locking.lock_after, Locking.lock_caller, Locking.lock_moves, Locking.lock_rules}
-use Rattle.layer_traits.specs.{LockLaw.LockPolled, LockLaw.Locking, LockLaw.MayGo, LockLaw.MayLock, LockLaw.left_after, LockLaw.left_handed}
-use Rattle.layer_traits.specs.{LockLaw.lock_pass_plan, LockLaw.lock_plan, LockLaw.locks_passed, LockLaw.HasOrAwaits, LockLaw.plan_for, LockLaw.slept_for}
+use Rattle.layer_traits.specs.{ListsAgree.ListsAgree, QLocking.LockRules, QLocking.lock_after, QLocking.lock_caller, QLocking.lock_moves, QLocking.lock_rules}
+use Rattle.layer_traits.specs.{QLockLaw.LockPolled, QLockLaw.Locking, QLockLaw.MayGo, QLockLaw.MayLock, QLockLaw.left_after, QLockLaw.left_handed}
+use Rattle.layer_traits.specs.{QLockLaw.lock_pass_plan, QLockLaw.lock_plan, QLockLaw.locks_passed, QLockLaw.HasOrAwaits, QLockLaw.plan_for, QLockLaw.slept_for}
 use Rattle.layer_traits.specs.{Payloads.lock_meant, Places.AreMoves, Places.Home, Places.Stands, Places.Threads, Places.home_of, Places.where_is, Plans.Follows}
 use Rattle.layer_traits.specs.{Plans.Left, Plans.table_of, QueueBlocks.StartsWell, QueueBlocks.homes_in, QueueBlocks.inner, QueueRules.queue_rules}
 use Rattle.layer_traits.specs.{Queues.QueueAllowed, Queues.buffer_sections, Queues.moves_in, Renaming.renamed_edit, Renaming.renamed_events}

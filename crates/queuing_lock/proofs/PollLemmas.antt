@@ -10,9 +10,9 @@ use Rattle.layer_traits.specs.declared.locked.{QOut.TheVariants.Acquired, QOut.T
 use Rattle.layer_traits.specs.{declared.moves.WaitList.TheVariants.Sleepers, declared.passes.Pass.Pass as PassCall, declared.payloads.Parcel.Parcel}
 use Rattle.layer_traits.specs.{declared.queue_edits.QueueBlock.QueueBlock, declared.queues.QueueCall.TheVariants.Push}
 use Rattle.layer_traits.specs.{declared.queues.QueueCall.TheVariants.OnBuffer, declared.queues.QueueEvent.QueueEvent, declared.scheds.SchedAnswer.SchedAnswer}
-use Rattle.layer_traits.specs.{declared.sleeps.Outcome.Outcome, Locking.LockRules, Locking.LockState, Locking.asked, Locking.wait_list_in, Locking.lock_after}
-use Rattle.layer_traits.specs.{Locking.lock_answer, Locking.lock_caller, Locking.lock_edited, Locking.lock_moves, Locking.owner_in, Locking.asker_report}
-use Rattle.layer_traits.specs.{LockLaw.HasOrAwaits, LockLaw.left_locked, LockLaw.locking, LockLaw.lock_kernel, LockLaw.slept_for, Passes.queue_for}
+use Rattle.layer_traits.specs.{declared.sleeps.Outcome.Outcome, QLocking.LockRules, QLocking.LockState, QLocking.asked, QLocking.wait_list_in, QLocking.lock_after}
+use Rattle.layer_traits.specs.{QLocking.lock_answer, QLocking.lock_caller, QLocking.lock_edited, QLocking.lock_moves, QLocking.owner_in, QLocking.asker_report}
+use Rattle.layer_traits.specs.{QLockLaw.HasOrAwaits, QLockLaw.left_locked, QLockLaw.locking, QLockLaw.lock_kernel, QLockLaw.slept_for, Passes.queue_for}
 use Rattle.layer_traits.specs.{Payloads.lock_told, Payloads.outcome_told, Places.Threads, Places.home_of, QueueBlocks.homes_in, QueueBlocks.inner}
 use Rattle.layer_traits.specs.{Queues.QueueAllowed, Queues.buffer_sections, Queues.event, Plans.Left, Scheds.SchedPolled, Scheds.events_of, Scheds.own_answered}
 use Rattle.layer_traits.specs.{Scheds.queue_call, SleepLaw.PollResult, SleepLaw.MayDo, SleepLaw.SleepPolled, SleepLaw.Sleeping, SleepLaw.Waits, SleepLaw.Does}

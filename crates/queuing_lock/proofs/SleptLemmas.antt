@@ -4,8 +4,8 @@ use Rattle.std.proofs.Common.{◌∙◌, subst}
 use Rattle.event_log.specs.{declared.ids.BufId.BufId, declared.ids.CpuId.CpuId, declared.ids.LockId.LockId, declared.ids.LockId.TheVariants.Buffer}
 use Rattle.event_log.specs.{declared.ids.Tid.Tid, History.AreOthers, History.IsLawful}
 use Rattle.layer_traits.specs.{declared.locked.QEdit.QEdit, declared.locked.QOut.QOut, declared.queue_edits.QueueBlock.QueueBlock}
-use Rattle.layer_traits.specs.{declared.queues.QueueEvent.QueueEvent, Locking.LockRules, Locking.LockState, Locking.lock_caller, LockLaw.HasOrAwaits}
-use Rattle.layer_traits.specs.{LockLaw.lock_kernel, LockLaw.slept_for, Queues.QueueAllowed, Queues.cpu_of_queue_event, SleepLaw.PollResult, SleepLaw.Waits}
+use Rattle.layer_traits.specs.{declared.queues.QueueEvent.QueueEvent, QLocking.LockRules, QLocking.LockState, QLocking.lock_caller, QLockLaw.HasOrAwaits}
+use Rattle.layer_traits.specs.{QLockLaw.lock_kernel, QLockLaw.slept_for, Queues.QueueAllowed, Queues.cpu_of_queue_event, SleepLaw.PollResult, SleepLaw.Waits}
 use Rattle.layer_traits.specs.{SleepLaw.Does, SleepLaw.Sends, SleepLaw.seen_with}
 use Rattle.queuing_lock.specs.{Laws.Steady.keeps_awaits, Laws.Steady.preserved_by, Laws.Steady.preserved_by_others, Parts.SleptFits, Parts.SleptOne}
 

@@ -4,8 +4,8 @@ use Rattle.event_log.specs.{declared.ids.LockId.LockId, declared.ids.Tid.Tid, Se
 use Rattle.layer_traits.specs.declared.locked.{QEdit.QEdit, QEdit.TheVariants.Acquire, QEdit.TheVariants.Inside, QEdit.TheVariants.Release, QOut.QOut}
 use Rattle.layer_traits.specs.declared.locked.{QOut.TheVariants.Acquired, QOut.TheVariants.Queued, QOut.TheVariants.Did, QOut.TheVariants.Released}
 use Rattle.layer_traits.specs.declared.locked.{WakeWaiter.WakeWaiter}
-use Rattle.layer_traits.specs.{declared.payloads.Parcel.Parcel, Locking.LockAllowed, Locking.LockRules, Locking.LockState, Locking.wait_list_slept}
-use Rattle.layer_traits.specs.{Locking.lock_caller, Locking.asker_report, Payloads.lock_meant, Sleeping.SleepRules, Sleeping.SleepState}
+use Rattle.layer_traits.specs.{declared.payloads.Parcel.Parcel, QLocking.LockAllowed, QLocking.LockRules, QLocking.LockState, QLocking.wait_list_slept}
+use Rattle.layer_traits.specs.{QLocking.lock_caller, QLocking.asker_report, Payloads.lock_meant, Sleeping.SleepRules, Sleeping.SleepState}
 use Rattle.layer_traits.specs.declared.sleeps.Wake.{Wake, TheVariants.Nobody, TheVariants.FirstSleeper, TheVariants.Receiver, TheVariants.Sender}
 use Rattle.queuing_lock.specs.declared.edits.{QBlock.QBlock, QLockEdit.QLockEdit}
 use Rattle.layer_traits.specs.declared.locked.WakeWaiter.TheVariants as signal

@@ -5,7 +5,7 @@ use Rattle.layer_traits.specs.declared.locked.{QEdit.QEdit, QEdit.TheVariants.Ac
 use Rattle.layer_traits.specs.declared.locked.{QOut.TheVariants.Acquired, QOut.TheVariants.Queued, QOut.TheVariants.Did, QOut.TheVariants.Released}
 use Rattle.layer_traits.specs.{declared.queue_edits.QueueBlock.QueueBlock, declared.queues.QueueEvent.QueueEvent, declared.scheds.SchedCall.SchedCall}
 use Rattle.layer_traits.specs.{declared.scheds.SchedCall.TheVariants.Pass, declared.scheds.SchedCall.TheVariants.OnBuffer, declared.sleeps.Outcome.Outcome}
-use Rattle.layer_traits.specs.{Locking.LockRules, Locking.LockState, Locking.lock_after, LockLaw.HasOrAwaits, LockLaw.IsAcquire, LockLaw.slept_for}
+use Rattle.layer_traits.specs.{QLocking.LockRules, QLocking.LockState, QLocking.lock_after, QLockLaw.HasOrAwaits, QLockLaw.IsAcquire, QLockLaw.slept_for}
 use Rattle.layer_traits.specs.{Places.home_of, QueueBlocks.homes_in, QueueBlocks.inner, Queues.buffer_sections}
 
 -- who slept for which lock after a call of t was told this: who is queued sleeps

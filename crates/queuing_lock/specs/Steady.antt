@@ -1,8 +1,8 @@
 -- What is true of a lock and stays so while other threads call.
 use Rattle.std.specs.Prelude.{◌≡◌, ◌≢◌, false, Option, Some, None}
 use Rattle.event_log.specs.declared.ids.{CpuId.CpuId, LockId.LockId, Tid.Tid}
-use Rattle.layer_traits.specs.{declared.locked.QEdit.QEdit, declared.queue_edits.QueueBlock.QueueBlock, Locking.IsOwners, Locking.LockRules, Locking.LockState}
-use Rattle.layer_traits.specs.{Locking.lock_caller, Locking.lock_edited, Locking.owner_in, Places.home_of, QueueBlocks.homes_in}
+use Rattle.layer_traits.specs.{declared.locked.QEdit.QEdit, declared.queue_edits.QueueBlock.QueueBlock, QLocking.IsOwners, QLocking.LockRules, QLocking.LockState}
+use Rattle.layer_traits.specs.{QLocking.lock_caller, QLocking.lock_edited, QLocking.owner_in, Places.home_of, QueueBlocks.homes_in}
 use Rattle.thread_blocks.specs.Queues.{is_in}
 
 -- what is true of a lock stays so by each call of the owner that another thread makes

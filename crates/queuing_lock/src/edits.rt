@@ -1,7 +1,7 @@
 //! What the calls on a queuing lock do to its block.
 
 ghost use Rattle.std.specs.Prelude.{◌≡◌};
-ghost use Rattle.layer_traits.specs.{Locking.wait_list_for, Payloads.lock_told};
+ghost use Rattle.layer_traits.specs.{QLocking.wait_list_for, Payloads.lock_told};
 ghost use Rattle.queuing_lock.specs.Nested.{busy_rules, leaving, section_meant};
 
 use event_log::Tid;

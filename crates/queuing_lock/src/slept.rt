@@ -2,7 +2,7 @@
 
 ghost use Rattle.std.specs.Prelude.{◌≡◌, ◌<◌, Some, None, is_some, replicate, slice_set, if◌then◌else◌};
 ghost use Rattle.event_log.specs.declared.ids.TheConstants.{THREADS};
-ghost use Rattle.layer_traits.specs.LockLaw.{slept_for};
+ghost use Rattle.layer_traits.specs.QLockLaw.{slept_for};
 ghost use Rattle.queuing_lock.specs.Parts.{asks_again, slept_left_by, reported_by};
 
 use event_log::{BufId, THREADS, Tid};

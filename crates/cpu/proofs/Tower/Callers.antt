@@ -4,7 +4,7 @@ use Rattle.std.proofs.lemmas.List.{length-set}
 use Rattle.event_log.specs.declared.{entries.Entry.Entry, ids.BufId.BufId, ids.CpuId.CpuId, ids.Tid.Tid}
 use Rattle.guest.specs.State.{State}
 use Rattle.layer_traits.specs.{declared.calls.Call.Call, declared.calls.Effect.Effect, declared.call_states.Stage.Stage}
-use Rattle.layer_traits.specs.{declared.call_states.CallState.CallState, BufferLaw.Buffering, LockLaw.slept_for}
+use Rattle.layer_traits.specs.{declared.call_states.CallState.CallState, BufferLaw.Buffering, QLockLaw.slept_for}
 use Rattle.cpu.specs.{Table.Setups.Setup, Tower.Privates.threads_in}
 
 -- thread t runs: the CPU's part but for its hand and the answer that it keeps, and the guests, where the thread has a call state and a guest

@@ -12,13 +12,13 @@ use Rattle.layer_traits.specs.declared.{buffer_edits.BufferOut.BufferOut, call_s
 use Rattle.layer_traits.specs.{BufferProtocol.buffer_rules, BufferLaw.BufferPlan, BufferLaw.Buffering, BufferLaw.buffer_of, BufferLaw.chained}
 use Rattle.layer_traits.specs.{BufferLaw.fifo_plan, BufferLaw.going, BufferLaw.left_recorded, BufferLaw.plan_at, BufferLaw.plan_of, BufferLaw.plan_on}
 use Rattle.layer_traits.specs.{BufferLaw.no_call, BufferLaw.side_of as tower_side, BufferLaw.call_state_of, Conditions.CvCall, CvLaw.Waiting, CvLaw.cv_plan}
-use Rattle.layer_traits.specs.{CvLaw.cv_plan_for, CvLaw.left_waiting, LockLaw.plan_for, LockLaw.slept_for, Locking.lock_moves, Plans.Plan, Plans.raised}
+use Rattle.layer_traits.specs.{CvLaw.cv_plan_for, CvLaw.left_waiting, QLockLaw.plan_for, QLockLaw.slept_for, QLocking.lock_moves, Plans.Plan, Plans.raised}
 use Rattle.layer_traits.specs.declared.call_states.Stage.TheVariants.{Acquires, Enters, Tries, Waits, AcquiresAgain, Signals, SignalsOwn, Releases}
 use Rattle.cpu.specs.{Table.Setups.Setup, Tower.Views.TowerAnswer, Tower.Views.TowerName, Tower.Views.TowerOut, Tower.Composed.IsLine, Tower.Composed.IsLined}
 use Rattle.cpu.specs.Tower.Privates.{guest_at, guests_after, private_after, private_of, thread_from, tid, trace_after}
-use Rattle.cpu.proofs.Tower.{Callers.Caller, Callers.Runner, Callers.Site, Callers.at_next, Callers.awake, Callers.call_state_at, Numbered.changed}
-use Rattle.cpu.proofs.Tower.{Numbered.goes, Numbered.own_at, Numbered.part_at, Numbered.parts, Numbered.threads_at, Lines.HasHad, Lines.after, Lines.e}
-use Rattle.cpu.proofs.Tower.{Lines.from, Lines.g, Lines.own, Lines.call_state, Lines.threads, Lines.with_call, Lines.k}
+use Rattle.cpu.proofs.Tower.{Callers.Caller, Callers.Runner, Callers.Site, Callers.at_next, Callers.awake, Callers.call_state_at, ChangedThread.changed}
+use Rattle.cpu.proofs.Tower.{ChangedThread.goes, ChangedThread.own_at, ChangedThread.part_at, ChangedThread.parts, ChangedThread.threads_at, SectionLines.HasHad, SectionLines.after, SectionLines.e}
+use Rattle.cpu.proofs.Tower.{SectionLines.from, SectionLines.g, SectionLines.own, SectionLines.call_state, SectionLines.threads, SectionLines.with_call, SectionLines.k}
 use Rattle.cpu.proofs.Tower.Composition.{asks_line, asks_again_line, enters_line, tries_line, waits_line, signals_line, own_signals_line, releases_line}
 
 -- the plan of a poll of this call is a line of the table

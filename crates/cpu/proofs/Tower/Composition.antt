@@ -10,19 +10,19 @@ use Rattle.layer_traits.specs.declared.{conditions.CvEdit.TheVariants.Edit, cond
 use Rattle.layer_traits.specs.declared.{conditions.CvLeave.TheVariants.Wait, conditions.CvOut.CvOut, buffer_edits.BufferOut.BufferOut}
 use Rattle.layer_traits.specs.declared.{call_states.CallState.CallState, call_states.Stage.Stage}
 use Rattle.layer_traits.specs.declared.buffer_edits.BufferOut.TheVariants.{Entered, NotYet, Done, WasShut}
-use Rattle.layer_traits.specs.{BufferBlocks.BufferState, BufferBlocks.buffer_answer, BufferProtocol.buffer_rules, CvLaw.Waiting, LockLaw.slept_for}
-use Rattle.layer_traits.specs.{Locking.LockState, Locking.wait_list_asked, Locking.lock_answer, Locking.asker_report, Plans.Left, Plans.Plan, Plans.raised}
+use Rattle.layer_traits.specs.{BufferBlocks.BufferState, BufferBlocks.buffer_answer, BufferProtocol.buffer_rules, CvLaw.Waiting, QLockLaw.slept_for}
+use Rattle.layer_traits.specs.{QLocking.LockState, QLocking.wait_list_asked, QLocking.lock_answer, QLocking.asker_report, Plans.Left, Plans.Plan, Plans.raised}
 use Rattle.layer_traits.specs.BufferLaw.{BufferPlan, Buffering, at_stage, chained, buffer_of, entry_of, plan_on, first_of, left_recorded, other_side, plan_at}
 use Rattle.layer_traits.specs.BufferLaw.{plan_of, reply_of, side_of as tower_side, call_state_of, try_of}
 use Rattle.cpu.specs.Table.{Blocks.Position, Blocks.effect_of, Setups.Private, Setups.program_of, Choice.after_section, Choice.settled, Choice.slept_if}
 use Rattle.layer_traits.specs.declared.call_states.Stage.TheVariants.{Idle, Acquires, Enters, Tries, Waits, AcquiresAgain, Signals, SignalsOwn, Releases}
 use Rattle.cpu.specs.Tower.{Views.TowerAnswer, Views.TowerName, Views.TowerOut, Views.answer_view, Privates.asks_in, Privates.call_from, Privates.message_of}
 use Rattle.cpu.specs.Tower.{Composed.HandIsKnown, Composed.IsLine, Composed.IsLined}
-use Rattle.cpu.proofs.Tower.{Numbered.own_at, Numbered.parts, Callers.Site}
-use Rattle.cpu.proofs.Tower.Lines.{HasHad, IsShutting, Draws, Shuts, Tried, thread_of_first, first_name, first_answer, thread_of_try, try_name, try_answer}
-use Rattle.cpu.proofs.Tower.Lines.{wait_name, signal_name, own_signal_name, reply_guest, entry_recorded, shut_recorded, try_recorded, effect_by, shut_effect}
-use Rattle.cpu.proofs.Tower.Lines.{own, g, e, threads, call_state, k, from, after, runs_on, sleeps_now, waits_now, beneath_is, fresh, react, line, lift, waking}
-use Rattle.cpu.proofs.Tower.Lines.{by_home, stands, by_table, stays_so, has_returned}
+use Rattle.cpu.proofs.Tower.{ChangedThread.own_at, ChangedThread.parts, Callers.Site}
+use Rattle.cpu.proofs.Tower.SectionLines.{HasHad, IsShutting, Draws, Shuts, Tried, thread_of_first, first_name, first_answer, thread_of_try, try_name, try_answer}
+use Rattle.cpu.proofs.Tower.SectionLines.{wait_name, signal_name, own_signal_name, reply_guest, entry_recorded, shut_recorded, try_recorded, effect_by, shut_effect}
+use Rattle.cpu.proofs.Tower.SectionLines.{own, g, e, threads, call_state, k, from, after, runs_on, sleeps_now, waits_now, beneath_is, fresh, react, line, lift, waking}
+use Rattle.cpu.proofs.Tower.SectionLines.{by_home, stands, by_table, stays_so, has_returned}
 use Rattle.layer_traits.specs.declared.locked.QOut.TheVariants as lock
 use Rattle.layer_traits.specs.declared.conditions.CvOut.TheVariants as cv
 use Rattle.layer_traits.specs.declared.queues.QueueAnswer.TheVariants as told

@@ -1,13 +1,13 @@
 -- The plan of every poll of a begun call is a line of the table.
 use Rattle.std.proofs.Common.{◌≡◌, slice_get, Option, Some, IsSome, refl, sym, subst}
 use Rattle.event_log.specs.declared.ids.{BufId.BufId, Tid.Tid}
-use Rattle.layer_traits.specs.{declared.calls.Effect.Effect, declared.call_states.Stage.Stage, declared.call_states.CallState.CallState, LockLaw.slept_for}
+use Rattle.layer_traits.specs.{declared.calls.Effect.Effect, declared.call_states.Stage.Stage, declared.call_states.CallState.CallState, QLockLaw.slept_for}
 use Rattle.layer_traits.specs.{BufferLaw.call_state_of}
 use Rattle.cpu.specs.Tower.{Views.TowerOut, Privates.threads_in}
 use Rattle.cpu.specs.Tower.Composed.{FitsStage, PlansAreLines, Stands, asks, was_handed, enters, tries, waits, was_woken, asks_again, was_handed_again, signals}
 use Rattle.cpu.specs.Tower.Composed.{signals_own, releases, has_signalled, has_signalled_own, has_released}
-use Rattle.cpu.proofs.Tower.{Callers.Caller, Callers.HasRoom, Callers.awake, Callers.caller_in, Callers.call_state_at, Numbered.own_at}
-use Rattle.cpu.proofs.Tower.{Sends.has_signalled_line, Sends.has_signalled_own_line, Sends.has_released_line}
+use Rattle.cpu.proofs.Tower.{Callers.Caller, Callers.HasRoom, Callers.awake, Callers.caller_in, Callers.call_state_at, ChangedThread.own_at}
+use Rattle.cpu.proofs.Tower.{HandLines.has_signalled_line, HandLines.has_signalled_own_line, HandLines.has_released_line}
 use Rattle.cpu.proofs.Tower.Chains.{LineOf, site_asks, site_enters, site_tries, site_waits, site_asks_again, site_signals, site_own_signals, site_releases}
 use Rattle.cpu.proofs.Tower.Chains.{handed_line, handed_again_line, woken_line}
 

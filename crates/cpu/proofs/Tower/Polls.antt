@@ -15,7 +15,7 @@ use Rattle.cpu.specs.Table.{Steps.acting, Steps.acting_on, Steps.after_reply, St
 use Rattle.cpu.specs.Table.Choice.{Alone, Choice, Goes, Halts, Ask, asked, at_call, at_current, at_hand, at_ready, choice}
 use Rattle.cpu.specs.Tower.{Views.TowerBlock, Views.TowerName, Views.answer_view, Views.name_of, Views.tower, Views.view, Composed.HaltsExactly}
 use Rattle.cpu.specs.Tower.{Composed.HandIsKnown, Composed.IsKind, Composed.answer_of, Composed.named}
-use Rattle.cpu.proofs.Tower.{Polled.Polled, Polled.Way, Viewed.tables_agree}
+use Rattle.cpu.proofs.Tower.{PolledSystem.Polled, PolledSystem.Way, SectionViews.tables_agree}
 use Rattle.layer_traits.specs.declared.queue_edits.QueueBlock.TheVariants as block
 use Rattle.layer_traits.specs.declared.queue_edits.QueueEdit.TheVariants as queue
 

@@ -15,7 +15,7 @@ use Rattle.cpu.specs.{Table.Blocks.side_of, Table.Setups.Setup, Table.Setups.Cal
 use Rattle.cpu.specs.{Table.Setups.thread_at, Table.Setups.with_thread, Table.Setups.home_of, Table.Choice.slept_if, Table.Choice.woken, Wakeups.Order.Progress}
 use Rattle.cpu.specs.{Wakeups.Order.Begins, Wakeups.Order.HasEntered, Wakeups.Order.WasRefused, Wakeups.Order.Owes}
 use Rattle.layer_traits.specs.declared.call_states.Stage.TheVariants.{Idle, Acquires, Enters, Tries, Waits, AcquiresAgain, Signals, SignalsOwn, Releases}
-use Rattle.cpu.proofs.Wakeups.{Lists.refuted, Posts.Waiting, Posts.Visit, Posts.Outside, Posts.In, Posts.post_by, Posts.post_woken, Posts.is_local}
+use Rattle.cpu.proofs.Wakeups.{Lists.refuted, PostsAndVisits.Waiting, PostsAndVisits.Visit, PostsAndVisits.Outside, PostsAndVisits.In, PostsAndVisits.post_by, PostsAndVisits.post_woken, PostsAndVisits.is_local}
 
 -- once the other side is signalled, the own side is owed its signal
 abbrev pub owing_own : Side → Progress

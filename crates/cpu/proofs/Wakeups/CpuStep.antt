@@ -18,13 +18,13 @@ use Rattle.cpu.specs.{Table.Steps.after_reply, Wakeups.Order.block_of, Wakeups.O
 use Rattle.layer_traits.specs.declared.call_states.Stage.TheVariants.{Idle, Acquires, Enters, Tries, Waits, AcquiresAgain, Signals, SignalsOwn, Releases}
 use Rattle.cpu.specs.Table.Choice.{Ask, at_pending, at_buffer, section_at, first_section, try_of, first_signal, second_signal, asked_by, asked_at, asked_in}
 use Rattle.cpu.specs.Table.Choice.{asked, with_guest, settled, after_call, after_by, after_at, after_in}
-use Rattle.cpu.proofs.Wakeups.{Lists.refuted, Pairs.woken_sleeps, Called.Good, Called.Moves, Called.was_woken, Called.has_slept, Called.stays, Called.moves_at}
-use Rattle.cpu.proofs.Wakeups.{Called.CallersAre, Called.callers_are, Called.is_the_caller, Called.sleeps_not_home, Agreement.owing_own}
+use Rattle.cpu.proofs.Wakeups.{Lists.refuted, ThreadAtBuffer.woken_sleeps, BuffersAndThreads.Good, BuffersAndThreads.Moves, BuffersAndThreads.was_woken, BuffersAndThreads.has_slept, BuffersAndThreads.stays, BuffersAndThreads.moves_at}
+use Rattle.cpu.proofs.Wakeups.{BuffersAndThreads.CallersAre, BuffersAndThreads.callers_are, BuffersAndThreads.is_the_caller, BuffersAndThreads.sleeps_not_home, Agreement.owing_own}
 use Rattle.cpu.proofs.Wakeups.{Agreement.visit_of_stage, Agreement.visit_of_call, Agreement.is_last, Agreement.is_done, Agreement.Agrees, Agreement.IsSettled}
-use Rattle.cpu.proofs.Wakeups.{Agreement.runs, Agreement.within, Sits.IsCalling, Sits.section_caller, Sits.agrees_call, Sits.agrees_pended, Sits.agrees_drained}
-use Rattle.cpu.proofs.Wakeups.{Sits.agrees_yielded, Sits.guest_calls, Sits.agrees_foreign, Sits.drained_hand}
-use Rattle.cpu.proofs.Wakeups.Posts.{In, sleeps_at, caller_in, is_caller, post_by, post_drained, post_pending, post_buffer, post, next_visit, visit_moved}
-use Rattle.cpu.proofs.Wakeups.Posts.{visit_buffer, visit, IsDue, is_local, IsCallers, MayComeBy, MayComeTo, MayComeAt, MayCome}
+use Rattle.cpu.proofs.Wakeups.{Agreement.runs, Agreement.within, SectionsAgree.IsCalling, SectionsAgree.section_caller, SectionsAgree.agrees_call, SectionsAgree.agrees_pended, SectionsAgree.agrees_drained}
+use Rattle.cpu.proofs.Wakeups.{SectionsAgree.agrees_yielded, SectionsAgree.guest_calls, SectionsAgree.agrees_foreign, SectionsAgree.drained_hand}
+use Rattle.cpu.proofs.Wakeups.PostsAndVisits.{In, sleeps_at, caller_in, is_caller, post_by, post_drained, post_pending, post_buffer, post, next_visit, visit_moved}
+use Rattle.cpu.proofs.Wakeups.PostsAndVisits.{visit_buffer, visit, IsDue, is_local, IsCallers, MayComeBy, MayComeTo, MayComeAt, MayCome}
 
 -- The locks' blocks are of their kinds.
 

@@ -11,9 +11,9 @@ use Rattle.layer_traits.specs.Places.{Where, Home, Hand, Pend as IsPending, Asle
 use Rattle.cpu.specs.{Table.Blocks.Buffer, Table.Blocks.Block, Table.Blocks.OfBuffer, Table.Blocks.OfPending, Table.Blocks.Name, Table.Blocks.WaitOn}
 use Rattle.cpu.specs.{Table.Blocks.Pend, Table.Blocks.TakeAll, Table.Edits.edited, Table.Edits.answer_of_buffer, Table.Setups.Setup, Table.Setups.home_of}
 use Rattle.cpu.specs.{Table.Setups.opening_buffer, Wakeups.Order.block_of}
-use Rattle.cpu.proofs.Wakeups.Posts.{Waiting, Visit, Outside, list_of, is_caller, waiters_of, post_by, post_woken, post_drained, post_pending, post_buffer}
-use Rattle.cpu.proofs.Wakeups.Posts.{post, next_visit, visit_buffer, visit, MayComeTo, MayComeAt}
-use Rattle.cpu.proofs.Wakeups.Called.{CallersAre, callers_are, is_the_caller}
+use Rattle.cpu.proofs.Wakeups.PostsAndVisits.{Waiting, Visit, Outside, list_of, is_caller, waiters_of, post_by, post_woken, post_drained, post_pending, post_buffer}
+use Rattle.cpu.proofs.Wakeups.PostsAndVisits.{post, next_visit, visit_buffer, visit, MayComeTo, MayComeAt}
+use Rattle.cpu.proofs.Wakeups.BuffersAndThreads.{CallersAre, callers_are, is_the_caller}
 use Rattle.layer_traits.specs.declared.moves.WaitList.TheVariants as wait_list
 
 -- what a waiting list says of the visit of a thread that sleeps in it

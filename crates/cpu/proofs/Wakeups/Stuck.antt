@@ -21,12 +21,12 @@ use Rattle.cpu.specs.{Table.Setups.Private, Table.Setups.thread_at, Table.Setups
 use Rattle.cpu.specs.{Table.Steps.block_at, Table.Steps.halted_by, Table.Steps.halted_at, Wakeups.Order.Progress, Wakeups.Order.progress, Wakeups.Lost.Allows}
 use Rattle.cpu.specs.{Wakeups.Lost.NoWakeUpIsLost, Wakeups.Quiet.HomesExist, Wakeups.Quiet.IsQuietBy, Wakeups.Quiet.IsQuiet, Wakeups.Quiet.IsNextEffect}
 use Rattle.cpu.specs.{Wakeups.Quiet.IsStuckCall, Wakeups.Quiet.IsLive, Wakeups.Quiet.IsStuck, Wakeups.Quiet.QuietIsStuck}
-use Rattle.cpu.proofs.Wakeups.{Lists.refuted, Ordered.buffer_awake, Ordered.calm_loses_nothing, Posts.Waiting, Posts.Visit, Posts.Outside, Posts.In}
-use Rattle.cpu.proofs.Wakeups.{Posts.list_of, Posts.sleeps_in, Posts.is_side, Posts.is_pending, Posts.names, Posts.goes_on, Posts.starts_here, Posts.stands}
-use Rattle.cpu.proofs.Wakeups.{Posts.is_lined, Posts.is_local, Posts.post, Posts.visit, Posts.marked, Pairs.Pair, Pairs.buffer_self, Pairs.buffer_true}
-use Rattle.cpu.proofs.Wakeups.{Pairs.sleeps_here, Pairs.marked_some, Pairs.front_counted, Called.Good, Placed.IsListed, Placed.IsPlaced, Placed.HasHome}
+use Rattle.cpu.proofs.Wakeups.{Lists.refuted, Ordered.buffer_awake, Ordered.calm_loses_nothing, PostsAndVisits.Waiting, PostsAndVisits.Visit, PostsAndVisits.Outside, PostsAndVisits.In}
+use Rattle.cpu.proofs.Wakeups.{PostsAndVisits.list_of, PostsAndVisits.sleeps_in, PostsAndVisits.is_side, PostsAndVisits.is_pending, PostsAndVisits.names, PostsAndVisits.goes_on, PostsAndVisits.starts_here, PostsAndVisits.stands}
+use Rattle.cpu.proofs.Wakeups.{PostsAndVisits.is_lined, PostsAndVisits.is_local, PostsAndVisits.post, PostsAndVisits.visit, PostsAndVisits.marked, ThreadAtBuffer.Pair, ThreadAtBuffer.buffer_self, ThreadAtBuffer.buffer_true}
+use Rattle.cpu.proofs.Wakeups.{ThreadAtBuffer.sleeps_here, ThreadAtBuffer.marked_some, ThreadAtBuffer.front_counted, BuffersAndThreads.Good, Placed.IsListed, Placed.IsPlaced, Placed.HasHome}
 use Rattle.cpu.proofs.Wakeups.{Placed.listed_side, Placed.buffer_there, Agreement.owing_own, Agreement.visit_of_stage, Agreement.visit_of_call, Agreement.seat}
-use Rattle.cpu.proofs.Wakeups.{Agreement.Agrees, Says.is_before, Says.HasLine, Says.FitsGroup, Says.Says, Reaching.fair_good, SystemInv.SystemInv}
+use Rattle.cpu.proofs.Wakeups.{Agreement.Agrees, EndedThreads.is_before, EndedThreads.HasLine, EndedThreads.FitsGroup, EndedThreads.Says, ReachedStates.fair_good, SystemInv.SystemInv}
 use Rattle.cpu.proofs.Wakeups.{SystemInv.reached_inv, SystemInv.cpu_there}
 use Rattle.layer_traits.specs.declared.moves.WaitList.TheVariants as wait_list
 

@@ -8,9 +8,9 @@ use Rattle.layer_traits.specs.{declared.steps.Step.Step, declared.steps.Step.The
 use Rattle.cpu.specs.Table.{Blocks.Name, Setups.Setup, Setups.Private, Setups.thread_at, Setups.at_boot, Choice.Choice, Choice.Halts, Choice.Alone, Choice.Goes}
 use Rattle.cpu.specs.Table.{Choice.choice, Steps.chosen, Steps.step_in, Steps.cpu_step, Steps.Whole, Steps.cpu_numbered, Steps.boots_from, Steps.whole_at_boot}
 use Rattle.cpu.specs.Table.{Steps.whole_after, Steps.roomy, Steps.answered_by, Steps.step_at, Steps.system_step, Steps.IsReached, Steps.boots, Steps.steps}
-use Rattle.cpu.proofs.Wakeups.{Posts.post, Posts.visit, Placed.Placed, Placed.placed_none, Placed.placed_at, Agreement.Agrees, Agreement.runs, Agreement.within}
-use Rattle.cpu.proofs.Wakeups.{Chosen.ChoiceOk, Chosen.choice_ok, Says.AllFine, Says.fine_at_boot, Says.FineChoice, Says.fine_choice, Says.fine_acting}
-use Rattle.cpu.proofs.Wakeups.Reaching.{IsFairLog, Ok, StepOk, step_ok, AllDo, Sound, sound_step, reached_sound, get_set, get_set_other, boots_at}
+use Rattle.cpu.proofs.Wakeups.{PostsAndVisits.post, PostsAndVisits.visit, Placed.Placed, Placed.placed_none, Placed.placed_at, Agreement.Agrees, Agreement.runs, Agreement.within}
+use Rattle.cpu.proofs.Wakeups.{ChosenSteps.ChoiceOk, ChosenSteps.choice_ok, EndedThreads.AllFine, EndedThreads.fine_at_boot, EndedThreads.FineChoice, EndedThreads.fine_choice, EndedThreads.fine_acting}
+use Rattle.cpu.proofs.Wakeups.ReachedStates.{IsFairLog, Ok, StepOk, step_ok, AllDo, Sound, sound_step, reached_sound, get_set, get_set_other, boots_at}
 
 -- what a step of a system leaves: the same, or the state after its CPU's step
 pub data NextIs (setup : Setup) (c : CpuId) (s : Whole) : Whole → Type 0 where

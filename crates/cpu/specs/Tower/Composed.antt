@@ -5,7 +5,7 @@ use Rattle.event_log.specs.{declared.entries.Entry.Entry, Actions.Action, Action
 use Rattle.event_log.specs.declared.ids.{BufId.BufId, CpuId.CpuId, LockId.LockId, LockId.TheVariants.Pending, LockId.TheVariants.Buffer, Tid.Tid}
 use Rattle.guest.specs.{declared.instructions.Instruction.Instruction, State.State, State.next_of, State.message_from}
 use Rattle.layer_traits.specs.{declared.calls.Call.Call, declared.calls.Effect.Effect, declared.conditions.CvOut.CvOut}
-use Rattle.layer_traits.specs.{declared.buffer_edits.BufferOut.BufferOut, declared.locked.QOut.QOut, declared.call_states.Stage.Stage, LockLaw.slept_for}
+use Rattle.layer_traits.specs.{declared.buffer_edits.BufferOut.BufferOut, declared.locked.QOut.QOut, declared.call_states.Stage.Stage, QLockLaw.slept_for}
 use Rattle.layer_traits.specs.{Plans.Left, Plans.Plan, Plans.Act, Plans.is_in_section, BufferLaw.Buffering, BufferLaw.fifo_plan, BufferLaw.call_state_of}
 use Rattle.layer_traits.specs.declared.steps.{Reason.Reason, Step.Step, Step.TheVariants.Stepped, Step.TheVariants.Halted}
 use Rattle.layer_traits.specs.declared.call_states.Stage.TheVariants.{Idle, Acquires, Enters, Tries, Waits, AcquiresAgain, Signals, SignalsOwn, Releases}

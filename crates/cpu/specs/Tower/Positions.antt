@@ -1,7 +1,7 @@
 -- How all threads stand to a CPU's part between its polls.
 use Rattle.std.specs.Prelude.{◌≡◌, false, Option, Some, None, length}
 use Rattle.event_log.specs.declared.ids.{BufId.BufId, Tid.Tid, TheConstants.THREADS}
-use Rattle.layer_traits.specs.{declared.calls.Effect.Effect, declared.call_states.Stage.Stage, declared.call_states.Stage.TheVariants.Idle, LockLaw.slept_for}
+use Rattle.layer_traits.specs.{declared.calls.Effect.Effect, declared.call_states.Stage.Stage, declared.call_states.Stage.TheVariants.Idle, QLockLaw.slept_for}
 use Rattle.layer_traits.specs.{Places.is_thread, BufferLaw.Buffering, BufferLaw.call_state_of}
 use Rattle.cpu.specs.Tower.{Views.TowerOut, Privates.threads_in, Composed.Stands, Composed.FitsStage}
 

@@ -6,7 +6,7 @@ use Rattle.event_log.specs.{Messages.Message, Messages.no_message, Runs.Group, R
 use Rattle.guest.specs.State.{State, at_start, next_of, after_yield}
 use Rattle.thread_blocks.specs.Queues.{is_in}
 use Rattle.layer_traits.specs.{declared.calls.Call.Call as TowerCall, declared.calls.Effect.Effect, declared.calls.Reply.Reply, declared.passes.Pass.Pass}
-use Rattle.layer_traits.specs.{declared.call_states.Stage.Stage, declared.call_states.CallState.CallState, LockLaw.slept_for, Places.Threads, Places.is_thread}
+use Rattle.layer_traits.specs.{declared.call_states.Stage.Stage, declared.call_states.CallState.CallState, QLockLaw.slept_for, Places.Threads, Places.is_thread}
 use Rattle.layer_traits.specs.{Plans.Left, BufferLaw.Buffering, BufferLaw.begun_at, BufferLaw.buffer_of, BufferLaw.entry_of, BufferLaw.going}
 use Rattle.layer_traits.specs.{BufferLaw.call_state_of}
 use Rattle.layer_traits.specs.declared.call_states.Stage.TheVariants.{Idle, Acquires, Enters, Tries, Waits, AcquiresAgain, Signals, SignalsOwn, Releases}

@@ -7,8 +7,8 @@ use Rattle.layer_traits.specs.declared.{conditions.CvEdit.TheVariants.Edit, cond
 use Rattle.layer_traits.specs.declared.{conditions.CvLeave.TheVariants.Wait, conditions.CvOut.CvOut, buffer_edits.BufferEdit.BufferEdit}
 use Rattle.layer_traits.specs.declared.{buffer_edits.BufferOut.BufferOut, queue_edits.QueueBlock.QueueBlock, queue_edits.QueueEdit.QueueEdit}
 use Rattle.layer_traits.specs.declared.{queues.QueueAnswer.QueueAnswer, sleeps.Outcome.Outcome}
-use Rattle.layer_traits.specs.{BufferBlocks.BufferState, BufferProtocol.buffer_rules, Conditions.CvCall, Locking.LockState, Locking.lock_moves}
-use Rattle.layer_traits.specs.{Locking.lock_rules, Plans.Table, Plans.table_of, QueueRules.queue_rules}
+use Rattle.layer_traits.specs.{BufferBlocks.BufferState, BufferProtocol.buffer_rules, Conditions.CvCall, QLocking.LockState, QLocking.lock_moves}
+use Rattle.layer_traits.specs.{QLocking.lock_rules, Plans.Table, Plans.table_of, QueueRules.queue_rules}
 use Rattle.cpu.specs.Table.Blocks.{Buffer, Block, OfBuffer, OfPending, Name, AcqQ, Enter, TryPut, TryTake, Shut, WaitOn, SigRecv, SigSend, RelQ, Pend, TakeAll}
 use Rattle.cpu.specs.Table.Blocks.{Reported, Nothing, Position, Done, WasClosed, DidShut, NotYet, Drained, Answer}
 use Rattle.cpu.specs.Table.Edits.{edited, answer, reports}

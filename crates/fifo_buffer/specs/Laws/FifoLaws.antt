@@ -8,8 +8,8 @@ use Rattle.layer_traits.specs.{declared.buffer_edits.BufferEdit.BufferEdit, decl
 use Rattle.layer_traits.specs.{declared.queue_edits.QueueBlock.QueueBlock, declared.scheds.SchedCall.SchedCall, declared.call_states.CallState.CallState}
 use Rattle.layer_traits.specs.{BufferEffects.MayTakeEffect, BufferEffects.effects_in, BufferEffects.fresh_lock, BufferEffects.opening_locks}
 use Rattle.layer_traits.specs.{BufferProtocol.BufferLock, BufferProtocol.BufferSection, BufferProtocol.buffer_monitor_rules, Conditions.CvCall}
-use Rattle.layer_traits.specs.{Conditions.cv_rules, CvLaw.Waiting, IpcLaw.WaitListsAgree, ListsAgree.is_at, LockLaw.LocksAgree, LockLaw.lock_kernel}
-use Rattle.layer_traits.specs.{Locking.wait_list_in, Locking.lock_after, Locking.lock_edited, Places.Asleep, Places.At, Places.count_in, Places.one_if}
+use Rattle.layer_traits.specs.{Conditions.cv_rules, CvLaw.Waiting, IpcLaw.WaitListsAgree, ListsAgree.is_at, QLockLaw.LocksAgree, QLockLaw.lock_kernel}
+use Rattle.layer_traits.specs.{QLocking.wait_list_in, QLocking.lock_after, QLocking.lock_edited, Places.Asleep, Places.At, Places.count_in, Places.one_if}
 use Rattle.layer_traits.specs.{Places.wait_channel_of, Places.where_is, QueueBlocks.homes_in, QueueBlocks.inner, Queues.QueueAllowed, Queues.buffer_sections}
 use Rattle.layer_traits.specs.{Queues.moves_in}
 use Rattle.layer_traits.proofs.ListsLemmas.{wait_channel_here}

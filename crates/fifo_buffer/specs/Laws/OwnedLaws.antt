@@ -10,7 +10,7 @@ use Rattle.layer_traits.specs.{declared.queues.QueueCall.QueueCall, declared.que
 use Rattle.layer_traits.specs.{declared.queues.QueueCall.TheVariants.OnBuffer, Acted.BufferActs, Acted.ItemsAre, BufferEffects.contents_of, BufferEffects.drawn}
 use Rattle.layer_traits.specs.{BufferEffects.effect_of, BufferEffects.effects_in, BufferEffects.fresh_lock, BufferProtocol.BufferLock}
 use Rattle.layer_traits.specs.{BufferProtocol.BufferSection, BufferProtocol.buffer_at, BufferProtocol.buffer_monitor_rules, Conditions.CvCall}
-use Rattle.layer_traits.specs.{Conditions.cv_rules, LockLaw.lock_kernel, Locking.wait_list_in, Locking.lock_after, Locking.lock_edited, Locking.owner_in}
+use Rattle.layer_traits.specs.{Conditions.cv_rules, QLockLaw.lock_kernel, QLocking.wait_list_in, QLocking.lock_after, QLocking.lock_edited, QLocking.owner_in}
 use Rattle.layer_traits.specs.{Owned.IsObserved, Protocol.section, QueueBlocks.StartsWell, QueueBlocks.above_of, QueueBlocks.inner, QueueRules.AreProper}
 use Rattle.layer_traits.specs.{Queues.IsKnownEvent, Queues.QueueAllowed, Queues.buffer_sections, Queues.event_of, Queues.with_section, Observed.IsObservedAs}
 use Rattle.layer_traits.proofs.{ActedLemmas.lock_is, OwnedLemmas.shown_under, OwnedLemmas.observed_as, OwnedLemmas.viewed_shown}

@@ -20,8 +20,8 @@ use Rattle.layer_traits.specs.{BufferBlocks.effect_kind, BufferBlocks.empty_bloc
 use Rattle.layer_traits.specs.{BufferBlocks.is_next, BufferBlocks.line_of, BufferBlocks.may_join, BufferBlocks.drawn_of, BufferBlocks.put_in, BufferBlocks.shut}
 use Rattle.layer_traits.specs.{BufferBlocks.taken_out, BufferEffects.MayTakeEffect, BufferEffects.contents_of, BufferEffects.drawn, BufferEffects.effect_of}
 use Rattle.layer_traits.specs.{BufferEffects.effect_on, BufferEffects.effects_in, BufferEffects.entry, BufferEffects.fresh_lock, BufferEffects.is_enter}
-use Rattle.layer_traits.specs.{BufferEffects.opening_locks, BufferEffects.drawn_in, Conditions.CvCall, Conditions.cv_rules, LockLaw.lock_kernel, Locking.asked}
-use Rattle.layer_traits.specs.{Locking.lock_edited, Protocol.section, QueueBlocks.inner, Queues.QueueAllowed, Queues.buffer_sections, Queues.with_section}
+use Rattle.layer_traits.specs.{BufferEffects.opening_locks, BufferEffects.drawn_in, Conditions.CvCall, Conditions.cv_rules, QLockLaw.lock_kernel, QLocking.asked}
+use Rattle.layer_traits.specs.{QLocking.lock_edited, Protocol.section, QueueBlocks.inner, Queues.QueueAllowed, Queues.buffer_sections, Queues.with_section}
 use Rattle.layer_traits.specs.BufferProtocol.{BufferLock, BufferSection, IsDue, buffer_at, buffer_monitor_rules, buffer_rules, is_in_line}
 use Rattle.layer_traits.proofs.ItemLemmas.{one_more}
 use Rattle.thread_blocks.specs.Queues.{same_tid, is_in, rest}

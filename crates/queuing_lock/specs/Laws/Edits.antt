@@ -4,8 +4,8 @@ use Rattle.event_log.specs.declared.ids.Tid.{Tid}
 use Rattle.layer_traits.specs.declared.locked.{QEdit.QEdit, QEdit.TheVariants.Acquire, QEdit.TheVariants.Inside, QEdit.TheVariants.Release}
 use Rattle.layer_traits.specs.declared.locked.{QOut.TheVariants.Did, Side.Side, WakeWaiter.WakeWaiter}
 use Rattle.layer_traits.specs.{declared.moves.WaitList.TheVariants.Sleepers, declared.moves.WaitList.TheVariants.Receivers}
-use Rattle.layer_traits.specs.{declared.moves.WaitList.TheVariants.Senders, Locking.LockRules, Locking.wait_list_for, Locking.lock_answer, Locking.lock_edited}
-use Rattle.layer_traits.specs.{Locking.signalled, Locking.waiting_with, Locking.waiting_without, Sleeping.SleepState, Sleeping.left, Sleeping.wait_list_joined}
+use Rattle.layer_traits.specs.{declared.moves.WaitList.TheVariants.Senders, QLocking.LockRules, QLocking.wait_list_for, QLocking.lock_answer, QLocking.lock_edited}
+use Rattle.layer_traits.specs.{QLocking.signalled, QLocking.waiting_with, QLocking.waiting_without, Sleeping.SleepState, Sleeping.left, Sleeping.wait_list_joined}
 use Rattle.layer_traits.specs.{Sleeping.sleep_answer, Sleeping.sleep_edited, Sleeping.woken}
 use Rattle.queuing_lock.specs.{declared.edits.QBlock.QBlock, declared.edits.QLockEdit.QLockEdit, Nested.busy_rules, Nested.edit_in, Nested.leaving}
 use Rattle.queuing_lock.specs.{Nested.nested_lock_of}

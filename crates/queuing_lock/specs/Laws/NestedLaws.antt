@@ -7,8 +7,8 @@ use Rattle.event_log.proofs.Renaming.{phase_renamed}
 use Rattle.layer_traits.specs.declared.{locked.QEdit.QEdit, locked.QOut.QOut, moves.WaitList.WaitList, moves.WaitList.TheVariants.Sleepers}
 use Rattle.layer_traits.specs.declared.{moves.WaitList.TheVariants.Receivers, moves.WaitList.TheVariants.Senders, queue_edits.QueueBlock.QueueBlock}
 use Rattle.layer_traits.specs.declared.{queue_edits.QueueEdit.QueueEdit, queues.QueueEvent.QueueEvent, scheds.SchedCall.SchedCall, sleeps.Outcome.Outcome}
-use Rattle.layer_traits.specs.{ListsAgree.ListsAgree, ListsAgree.is_at, Locking.LockAllowed, Locking.LockRules, Locking.LockState, Locking.wait_list_in}
-use Rattle.layer_traits.specs.{Locking.lock_after, LockLaw.LocksAgree, LockLaw.lock_kernel, Places.AreMoves, Places.Stands, Places.Threads, Places.count_in}
+use Rattle.layer_traits.specs.{ListsAgree.ListsAgree, ListsAgree.is_at, QLocking.LockAllowed, QLocking.LockRules, QLocking.LockState, QLocking.wait_list_in}
+use Rattle.layer_traits.specs.{QLocking.lock_after, QLockLaw.LocksAgree, QLockLaw.lock_kernel, Places.AreMoves, Places.Stands, Places.Threads, Places.count_in}
 use Rattle.layer_traits.specs.{Places.one_if, Places.wait_channel_of, Places.where_is, Plans.is_in_section, QueueBlocks.homes_in, QueueBlocks.inner}
 use Rattle.layer_traits.specs.{Queues.Kernel, Queues.QueueAllowed, Queues.buffer_sections, Queues.moves_in, Renaming.renamed_edit, Renaming.renamed_events}
 use Rattle.layer_traits.specs.{Renaming.renamed_sched, Renaming.viewed, SleepLaw.sleep_kernel, Sleeping.SleepState, Sleeping.wait_list_at}

@@ -2,7 +2,7 @@
 use Rattle.std.proofs.Common.{List, Option, Some, option_map, ap, sym}
 use Rattle.event_log.specs.{declared.ids.BufId.BufId, declared.ids.CpuId.CpuId, declared.ids.LockId.LockId, declared.ids.LockId.TheVariants.Buffer}
 use Rattle.event_log.specs.{declared.ids.Tid.Tid, Sections.block_after}
-use Rattle.layer_traits.specs.{declared.queue_edits.QueueBlock.QueueBlock, declared.queues.QueueEvent.QueueEvent, Locking.LockRules, Locking.lock_after}
+use Rattle.layer_traits.specs.{declared.queue_edits.QueueBlock.QueueBlock, declared.queues.QueueEvent.QueueEvent, QLocking.LockRules, QLocking.lock_after}
 use Rattle.layer_traits.specs.{Owned.IsObserved, Places.pending_by, QueueBlocks.inner, Queues.buffer_sections, Queues.moves_in, Renaming.renamed_events}
 use Rattle.layer_traits.specs.{Renaming.viewed, Sleeping.SleepState, Sleeping.sleep_edited}
 use Rattle.layer_traits.proofs.OwnedLemmas.{PartsOn, same_shown, shown_on, viewed_shown}

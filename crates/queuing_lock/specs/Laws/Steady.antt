@@ -7,9 +7,9 @@ use Rattle.event_log.proofs.Same.{same_cpu_self, same_lock_true}
 use Rattle.layer_traits.specs.{declared.locked.QEdit.QEdit, declared.locked.QEdit.TheVariants.Acquire, declared.locked.QEdit.TheVariants.Inside}
 use Rattle.layer_traits.specs.{declared.locked.QEdit.TheVariants.Release, declared.queue_edits.QueueBlock.QueueBlock, declared.queues.QueueCall.QueueCall}
 use Rattle.layer_traits.specs.{declared.queues.QueueCall.TheVariants.Push, declared.queues.QueueCall.TheVariants.TakeAll}
-use Rattle.layer_traits.specs.{declared.queues.QueueCall.TheVariants.OnBuffer, declared.queues.QueueEvent.QueueEvent, Locking.IsOwners, Locking.LockRules}
-use Rattle.layer_traits.specs.{Locking.LockState, Locking.lock_after, Locking.asked, Locking.lock_caller, Locking.lock_edited, Locking.owner_in}
-use Rattle.layer_traits.specs.{LockLaw.HasOrAwaits, LockLaw.lock_kernel, Places.home_of, QueueBlocks.homes_in, QueueBlocks.inner, Queues.CallAllowed}
+use Rattle.layer_traits.specs.{declared.queues.QueueCall.TheVariants.OnBuffer, declared.queues.QueueEvent.QueueEvent, QLocking.IsOwners, QLocking.LockRules}
+use Rattle.layer_traits.specs.{QLocking.LockState, QLocking.lock_after, QLocking.asked, QLocking.lock_caller, QLocking.lock_edited, QLocking.owner_in}
+use Rattle.layer_traits.specs.{QLockLaw.HasOrAwaits, QLockLaw.lock_kernel, Places.home_of, QueueBlocks.homes_in, QueueBlocks.inner, Queues.CallAllowed}
 use Rattle.layer_traits.specs.{Queues.QueueAllowed, Queues.buffer_sections, Queues.cpu_of_queue_event, Queues.with_section, Sleeping.joined}
 use Rattle.thread_blocks.specs.Queues.{first, is_in, rest, same_tid}
 use Rattle.thread_blocks.proofs.{Distinct.out_of_rest, Distinct.pushed_in, Members.same_tid_true}

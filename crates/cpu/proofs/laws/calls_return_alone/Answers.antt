@@ -1,4 +1,4 @@
-use Rattle.cpu.proofs.Wakeups.Ready.{calls_return_alone}
+use Rattle.cpu.proofs.Wakeups.ReadyCalls.{calls_return_alone}
 use Rattle.cpu.proofs.laws.calls_return_alone.Goals as goal
 
 pub returns : goal.returns

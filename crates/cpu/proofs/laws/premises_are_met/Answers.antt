@@ -1,4 +1,4 @@
-use Rattle.cpu.proofs.Wakeups.Meeting.{premises_are_met}
+use Rattle.cpu.proofs.Wakeups.PremisesMet.{premises_are_met}
 use Rattle.cpu.proofs.laws.premises_are_met.Goals as goal
 
 pub returns : goal.returns

@@ -1,4 +1,4 @@
-use Rattle.cpu.proofs.Wakeups.Reaching.{systems_keep_order}
+use Rattle.cpu.proofs.Wakeups.ReachedStates.{systems_keep_order}
 use Rattle.cpu.proofs.laws.systems_keep_order.Goals as goal
 
 pub returns : goal.returns

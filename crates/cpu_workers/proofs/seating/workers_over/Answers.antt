@@ -2,7 +2,7 @@ use Rattle.std.proofs.Common.{◌≡◌, ◌≤◌, ◌∷◌, ◌<◌, [], Some
 use Rattle.std.specs.Prelude.{slice_get, slice_index_or}
 use Rattle.std.proofs.lemmas.List.{length-append}
 use Rattle.layer_traits.specs.OnePlace.{cpu_at}
-use Rattle.cpu.proofs.Booting.{at_end, drop_more}
+use Rattle.cpu.proofs.InvariantAtBoot.{at_end, drop_more}
 use Rattle.cpu_workers.specs.{Seating.IsAtBoot, Working.Working}
 use Rattle.cpu_workers.proofs.Seated.{left_at, some_left}
 use Rattle.cpu_workers.proofs.seating.workers_over.Goals as goal

@@ -1,6 +1,6 @@
 use Rattle.std.proofs.Common.{rules, ◌≡◌, Some, None, sym, ◌∙◌, subst}
 use Rattle.event_log.specs.declared.ids.LockId.TheVariants.{Buffer}
-use Rattle.layer_traits.specs.{Conditions.cv_rules, LockLaw.lock_kernel, Locking.IsOwners, Locking.lock_after, Locking.lock_caller, Payloads.cv_meant}
+use Rattle.layer_traits.specs.{Conditions.cv_rules, QLockLaw.lock_kernel, QLocking.IsOwners, QLocking.lock_after, QLocking.lock_caller, Payloads.cv_meant}
 use Rattle.layer_traits.specs.{QueueBlocks.inner, Queues.buffer_sections}
 use Rattle.plain_layers.specs.LockSections.{call_alone}
 use Rattle.plain_layers.proofs.CondSectionLemmas.{may_begin, owner_told}

@@ -1,7 +1,7 @@
 use Rattle.std.proofs.Common.{◌≡◌, Option, Some, ap, sym, ◌∙◌, inr, subst}
 use Rattle.event_log.specs.declared.ids.LockId.TheVariants.{Buffer}
 use Rattle.layer_traits.specs.{declared.conditions.CvOut.CvOut, declared.locked.QOut.QOut, declared.sleeps.Outcome.Outcome, Conditions.cv_rules}
-use Rattle.layer_traits.specs.{CvLaw.MayCallCond, LockLaw.lock_kernel, Locking.lock_caller, Locking.owner_of, Payloads.cv_meant, Payloads.cv_told}
+use Rattle.layer_traits.specs.{CvLaw.MayCallCond, QLockLaw.lock_kernel, QLocking.lock_caller, QLocking.owner_of, Payloads.cv_meant, Payloads.cv_told}
 use Rattle.layer_traits.specs.{Payloads.lock_meant, Payloads.lock_told, Payloads.outcome_told, Payloads.told_by, QueueBlocks.inner, Queues.buffer_sections}
 use Rattle.plain_layers.specs.{CondSections.MayPollCondSection, LockSections.call_alone}
 use Rattle.plain_layers.proofs.CondSectionLemmas.{after_alone, ended_after, goes_after, waits_after}

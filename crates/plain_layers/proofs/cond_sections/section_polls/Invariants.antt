@@ -1,6 +1,6 @@
 use Rattle.std.proofs.Common.{◌≡◌, ◌≢◌, ◌+◌, ◌≤◌, IsSome}
 use Rattle.event_log.specs.declared.ids.LockId.TheVariants.{Buffer}
-use Rattle.layer_traits.specs.{Conditions.cv_rules, LockLaw.IsAcquire, LockLaw.lock_kernel, Locking.lock_caller, Payloads.cv_meant}
+use Rattle.layer_traits.specs.{Conditions.cv_rules, QLockLaw.IsAcquire, QLockLaw.lock_kernel, QLocking.lock_caller, Payloads.cv_meant}
 use Rattle.plain_layers.specs.declared.cond_sections.PollSection.TheVariants.{Answered, GoesOn, Sleeps}
 use Rattle.plain_layers.specs.{CondSections.CondHasEnded, CondSections.MayPollCondSection, CondSections.WaitsAt, LockSections.call_alone}
 use Rattle.plain_layers.proofs.cond_sections.section_polls.Given as goal

@@ -1,6 +1,6 @@
 use Rattle.std.proofs.Common.{rules, ◌≡◌, ◌≢◌, Some, None, sym, ◌∙◌}
 use Rattle.event_log.specs.declared.ids.LockId.TheVariants.{Buffer}
-use Rattle.layer_traits.specs.{declared.locked.QEdit.TheVariants.Acquire, LockLaw.lock_kernel, Locking.lock_after, QueueBlocks.inner, Queues.buffer_sections}
+use Rattle.layer_traits.specs.{declared.locked.QEdit.TheVariants.Acquire, QLockLaw.lock_kernel, QLocking.lock_after, QueueBlocks.inner, Queues.buffer_sections}
 use Rattle.plain_layers.proofs.{CondSectionLemmas.owner_told, LockSectionLemmas.may_begin}
 use Rattle.plain_layers.proofs.lock_sections.acquires.Goals as goal
 

@@ -1,7 +1,7 @@
 use Rattle.std.proofs.Common.{◌≡◌, Option, Some, ap, sym, ◌∙◌, subst}
 use Rattle.event_log.specs.declared.ids.LockId.TheVariants.{Buffer}
-use Rattle.layer_traits.specs.{declared.locked.QOut.QOut, declared.sleeps.Outcome.Outcome, LockLaw.MayCallLock, LockLaw.lock_kernel, Locking.lock_caller}
-use Rattle.layer_traits.specs.{Locking.owner_of, Payloads.lock_meant, Payloads.lock_told, Payloads.outcome_told, Payloads.told_by, QueueBlocks.inner}
+use Rattle.layer_traits.specs.{declared.locked.QOut.QOut, declared.sleeps.Outcome.Outcome, QLockLaw.MayCallLock, QLockLaw.lock_kernel, QLocking.lock_caller}
+use Rattle.layer_traits.specs.{QLocking.owner_of, Payloads.lock_meant, Payloads.lock_told, Payloads.outcome_told, Payloads.told_by, QueueBlocks.inner}
 use Rattle.layer_traits.specs.{Queues.buffer_sections}
 use Rattle.plain_layers.specs.LockSections.{MayPollLockSection, call_alone}
 use Rattle.plain_layers.proofs.LockSectionLemmas.{after_alone, ended_after, goes_after, sleeps_after}

@@ -1,6 +1,6 @@
 use Rattle.std.proofs.Common.{◌≡◌, ◌≢◌, ◌+◌, ◌≤◌, IsSome}
 use Rattle.event_log.specs.declared.ids.LockId.TheVariants.{Buffer}
-use Rattle.layer_traits.specs.{LockLaw.lock_kernel, Locking.lock_caller}
+use Rattle.layer_traits.specs.{QLockLaw.lock_kernel, QLocking.lock_caller}
 use Rattle.plain_layers.specs.declared.lock_sections.PollSection.TheVariants.{Answered, GoesOn, Sleeps}
 use Rattle.plain_layers.specs.LockSections.{LockHasEnded, MayPollLockSection, SleepsFor, call_alone}
 use Rattle.plain_layers.proofs.lock_sections.section_polls.Given as goal

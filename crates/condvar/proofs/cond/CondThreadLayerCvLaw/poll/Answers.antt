@@ -1,7 +1,7 @@
 use Rattle.std.proofs.Common.{◌≡◌, ◌<◌, ◌∙◌, List, Option, None, if◌then◌else◌, is_some, slice_set, ap, sym, true, false, Some}
 use Rattle.layer_traits.specs.{declared.conditions.CvOut.CvOut, declared.locked.QOut.QOut, declared.sleeps.Outcome.Outcome, Conditions.CvCall}
-use Rattle.layer_traits.specs.{Conditions.cv_rules, CvLaw.Waiting, Locking.lock_caller, Locking.lock_moves, Locking.lock_rules, LockLaw.lock_kernel}
-use Rattle.layer_traits.specs.{LockLaw.slept_for, Payloads.cv_meant, Payloads.lock_meant, Plans.table_of, QueueRules.queue_rules}
+use Rattle.layer_traits.specs.{Conditions.cv_rules, CvLaw.Waiting, QLocking.lock_caller, QLocking.lock_moves, QLocking.lock_rules, QLockLaw.lock_kernel}
+use Rattle.layer_traits.specs.{QLockLaw.slept_for, Payloads.cv_meant, Payloads.lock_meant, Plans.table_of, QueueRules.queue_rules}
 use Rattle.event_log.specs.declared.ids.{BufId.BufId, TheConstants.THREADS, LockId.TheVariants.Buffer}
 use Rattle.condvar.specs.Waiting.{is_wait}
 use Rattle.condvar.proofs.{CondLemmas.complete_told, CondLemmas.current_awake, CondLemmas.current_small, CondLemmas.lock_tells, CondLemmas.over_polled}

@@ -1,6 +1,6 @@
 use Rattle.std.proofs.Common.{refl, ◌∙◌, sym}
-use Rattle.cpu.proofs.{Schedules.current_within, TableCalls.stopped_steps, CpuStates.valid_cpu, Layered.laws_of, Layered.layered, Layered.runs_home}
-use Rattle.cpu.proofs.{Layered.observed_cpu, Layered.observed_outset, Layered.left_alone}
+use Rattle.cpu.proofs.{PassSteps.current_within, TableCalls.stopped_steps, CpuStates.valid_cpu, CpuOverLayer.laws_of, CpuOverLayer.layered, CpuOverLayer.runs_home}
+use Rattle.cpu.proofs.{CpuOverLayer.observed_cpu, CpuOverLayer.observed_outset, CpuOverLayer.left_alone}
 use Rattle.cpu.proofs.cpus.Cpu.act.Goals as goal
 
 pub reason-requires : goal.reason-requires

@@ -3,10 +3,10 @@ use Rattle.event_log.specs.declared.{ids.CpuId.CpuId, entries.Entry.Entry}
 use Rattle.layer_traits.specs.{declared.calls.Effect.Effect, BufferLaw.answer_in, BufferLaw.buffer_of, BufferLaw.call_state_of, BufferLaw.answer_with}
 use Rattle.layer_traits.specs.{QueueBlocks.homes_in}
 use Rattle.cpu.specs.{Guests.entries_of, Guests.polled, Cpus.ActsGrow, Cpus.programs_of, Cpus.fresh_at, Cpus.guest_at, Cpus.stands_at, Cpus.with_guest}
-use Rattle.cpu.proofs.{GuestLists.programs_with, Passing.called_grows, Passing.follows_grow, Steps.PolledCpu, Steps.noted_call, Steps.poll_buffer}
-use Rattle.cpu.proofs.{Steps.poll_number, Steps.poll_room, Steps.poll_call_states, Steps.poll_within, Steps.polls_at, TableCalls.ObservedPoll}
-use Rattle.cpu.proofs.{TableCalls.call_steps, TableCalls.call_tabled, TableCalls.hand_preserved, CpuStates.valid_cpu, Layered.acts_for, Layered.laws_of}
-use Rattle.cpu.proofs.{Layered.IsLayered, Layered.layered, Layered.left_framed, Layered.runs_home, Layered.observed_cpu, Layered.observed_outset}
+use Rattle.cpu.proofs.{GuestLists.programs_with, StepsBesideGuests.called_grows, StepsBesideGuests.follows_grow, CallSteps.PolledCpu, CallSteps.noted_call, CallSteps.poll_buffer}
+use Rattle.cpu.proofs.{CallSteps.poll_number, CallSteps.poll_room, CallSteps.poll_call_states, CallSteps.poll_within, CallSteps.polls_at, TableCalls.ObservedPoll}
+use Rattle.cpu.proofs.{TableCalls.call_steps, TableCalls.call_tabled, TableCalls.hand_preserved, CpuStates.valid_cpu, CpuOverLayer.acts_for, CpuOverLayer.laws_of}
+use Rattle.cpu.proofs.{CpuOverLayer.IsLayered, CpuOverLayer.layered, CpuOverLayer.left_framed, CpuOverLayer.runs_home, CpuOverLayer.observed_cpu, CpuOverLayer.observed_outset}
 use Rattle.cpu.proofs.{cpus.Cpu.call.Given.Over, cpus.Cpu.call.Goals.Start, cpus.Cpu.call.Goals.After-note_poll-fresh, cpus.Cpu.call.Goals.After-note_effect}
 use Rattle.cpu.proofs.cpus.Cpu.call.Goals as goal
 

@@ -1,7 +1,7 @@
 use Rattle.std.proofs.Common.{List, length, Option, refl, ap, sym, ◌∙◌, subst, vec_capacity}
 use Rattle.cpu.specs.{declared.guests.Guest.Guest, Cpus.IsCpu, Cpus.programs_of, Tables.IsTabled, Tables.WentByTable}
-use Rattle.cpu.proofs.{GuestLists.programs_with, Schedules.noted_compute, TableCalls.computed_steps, TableCalls.computed_tabled, CpuStates.valid_cpu}
-use Rattle.cpu.proofs.{Layered.laws_of, Layered.layered, Layered.observed_cpu, Layered.observed_outset, Layered.left_alone}
+use Rattle.cpu.proofs.{GuestLists.programs_with, PassSteps.noted_compute, TableCalls.computed_steps, TableCalls.computed_tabled, CpuStates.valid_cpu}
+use Rattle.cpu.proofs.{CpuOverLayer.laws_of, CpuOverLayer.layered, CpuOverLayer.observed_cpu, CpuOverLayer.observed_outset, CpuOverLayer.left_alone}
 use Rattle.layer_traits.specs.declared.steps.Step.TheVariants.{Stepped}
 use Rattle.cpu.proofs.cpus.Cpu.compute.Goals as goal
 

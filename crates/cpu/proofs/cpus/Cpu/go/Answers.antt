@@ -1,4 +1,4 @@
-use Rattle.cpu.proofs.{Schedules.current_within, CpuStates.valid_cpu, Layered.laws_of, Layered.layered, Layered.runs_home}
+use Rattle.cpu.proofs.{PassSteps.current_within, CpuStates.valid_cpu, CpuOverLayer.laws_of, CpuOverLayer.layered, CpuOverLayer.runs_home}
 use Rattle.cpu.proofs.cpus.Cpu.go.Goals as goal
 
 pub choice-requires : goal.choice-requires

@@ -1,7 +1,7 @@
 use Rattle.std.proofs.Common.{ap, subst, refl}
 use Rattle.event_log.specs.declared.ids.CpuId.{CpuId}
 use Rattle.layer_traits.specs.Looks.{Tries}
-use Rattle.cpu.proofs.{CpuStates.valid_cpu, Layered.left_framed, Passing.look_grows, Passing.others_same, Passing.others_grow, Schedules.seen_stays, TableCalls.looked_steps}
+use Rattle.cpu.proofs.{CpuStates.valid_cpu, CpuOverLayer.left_framed, StepsBesideGuests.look_grows, StepsBesideGuests.others_same, StepsBesideGuests.others_grow, PassSteps.seen_stays, TableCalls.looked_steps}
 use Rattle.cpu.proofs.cpus.Cpu.look.Goals as goal
 
 pub returns-clause-is : goal.returns-clause-is

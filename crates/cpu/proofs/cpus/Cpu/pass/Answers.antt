@@ -2,11 +2,11 @@ use Rattle.std.proofs.Common.{rules, ◌≡◌, true, false, ◌++◌, List, Opt
 use Rattle.event_log.specs.declared.ids.{CpuId.CpuId, Tid.Tid}
 use Rattle.layer_traits.specs.{Places.pending_by, QueueBlocks.homes_in, BufferLaw.MovesGrow}
 use Rattle.cpu.specs.Cpus.{ActsGrow, passed_by, programs_of}
-use Rattle.cpu.proofs.Passing.{under_way_done, under_way_waits, follows_grow, others_same, programs_passed, passed_grows, others_grow}
-use Rattle.cpu.proofs.{Schedules.current_within, Schedules.may_pass, Schedules.noted_done, Schedules.noted_wait, TableCalls.ObservedPass}
-use Rattle.cpu.proofs.{TableCalls.hand_preserved, TableCalls.passed_steps, TableCalls.passed_tabled, CpuStates.valid_cpu, Layered.acts_for, Layered.laws_of}
+use Rattle.cpu.proofs.StepsBesideGuests.{under_way_done, under_way_waits, follows_grow, others_same, programs_passed, passed_grows, others_grow}
+use Rattle.cpu.proofs.{PassSteps.current_within, PassSteps.may_pass, PassSteps.noted_done, PassSteps.noted_wait, TableCalls.ObservedPass}
+use Rattle.cpu.proofs.{TableCalls.hand_preserved, TableCalls.passed_steps, TableCalls.passed_tabled, CpuStates.valid_cpu, CpuOverLayer.acts_for, CpuOverLayer.laws_of}
 use Rattle.cpu.specs.declared.guests.Guest.{Guest}
-use Rattle.cpu.proofs.{Layered.IsLayered, Layered.layered, Layered.left_framed, Layered.runs_home, Layered.observed_cpu, Layered.observed_outset, cpus.Cpu.pass.Given.Over}
+use Rattle.cpu.proofs.{CpuOverLayer.IsLayered, CpuOverLayer.layered, CpuOverLayer.left_framed, CpuOverLayer.runs_home, CpuOverLayer.observed_cpu, CpuOverLayer.observed_outset, cpus.Cpu.pass.Given.Over}
 use Rattle.cpu.proofs.cpus.Cpu.pass.Goals.{Start, After-pass-done, After-note_pass, Else-is_some}
 use Rattle.cpu.proofs.cpus.Cpu.pass.Goals as goal
 

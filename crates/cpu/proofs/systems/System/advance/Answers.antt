@@ -1,8 +1,8 @@
 use Rattle.std.proofs.Common.{◌≡◌, ◌<◌, ℕ, ap, sym, ◌∙◌, subst}
 use Rattle.std.specs.Prelude.{Option, Some, slice_get}
 use Rattle.cpu.specs.{Systems.own_reason, Systems.own_reason_in, Systems.reason_or, Claims.CpuShown, Claims.Shown}
-use Rattle.cpu.proofs.{TableSystems.own_live, Advances.live_room, ListReads.read_at, ListReads.shows_at, LayeredSteps.by_table, LayeredSteps.shown_by}
-use Rattle.cpu.proofs.{LayeredSteps.went_on, LayeredSteps.plan_preserved, systems.System.advance.Given.Over, systems.System.advance.Goals.After-index_mut-at}
+use Rattle.cpu.proofs.{TableSystems.own_live, InvariantOverSteps.live_room, ListReads.read_at, ListReads.shows_at, SystemOverLayer.by_table, SystemOverLayer.shown_by}
+use Rattle.cpu.proofs.{SystemOverLayer.went_on, SystemOverLayer.plan_preserved, systems.System.advance.Given.Over, systems.System.advance.Goals.After-index_mut-at}
 use Rattle.cpu.proofs.systems.System.advance.Goals as goal
 
 module _ (g : Over) (c : After-index_mut-at g) where

@@ -1,7 +1,7 @@
 use Rattle.std.proofs.Common.{subst, arith}
 use Rattle.std.proofs.lemmas.List.{length-map}
 use Rattle.cpu.specs.{declared.cpus.Cpu.Cpu, Claims.Shown, Claims.cpu_shown, Sound.ReturnsAlone}
-use Rattle.cpu.proofs.{ListReads.there_is, Sounding.alone_of}
+use Rattle.cpu.proofs.{ListReads.there_is, ReachedSystems.alone_of}
 use Rattle.cpu.proofs.systems.System.alone.Goals as goal
 
 pub returns : goal.returns

@@ -1,7 +1,7 @@
 use Rattle.std.proofs.Common.{◌≡◌, true, length, ap, sym, ◌∙◌, arith}
 use Rattle.std.proofs.lemmas.List.{length-map}
 use Rattle.cpu.specs.{declared.cpus.Cpu.Cpu, Calm.calm_in, Claims.Shown, Claims.cpu_shown}
-use Rattle.cpu.proofs.Quieting.{clash, up_more}
+use Rattle.cpu.proofs.NobodyPending.{clash, up_more}
 use Rattle.cpu.proofs.systems.System.are_calm.Goals as goal
 
 pub returns-then-not-is_calm : goal.returns-then-not-is_calm

@@ -1,5 +1,5 @@
 use Rattle.cpu.specs.{declared.cpus.Cpu.Cpu, Claims.CpuShown, Claims.cpu_shown}
-use Rattle.cpu.proofs.{ListReads.map_twice, Booting.sounds, Started.starts_reached}
+use Rattle.cpu.proofs.{ListReads.map_twice, InvariantAtBoot.sounds, SystemsAtBoot.starts_reached}
 use Rattle.cpu.proofs.systems.System.assembled.Goals as goal
 
 pub invariant_of-system : goal.invariant_of-system

@@ -1,7 +1,7 @@
 use Rattle.std.proofs.Common.{◌≡◌, None, ap, sym, ◌∙◌, subst, option_map}
 use Rattle.event_log.specs.Buffers.{items_of}
 use Rattle.cpu.specs.Claims.{Shown}
-use Rattle.cpu.proofs.Observers.{acts_first, held_here, item_at, up_to, up_to_end}
+use Rattle.cpu.proofs.PartsTold.{acts_first, held_here, item_at, up_to, up_to_end}
 use Rattle.cpu.proofs.systems.System.buffer.Goals as goal
 
 pub buffer_in-requires-clause-acts : goal.buffer_in-requires-clause-acts

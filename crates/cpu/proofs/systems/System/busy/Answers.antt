@@ -1,7 +1,7 @@
 use Rattle.std.proofs.Common.{◌≡◌, None, length, sym, ◌∙◌, subst}
 use Rattle.std.specs.Prelude.{slice_index_or}
 use Rattle.cpu.specs.Claims.{Shown, buffer_at}
-use Rattle.cpu.proofs.{ListReads.listed_there, Observers.acts_first, Observers.held_here, Observers.item_at, Observers.up_to, Observers.up_to_end}
+use Rattle.cpu.proofs.{ListReads.listed_there, PartsTold.acts_first, PartsTold.held_here, PartsTold.item_at, PartsTold.up_to, PartsTold.up_to_end}
 use Rattle.cpu.proofs.systems.System.busy.Goals as goal
 
 pub busy_in-requires-clause-acts : goal.busy_in-requires-clause-acts

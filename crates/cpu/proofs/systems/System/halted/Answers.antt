@@ -4,8 +4,8 @@ use Rattle.std.specs.Prelude.{Option, slice_get}
 use Rattle.event_log.specs.declared.ids.CpuId.{CpuId}
 use Rattle.cpu.specs.{declared.cpus.Cpu.Cpu, Claims.CpuShown, Claims.Shown, Claims.cpu_shown, Systems.halted_in, Systems.own_reason_in, Cpus.step_answer}
 use Rattle.cpu.specs.{Table.Steps.cpu_step, Tower.Composed.named}
-use Rattle.cpu.proofs.{ListReads.read_at, ListReads.shows_at, Schedules.current_within, TableCalls.answers_step, CpuStates.valid_cpu, Layered.laws_of}
-use Rattle.cpu.proofs.{Layered.layered, Layered.runs_home, Layered.observed_cpu, Layered.observed_outset}
+use Rattle.cpu.proofs.{ListReads.read_at, ListReads.shows_at, PassSteps.current_within, TableCalls.answers_step, CpuStates.valid_cpu, CpuOverLayer.laws_of}
+use Rattle.cpu.proofs.{CpuOverLayer.layered, CpuOverLayer.runs_home, CpuOverLayer.observed_cpu, CpuOverLayer.observed_outset}
 use Rattle.layer_traits.specs.OnePlace.{cpu_at}
 use Rattle.cpu.proofs.systems.System.halted.Goals as goal
 

@@ -5,10 +5,10 @@ use Rattle.event_log.specs.{declared.entries.Entry.Entry, declared.ids.CpuId.Cpu
 use Rattle.event_log.proofs.{Streams.taken_put, Renaming.phase_renamed}
 use Rattle.layer_traits.proofs.EffectRunLemmas.{effects_are_run}
 use Rattle.cpu.specs.Claims.{CpuShown, FollowPrograms, HasOneOrder, MovesAgree, Shown, StandsOnce, StayHome, buffer_at}
-use Rattle.cpu.proofs.{ListReads.there_is, Onces.once_of, Orders.closed_by_order, Orders.follow_programs, Orders.stay_home, Orders.traces_interleaved}
-use Rattle.cpu.proofs.{Sounding.shown_in, Sounding.sound_of, ListReads.shown_at, ListReads.shows_at, TableCalls.halted_read, Placing.ended_is}
-use Rattle.cpu.proofs.{Placing.place_read, Observers.acts_first, Observing.has_buffer, Observing.pending_read, Layered.laws_of, Layered.layered}
-use Rattle.cpu.proofs.{Layered.observed_cpu, LayeredSteps.shown_by, LayeredSteps.cpus_have, LayeredSteps.observed_by, Orders.Has}
+use Rattle.cpu.proofs.{ListReads.there_is, OnePlaceEach.once_of, OneOrder.closed_by_order, OneOrder.follow_programs, OneOrder.stay_home, OneOrder.traces_interleaved}
+use Rattle.cpu.proofs.{ReachedSystems.shown_in, ReachedSystems.sound_of, ListReads.shown_at, ListReads.shows_at, TableCalls.halted_read, PlacesTold.ended_is}
+use Rattle.cpu.proofs.{PlacesTold.place_read, PartsTold.acts_first, PartsOfTable.has_buffer, PartsOfTable.pending_read, CpuOverLayer.laws_of, CpuOverLayer.layered}
+use Rattle.cpu.proofs.{CpuOverLayer.observed_cpu, SystemOverLayer.shown_by, SystemOverLayer.cpus_have, SystemOverLayer.observed_by, OneOrder.Has}
 use Rattle.cpu.proofs.{systems.System.holds.Given.Over, systems.System.holds.Goals.After-self}
 use Rattle.cpu.specs.{Sound.SoundByTable, Cpus.halted_at as own_halted_at, Sound.IsSetupFor, Table.Blocks.OfPending, Table.Setups.Setup, Table.Steps.block_at}
 use Rattle.cpu.specs.{Table.Steps.halted_at, Observed.CpuIsObserved, Observed.HasBuffer, Observed.ObservedByTable, Tower.Composed.named, Tower.Views.name_of}

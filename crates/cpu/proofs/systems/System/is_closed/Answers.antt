@@ -2,7 +2,7 @@ use Rattle.std.proofs.Common.{◌≡◌, false, length, None, sym, ◌∙◌, su
 use Rattle.std.specs.Prelude.{slice_index_or}
 use Rattle.event_log.specs.Runs.{is_closed}
 use Rattle.cpu.specs.Claims.{Shown}
-use Rattle.cpu.proofs.{ListReads.listed_there, Observers.acts_first, Observers.held_here, Observers.item_at, Observers.up_to, Observers.up_to_end}
+use Rattle.cpu.proofs.{ListReads.listed_there, PartsTold.acts_first, PartsTold.held_here, PartsTold.item_at, PartsTold.up_to, PartsTold.up_to_end}
 use Rattle.cpu.proofs.systems.System.is_closed.Goals as goal
 
 pub closed_at_home-requires-clause-acts : goal.closed_at_home-requires-clause-acts

@@ -1,8 +1,8 @@
 use Rattle.std.proofs.Common.{rules, ◌≡◌, ◌<◌, ℕ, map, Some, None, ap, subst, arith}
 use Rattle.std.specs.Prelude.{slice_get}
 use Rattle.cpu.specs.{Claims.Shown, Systems.reason_of}
-use Rattle.cpu.proofs.{Advances.again, Advances.live_of, ListReads.read_at, ListReads.shows_at, LayeredSteps.by_table}
-use Rattle.cpu.proofs.{LayeredSteps.shown_by, LayeredSteps.went_on, LayeredSteps.works_by, LayeredSteps.plan_preserved}
+use Rattle.cpu.proofs.{InvariantOverSteps.again, InvariantOverSteps.live_of, ListReads.read_at, ListReads.shows_at, SystemOverLayer.by_table}
+use Rattle.cpu.proofs.{SystemOverLayer.shown_by, SystemOverLayer.went_on, SystemOverLayer.works_by, SystemOverLayer.plan_preserved}
 use Rattle.cpu.proofs.systems.System.looks.{Given.Over, Goals.After-index_mut-at}
 use Rattle.cpu.proofs.systems.System.looks.Goals as goal
 

@@ -1,7 +1,7 @@
 use Rattle.std.proofs.Common.{◌≢◌, refl, arith}
 use Rattle.event_log.specs.declared.ids.CpuId.{CpuId}
 use Rattle.layer_traits.specs.Places.{Pend, where_is}
-use Rattle.cpu.proofs.Quieting.{clash, empty_of, nobody_of, up_more}
+use Rattle.cpu.proofs.NobodyPending.{clash, empty_of, nobody_of, up_more}
 use Rattle.cpu.proofs.systems.System.nobody_pends.Goals as goal
 
 pub returns-then-pends : goal.returns-then-pends

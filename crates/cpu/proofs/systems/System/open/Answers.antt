@@ -4,7 +4,7 @@ use Rattle.std.proofs.lemmas.List.{length-map}
 use Rattle.event_log.specs.declared.ids.CpuId.{CpuId}
 use Rattle.layer_traits.specs.Openings.{AreOpenable}
 use Rattle.cpu.specs.{declared.guests.Guest.Guest, Boots.AreTables, Boots.guests_for, Boots.homes_for}
-use Rattle.cpu.proofs.{ListReads.listed_length, PlanGuests.are_openable, PlanGuests.are_tables, PlanGuests.one_each, Started.planned_if}
+use Rattle.cpu.proofs.{ListReads.listed_length, PlanGuests.are_openable, PlanGuests.are_tables, PlanGuests.one_each, SystemsAtBoot.planned_if}
 use Rattle.cpu.proofs.systems.System.open.Goals as goal
 
 pub with_tables-requires-clause-openable : goal.with_tables-requires-clause-openable

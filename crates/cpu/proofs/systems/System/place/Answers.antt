@@ -1,6 +1,6 @@
 use Rattle.std.proofs.Common.{map, ◌∙◌}
-use Rattle.cpu.proofs.{ListReads.shows_at, ListReads.there_is, Observers.acts_first, Observers.item_at, Observers.own_place, Observers.wait_channel_here, Observers.up_to}
-use Rattle.cpu.proofs.{Observers.up_to_end, LayeredSteps.shown_by}
+use Rattle.cpu.proofs.{ListReads.shows_at, ListReads.there_is, PartsTold.acts_first, PartsTold.item_at, PartsTold.own_place, PartsTold.wait_channel_here, PartsTold.up_to}
+use Rattle.cpu.proofs.{PartsTold.up_to_end, SystemOverLayer.shown_by}
 use Rattle.cpu.proofs.systems.System.place.Goals as goal
 
 pub returns-in-Some : goal.returns-in-Some

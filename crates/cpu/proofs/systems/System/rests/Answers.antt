@@ -1,4 +1,4 @@
-use Rattle.cpu.proofs.Quieting.{clash}
+use Rattle.cpu.proofs.NobodyPending.{clash}
 use Rattle.cpu.proofs.systems.System.rests.Goals as goal
 
 pub returns-then-not-are_calm : goal.returns-then-not-are_calm

@@ -1,6 +1,6 @@
 use Rattle.std.proofs.Common.{refl}
 use Rattle.cpu.specs.Systems.{starts}
-use Rattle.cpu.proofs.{Sounding.ran_on, Sounding.went_by, TableSystems.ran_more, TableSystems.same_plans, TableSystems.went_on}
+use Rattle.cpu.proofs.{ReachedSystems.ran_on, ReachedSystems.went_by, TableSystems.ran_more, TableSystems.same_plans, TableSystems.went_on}
 use Rattle.cpu.proofs.systems.System.run.Goals as goal
 
 pub loop-cpu-init : goal.loop-cpu-init

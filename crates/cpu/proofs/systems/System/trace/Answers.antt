@@ -1,7 +1,7 @@
 use Rattle.std.proofs.Common.{◌≡◌, ℕ, [], ◌∙◌, sym, ap, subst}
 use Rattle.std.specs.Prelude.{slice_index_or, map}
 use Rattle.cpu.specs.Claims.{CpuShown, Shown, traces_of}
-use Rattle.cpu.proofs.{ListReads.read_at, ListReads.shown_index, LayeredSteps.shown_by}
+use Rattle.cpu.proofs.{ListReads.read_at, ListReads.shown_index, SystemOverLayer.shown_by}
 use Rattle.cpu.proofs.systems.System.trace.Goals as goal
 
 pub returns : goal.returns

@@ -1,6 +1,6 @@
 use Rattle.std.proofs.Common.{◌≤◌, length, subst, arith}
 use Rattle.cpu.specs.{Calm.TracesFit, Claims.CpuShown, Claims.Shown}
-use Rattle.cpu.proofs.{ListReads.shown_at, LayeredSteps.shown_by}
+use Rattle.cpu.proofs.{ListReads.shown_at, SystemOverLayer.shown_by}
 use Rattle.cpu.proofs.systems.System.traces_fit.Goals as goal
 
 pub returns : goal.returns

@@ -5,8 +5,8 @@ use Rattle.layer_traits.specs.OnePlace.{cpu_at}
 use Rattle.cpu.specs.{declared.cpus.Cpu.Cpu, declared.guests.Guest.Guest, Boots.AreGuests, Claims.cpu_shown, Claims.shown_of, Sound.BootsByTable}
 use Rattle.cpu.specs.{Tables.IsTabled, Tables.private, Tower.Composed.named}
 use Rattle.event_log.specs.{declared.ids.CpuId.CpuId, Actions.Action}
-use Rattle.cpu.proofs.{ListReads.shown_at, Started.IsNew, Started.starts_by_table, TableCalls.boots_tabled, Booting.all_one, Booting.boots_as, Booting.opens}
-use Rattle.cpu.proofs.{Booting.shows_all}
+use Rattle.cpu.proofs.{ListReads.shown_at, SystemsAtBoot.IsNew, SystemsAtBoot.starts_by_table, TableCalls.boots_tabled, InvariantAtBoot.all_one, InvariantAtBoot.boots_as, InvariantAtBoot.opens}
+use Rattle.cpu.proofs.{InvariantAtBoot.shows_all}
 use Rattle.cpu.proofs.systems.System.with_tables.Goals as goal
 
 pub assembled-requires : goal.assembled-requires

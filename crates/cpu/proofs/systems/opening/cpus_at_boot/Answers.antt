@@ -2,7 +2,7 @@ use Rattle.std.proofs.Common.{◌≡◌, ◌∷◌, ◌<◌, [], List, Option, S
 use Rattle.std.specs.Prelude.{slice_get, slice_index_or}
 use Rattle.std.proofs.lemmas.List.{length-append}
 use Rattle.cpu.specs.{declared.cpus.Cpu.Cpu, declared.guests.Guest.Guest, Boots.IsBooted, Boots.IsBootedAs}
-use Rattle.cpu.proofs.Booting.{at_end, drop_more, first_left}
+use Rattle.cpu.proofs.InvariantAtBoot.{at_end, drop_more, first_left}
 use Rattle.cpu.proofs.systems.opening.cpus_at_boot.Goals as goal
 
 pub loop-number-preserved : goal.loop-number-preserved

@@ -1,6 +1,6 @@
 use Rattle.std.proofs.Common.{◌≡◌, sym, ◌∙◌, subst}
 use Rattle.cpu.specs.Table.Steps.{halted_at}
-use Rattle.cpu.proofs.{CpuStates.valid_cpu, Schedules.current_within, Layered.laws_of, Layered.layered, Layered.runs_home, Layered.observed_cpu}
+use Rattle.cpu.proofs.{CpuStates.valid_cpu, PassSteps.current_within, CpuOverLayer.laws_of, CpuOverLayer.layered, CpuOverLayer.runs_home, CpuOverLayer.observed_cpu}
 use Rattle.cpu.proofs.{TableCalls.halted_read}
 use Rattle.cpu_workers.specs.Working.{IsPlanned, Working}
 use Rattle.cpu_workers.proofs.Planning.{own_reason, planned}

@@ -2,12 +2,12 @@ use Rattle.std.proofs.Common.{◌≡◌, ◌∙◌, ap, arith, inl, inr, sym}
 use Rattle.std.proofs.lemmas.List.{get_or-set_same}
 use Rattle.event_log.specs.declared.ids.LockId.TheVariants.{Buffer}
 use Rattle.layer_traits.specs.BufferLaw.{buffer_of, going, left_recorded, plan_beneath, no_call, section_at, call_state_of}
-use Rattle.layer_traits.specs.{BufferProtocol.buffer_monitor_rules, BufferProtocol.buffer_rules, Conditions.cv_rules, Locking.lock_caller, Locking.lock_moves}
-use Rattle.layer_traits.specs.{Locking.lock_rules, Payloads.told_by, Plans.table_of, QueueBlocks.homes_in, QueueRules.queue_rules}
+use Rattle.layer_traits.specs.{BufferProtocol.buffer_monitor_rules, BufferProtocol.buffer_rules, Conditions.cv_rules, QLocking.lock_caller, QLocking.lock_moves}
+use Rattle.layer_traits.specs.{QLocking.lock_rules, Payloads.told_by, Plans.table_of, QueueBlocks.homes_in, QueueRules.queue_rules}
 use Rattle.layer_traits.proofs.{CallLemmas.follows_raised, ToldLemmas.told_some}
 use Rattle.fifo_buffer.specs.SectionPolls.{outcome_of, recorded_if}
 use Rattle.fifo_buffer.proofs.{Callers.Caller, Recorded.recorded_left, Recorded.runs_awake, Recorded.runs_home, Events.caller_is, Polls.may_poll_section}
-use Rattle.fifo_buffer.proofs.{Pacing.polled_section}
+use Rattle.fifo_buffer.proofs.{ConditionPolls.polled_section}
 use Rattle.layer_traits.specs.declared.moves.WaitList.TheVariants as wait_list
 use Rattle.fifo_buffer.proofs.fifo.Fifo.poll_section.Goals as goal
 

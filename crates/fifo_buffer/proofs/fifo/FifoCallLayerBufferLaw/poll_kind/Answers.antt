@@ -2,7 +2,7 @@ use Rattle.std.proofs.Common.{arith, ◌≡◌, ◌∙◌, List, ap, sym, subst,
 use Rattle.event_log.specs.declared.ids.{CpuId.CpuId, Tid.Tid}
 use Rattle.layer_traits.specs.{declared.calls.Reply.Reply, declared.call_states.Stage.Stage, declared.call_states.CallState.CallState, BufferLaw.Buffering}
 use Rattle.layer_traits.specs.{BufferLaw.answer_in, BufferLaw.buffer_of, BufferLaw.buffering, BufferLaw.going, BufferLaw.plan_at, BufferLaw.plan_of}
-use Rattle.layer_traits.specs.{BufferLaw.replied, BufferLaw.call_state_of, BufferProtocol.buffer_rules, Locking.lock_moves, Locking.lock_rules, Places.home_of}
+use Rattle.layer_traits.specs.{BufferLaw.replied, BufferLaw.call_state_of, BufferProtocol.buffer_rules, QLocking.lock_moves, QLocking.lock_rules, Places.home_of}
 use Rattle.layer_traits.specs.{Plans.Follows, Plans.Left, Plans.table_of, QueueRules.queue_rules, QueueBlocks.homes_in, QueueBlocks.inner, Queues.buffer_sections}
 use Rattle.thread_blocks.specs.Queues.{same_tid}
 use Rattle.fifo_buffer.specs.{Stances.called_at, SectionPolls.FitsAt, SectionPolls.MayPollSection, SectionPolls.SectionPolled, SectionPolls.Sizes}
@@ -194,7 +194,7 @@ returns-clause-framed g c =
     let at = last g c in
     let one = c.poll_section-done in
     let m1 = one.new.m in
-    let paced1 = one.ensures.section_polled in
+    let polled1 = one.ensures.section_polled in
     let lawful = rw one.ensures.framed.stays.opening at (law.lawful m1 cpu (one.ensures.framed.stays.acts cpu acts)) in
     record {
       fits = (
@@ -218,8 +218,8 @@ returns-clause-framed g c =
       others = λ q other fits. (
         one.ensures.framed.others q.lower other fits.0,
         rw one.ensures.framed.stays.opening
-            (other_part (C.opening m) cpu (C.cpu_of q.lower) other paced1.mine paced1.others (C.seen m) (C.seen m1) paced1.own_events
-            (paced1.foreign (C.cpu_of q.lower) (law.own_cpu q.lower m fits.0)) paced1.is lawful (C.own q.lower) q.call_states.call_states
+            (other_part (C.opening m) cpu (C.cpu_of q.lower) other polled1.mine polled1.others (C.seen m) (C.seen m1) polled1.own_events
+            (polled1.foreign (C.cpu_of q.lower) (law.own_cpu q.lower m fits.0)) polled1.is lawful (C.own q.lower) q.call_states.call_states
             (C.under_way q.lower) q.calling fits.1),
       );
       holders = λ d other both held. one.ensures.framed.holders d other both.0 held;
@@ -234,11 +234,11 @@ returns-clause-called g c there =
     let at = last g c in
     let was = start g at in
     let one = c.poll_section-done in
-    let talks1 = one.new.self.call_states.call_states in
+    let states1 = one.new.self.call_states.call_states in
     rw (one.ensures.framed.stays.opening, c.complete.ensures.call_states)
-    (called_by (section1 g at) (home g was) (first g was).0.called p.call_states.call_states talks1 refl
+    (called_by (section1 g at) (home g was) (first g was).0.called p.call_states.call_states states1 refl
     (same1 g at) _ (λ d both. both.0) p.call_states.call_states
-    refl (λ u other. apart_call_state p.call_states.call_states talks1 t u (call_state_of talks1 t) one.ensures.call_states other)
+    refl (λ u other. apart_call_state p.call_states.call_states states1 t u (call_state_of states1 t) one.ensures.call_states other)
     (goes_called (inner (C.opening m)) (buffer_sections (C.seen m)) t c.args.call.now (begins g was) (C.own p.lower) (C.under_way p.lower)
     (first g was).0.goes) (answer g c) (replies g c))
 
@@ -257,12 +257,12 @@ returns-then-at_once-clause-moves g c =
     let m = c.args.m.now in
     let one = c.poll_section-done in
     let two = c.poll_next in
-    let paced2 = polled2 g c in
-    let is : C.seen two.new.m ≡ paced2.mine ++ (paced2.others ++ C.seen m) =
-    paced2.is ∙ ap (λ l. paced2.mine ++ (paced2.others ++ l)) (ap C.seen (still g c.before)) in
+    let polled2 = polled2 g c in
+    let is : C.seen two.new.m ≡ polled2.mine ++ (polled2.others ++ C.seen m) =
+    polled2.is ∙ ap (λ l. polled2.mine ++ (polled2.others ++ l)) (ap C.seen (still g c.before)) in
     rw (two.ensures.framed.stays.opening, one.ensures.framed.stays.opening)
-    (moves_grown (C.opening m) (λ d. C.ActsFor one.new.m d) _ (C.cpu_of c.args.self.now.lower) paced2.mine paced2.others (C.seen m) (C.seen two.new.m)
-    (λ d both. one.ensures.framed.stays.acts d both.0) paced2.foreign paced2.own_events is)
+    (moves_grown (C.opening m) (λ d. C.ActsFor one.new.m d) _ (C.cpu_of c.args.self.now.lower) polled2.mine polled2.others (C.seen m) (C.seen two.new.m)
+    (λ d both. one.ensures.framed.stays.acts d both.0) polled2.foreign polled2.own_events is)
 
 pub returns-then-at_once-clause-framed : goal.returns-then-at_once-clause-framed
 returns-then-at_once-clause-framed g c =
@@ -277,8 +277,8 @@ returns-then-at_once-clause-framed g c =
     let m1 = one.new.m in
     let two = c.poll_next in
     let m2 = two.new.m in
-    let paced1 = one.ensures.section_polled in
-    let paced2 = polled2 g c in
+    let polled1 = one.ensures.section_polled in
+    let polled2 = polled2 g c in
     let lawful1 = rw one.ensures.framed.stays.opening at (law.lawful m1 cpu (one.ensures.framed.stays.acts cpu acts)) in
     let lawful2 = rw (two.ensures.framed.stays.opening, one.ensures.framed.stays.opening) at (law.lawful m2 cpu (two.ensures.framed.stays.acts cpu (one.ensures.framed.stays.acts cpu acts))) in
     record {
@@ -293,9 +293,9 @@ returns-then-at_once-clause-framed g c =
         )
             (record {
               boots = c.requires.fits.1.boots;
-              sizes = sizes_of (taken paced2) one.new.self.call_states.call_states (states2 g c) two.ensures.call_states (sizes1 g at);
+              sizes = sizes_of (taken polled2) one.new.self.call_states.call_states (states2 g c) two.ensures.call_states (sizes1 g at);
               calls =
-                  finish (taken paced2) (home g (start g at)) (called2 g c) one.new.self.call_states.call_states (states2 g c) refl (same2 g c)
+                  finish (taken polled2) (home g (start g at)) (called2 g c) one.new.self.call_states.call_states (states2 g c) refl (same2 g c)
                   (others1 g at) (answer2 g c) two.ensures.section_polled.2;
             }),
       );
@@ -308,13 +308,13 @@ returns-then-at_once-clause-framed g c =
       };
       others = λ q other fits.
           let far = one.ensures.framed.others q.lower other fits.0 in
-          let part1 = other_part (C.opening m) cpu (C.cpu_of q.lower) other paced1.mine paced1.others (C.seen m) (C.seen m1) paced1.own_events
-          (paced1.foreign (C.cpu_of q.lower) (law.own_cpu q.lower m fits.0)) paced1.is lawful1 (C.own q.lower) q.call_states.call_states
+          let part1 = other_part (C.opening m) cpu (C.cpu_of q.lower) other polled1.mine polled1.others (C.seen m) (C.seen m1) polled1.own_events
+          (polled1.foreign (C.cpu_of q.lower) (law.own_cpu q.lower m fits.0)) polled1.is lawful1 (C.own q.lower) q.call_states.call_states
           (C.under_way q.lower) q.calling fits.1 in (
             two.ensures.framed.others q.lower (rw one.ensures.framed.cpu other) far,
             rw (two.ensures.framed.stays.opening, one.ensures.framed.stays.opening)
-                (other_part (C.opening m) cpu (C.cpu_of q.lower) other paced2.mine paced2.others (C.seen m1) (C.seen m2) paced2.own_events
-                (paced2.foreign (C.cpu_of q.lower) (law.own_cpu q.lower m1 far)) paced2.is lawful2 (C.own q.lower) q.call_states.call_states
+                (other_part (C.opening m) cpu (C.cpu_of q.lower) other polled2.mine polled2.others (C.seen m1) (C.seen m2) polled2.own_events
+                (polled2.foreign (C.cpu_of q.lower) (law.own_cpu q.lower m1 far)) polled2.is lawful2 (C.own q.lower) q.call_states.call_states
                 (C.under_way q.lower) q.calling part1),
           );
       holders = λ d other both held. one.ensures.framed.holders d other both.0 (two.ensures.framed.holders d (rw one.ensures.framed.cpu other) (one.ensures.framed.stays.acts d both.0) held);
@@ -332,23 +332,23 @@ returns-then-at_once-clause-called g c there =
     let at = polled g b in
     let one = c.poll_section-done in
     let own1 = C.own one.new.self.lower in
-    let talks1 = one.new.self.call_states.call_states in
+    let states1 = one.new.self.call_states.call_states in
     let later1 = later1 g b in
     let two = c.poll_next in
-    let talks2 = states2 g c in
-    let later2 = call_state_of talks2 t in
-    let paced2m = subst (λ log. SectionPolled (homes_in (C.opening m)) (λ d. C.ActsFor one.new.m d) (inner (C.opening m)) (C.cpu_of p.lower) t call
+    let states2 = states2 g c in
+    let later2 = call_state_of states2 t in
+    let polled2m = subst (λ log. SectionPolled (homes_in (C.opening m)) (λ d. C.ActsFor one.new.m d) (inner (C.opening m)) (C.cpu_of p.lower) t call
     (going later1 call) log (C.seen two.new.m) own1 (C.own two.new.self.lower) (C.under_way two.new.self.lower) two.ensures.section_polled.0 later2)
     (ap C.seen (still g b)) (polled2 g c) in
     let effect1 = later_effect (section1 g at) c.at_once.result c.if-done.true (at_once g b) (called g b) in
     let in_call2 = goes_called (inner (C.opening m)) (buffer_sections (C.seen one.new.m)) t call later1 own1 (C.under_way one.new.self.lower)
     (may2 g b).goes in
     rw (two.ensures.framed.stays.opening, one.ensures.framed.stays.opening)
-    (called_by (taken paced2m) (home g (start g at)) (called2 g c) talks1 talks2 refl
+    (called_by (taken polled2m) (home g (start g at)) (called2 g c) states1 states2 refl
     (same2 g c) _ (λ d both. one.ensures.framed.stays.acts d both.0) call_states
     (ap (λ (x : CallState). x.effect) (next_is g b) ∙ effect1)
-    (λ u other. apart_call_state talks1 talks2 t u later2 two.ensures.call_states other
-    ∙ apart_call_state call_states talks1 t u later1 one.ensures.call_states other)
+    (λ u other. apart_call_state states1 states2 t u later2 two.ensures.call_states other
+    ∙ apart_call_state call_states states1 t u later1 one.ensures.call_states other)
     (subst (λ (x : CallState). called_at x.stage ≡ true) (sym (next_is g b)) in_call2) (answer2 g c) two.ensures.section_polled.2)
 
 pub returns-clause-follows : goal.returns-clause-follows

@@ -1,8 +1,8 @@
 use Rattle.std.proofs.Common.{◌≡◌, refl, true, false, Option, Some, None, ◌≢◌, if◌then◌else◌, List, ◌<◌, is_some, option_map, slice_set, ap, sym, ◌∙◌, subst}
 use Rattle.std.proofs.Math.Path.{transport}
 use Rattle.event_log.specs.{declared.ids.BufId.BufId, declared.ids.CpuId.CpuId, declared.ids.TheConstants.THREADS, History.IsLawful}
-use Rattle.layer_traits.specs.{declared.locked.QOut.QOut, declared.locked.QOut.TheVariants.Acquired, declared.sleeps.Outcome.Outcome, Locking.lock_caller}
-use Rattle.layer_traits.specs.{LockLaw.LockPolled, LockLaw.left_after, LockLaw.locking, LockLaw.slept_for, Payloads.lock_meant, Payloads.lock_told}
+use Rattle.layer_traits.specs.{declared.locked.QOut.QOut, declared.locked.QOut.TheVariants.Acquired, declared.sleeps.Outcome.Outcome, QLocking.lock_caller}
+use Rattle.layer_traits.specs.{QLockLaw.LockPolled, QLockLaw.left_after, QLockLaw.locking, QLockLaw.slept_for, Payloads.lock_meant, Payloads.lock_told}
 use Rattle.layer_traits.specs.{Payloads.outcome_told, Plans.Left, Queues.QueueAllowed, Renaming.renamed_events, Renaming.renamed_sched, Renaming.viewed}
 use Rattle.layer_traits.specs.{SleepLaw.Sleeping}
 use Rattle.layer_traits.proofs.FrameLemmas.{untouched, viewed_stays}

@@ -1,0 +1,141 @@
+-- A CPU over a layer of message calls, by what the layer's laws say of its part, as the lemmas about its steps take it.
+use Rattle.std.proofs.Common.{◌≡◌, false, Some, None, ap, ◌∙◌, subst, refl, arith}
+use Rattle.event_log.specs.{declared.ids.CpuId.CpuId, declared.ids.Tid.Tid, Actions.phase}
+use Rattle.layer_traits.specs.{contracts.call_layers.CallLayer.TheBound.Met, declared.call_layers.CallLaw.Ghosts as LawGhosts}
+use Rattle.layer_traits.specs.{declared.call_layers.CallLayer.Ghosts, BufferLaw.MovesGrow, Framed.Framed, Places.AreMoves, Places.Stands, Places.home_of, Plans.is_in_section}
+use Rattle.layer_traits.proofs.PlaceLemmas.{current_at}
+use Rattle.cpu.specs.{declared.cpus.Cpu.Cpu, Cpus.ActsGrow, Cpus.SeenGrows, Cpus.programs_of, CpuSteps.IsCpuAt, CpuSteps.IsTabledAt, CpuSteps.Leaves, Tower.Privates.threads_in}
+use Rattle.cpu.proofs.{CpuStates.valid_cpu, StepsBesideGuests.none_grow, StepsBesideGuests.none_moved, StepsBesideGuests.none_seen, TableCalls.ObservedCpu, TableCalls.ObservedOutset}
+use Rattle.cpu.proofs.{TableCalls.hand_known}
+use borrow.Fn.World.{World}
+use denote.RattleType.{RattleType}
+use mir.Syntax.{Dict}
+
+-- what always holds of a CPU whose part fits the machine; what names the whole state of a part is said of a layer whose polls are actions
+pub record IsLayered {P L M : Type 0} (I : Ghosts P L M) (m : M) (p : Cpu P M) : Type 0 where
+  pub number : I.cpu_of p.part ≡ p.number
+  pub acts : I.ActsFor m (I.cpu_of p.part)
+  pub stands : Stands (I.homes_of m) (I.cpu_of p.part) (I.moves m) (I.threads p.part)
+  pub moves_legal : AreMoves (I.homes_of m) (I.moves m)
+  pub is : IsCpuAt I m p
+  pub idle : I.under_way p.part ≡ None → I.is_inside p.part ≡ false
+  pub busy : I.IsStepwise → I.is_inside p.part ≡ is_in_section (phase (I.cpu_of p.part) (I.acts m))
+  pub reads_own : I.IsStepwise → (threads_in (I.own p.part) ≡ I.threads p.part) × ((I.own p.part).call_states ≡ I.call_states p.part)
+  pub table : I.IsStepwise → IsTabledAt I m p
+
+-- the laws of a layer that say so
+pub record PartLaws {P L M : Type 0} (I : Ghosts P L M) : Type 0 where
+  pub own_cpu : (p : P) (m : M) → I.Fits p m → I.ActsFor m (I.cpu_of p)
+  pub stands : (p : P) (m : M) → I.Fits p m → Stands (I.homes_of m) (I.cpu_of p) (I.moves m) (I.threads p)
+  pub moves_legal : (m : M) (c : CpuId) → I.ActsFor m c → AreMoves (I.homes_of m) (I.moves m)
+  pub idle : (p : P) (m : M) → I.Fits p m → I.under_way p ≡ None → I.is_inside p ≡ false
+  pub busy : (p : P) (m : M) → I.Fits p m → I.IsStepwise → I.is_inside p ≡ is_in_section (phase (I.cpu_of p) (I.acts m))
+  pub reads_own : I.IsStepwise → (p : P) → (threads_in (I.own p) ≡ I.threads p) × ((I.own p).call_states ≡ I.call_states p)
+
+-- from all that a bound by the layer's trait gives
+pub laws_of : {world : World} {Part Law Machine : RattleType} {I : Ghosts Part.Denot Law.Denot Machine.Denot} {dict : Dict}
+    {calls : LawGhosts Law.Denot} {calls_dict : Dict}
+    → Met {M = world.M} {𝓤 = world.𝓤} world.𝓛 world.𝓜 world.𝓡 world.𝓡.env Part Law Machine I dict calls calls_dict → PartLaws I
+laws_of law = record {
+  own_cpu = law.own_cpu;
+  stands = law.stands;
+  moves_legal = law.moves_legal;
+  idle = law.idle;
+  busy = law.busy;
+  reads_own = λ step. law.reads_own;
+}
+
+-- a CPU whose part fits the machine
+pub layered : {P L M : Type 0} {I : Ghosts P L M} (laws : PartLaws I) (m : M) (p : Cpu P M) → I.Fits p.part m → I.cpu_of p.part ≡ p.number
+    → IsCpuAt I m p → (I.IsStepwise → IsTabledAt I m p) → IsLayered I m p
+layered {I} laws m p fits number is table =
+    let acts = laws.own_cpu p.part m fits in
+    record {
+      number = number;
+      acts = acts;
+      stands = laws.stands p.part m fits;
+      moves_legal = laws.moves_legal m (I.cpu_of p.part) acts;
+      is = is;
+      idle = laws.idle p.part m fits;
+      busy = laws.busy p.part m fits;
+      reads_own = λ step. laws.reads_own step p.part;
+      table = table;
+    }
+
+module _ {P L M : Type 0} {I : Ghosts P L M} {m : M} {p : Cpu P M} (at : IsLayered I m p) where
+  -- a thread that runs is at home with it
+  pub runs_home : (t : Tid) → (I.threads p.part).current ≡ Some t → home_of (I.homes_of m) t ≡ Some p.number
+  runs_home t runs =
+      (current_at (I.homes_of m) (I.cpu_of p.part) (I.moves m) (I.threads p.part) at.moves_legal at.stands t runs).0
+      ∙ ap (λ (d : CpuId). Some d) at.number
+
+  -- the machine's holder acts for it
+  pub acts_for : I.ActsFor m p.number
+  acts_for = subst (λ (d : CpuId). I.ActsFor m d) at.number at.acts
+
+  module _ (step : I.IsStepwise) where
+    abbrev pub observed_cpu : ObservedCpu
+    observed_cpu = record {
+      cpu = valid_cpu at.is;
+      caps = I.caps m;
+      part = I.own p.part;
+      opening = I.opening m;
+      part_of = I.cpu_of p.part;
+      number_is = at.number;
+      reads_own = at.reads_own step;
+      tabled = at.table step;
+      home = runs_home;
+    }
+
+    abbrev pub observed_outset : ObservedOutset (λ d. I.ActsFor m d) observed_cpu (I.acts m)
+    observed_outset = record {
+      inside = I.is_inside p.part;
+      acts = acts_for;
+      idle = at.idle;
+      busy = at.busy step;
+      known = hand_known (I.homes_of m) (I.cpu_of p.part) (I.moves m) (I.threads p.part) at.stands at.moves_legal;
+    }
+
+-- a step that touches neither the machine nor the CPU's part
+pub left_alone : {P L M : Type 0} (I : Ghosts P L M) (m : M) (p q : Cpu P M) → I.cpu_of p.part ≡ p.number → q.number ≡ p.number → q.limit ≡ p.limit
+    → q.part ≡ p.part → programs_of q.guests.items ≡ programs_of p.guests.items → Leaves I m p m q
+left_alone I m p q at number limit part programs = record {
+  number = number;
+  limit = limit;
+  cpu = ap I.cpu_of part ∙ at;
+  programs = programs;
+  seen = none_seen _ _ _ _ refl;
+  moves = none_moved _ _ _ _ refl;
+  grows = λ step. none_grow _ _ _ _ refl;
+  opening = refl;
+  caps = refl;
+  homes = refl;
+  site = refl;
+  room = omega arith;
+  acts = λ c acts. acts;
+  others = λ other apart fits. fits;
+  holders = λ c apart acts holds. holds;
+}
+
+-- a step of the CPU's part
+pub left_framed : {P L M : Type 0} (I : Ghosts P L M) (m n : M) (p q : Cpu P M) → I.cpu_of p.part ≡ p.number → q.number ≡ p.number → q.limit ≡ p.limit
+    → Framed I.Fits I.cpu_of I.opening I.site I.room I.ActsFor I.MayHold p.part q.part m n → I.caps n ≡ I.caps m → I.homes_of n ≡ I.homes_of m
+    → programs_of q.guests.items ≡ programs_of p.guests.items → SeenGrows (I.ActsFor m) p.number (I.seen m) (I.seen n)
+    → MovesGrow (I.ActsFor m) p.number (I.moves m) (I.moves n) → (I.IsStepwise → ActsGrow (I.ActsFor m) p.number (I.acts m) (I.acts n)) → Leaves I m p n q
+left_framed I m n p q at number limit framed caps homes programs seen moves grows = record {
+  number = number;
+  limit = limit;
+  cpu = framed.cpu ∙ at;
+  programs = programs;
+  seen = seen;
+  moves = moves;
+  grows = grows;
+  opening = framed.stays.opening;
+  caps = caps;
+  homes = homes;
+  site = framed.stays.site;
+  room = framed.stays.room;
+  acts = framed.stays.acts;
+  others = λ part apart fits. framed.others part (rw at apart) fits;
+  holders = λ d apart acts holds. framed.holders d (rw at apart) acts holds;
+}

@@ -1,0 +1,140 @@
+-- A system that is reached by the step table: at boot, after a step, and after a schedule.
+use Rattle.std.proofs.Common.{◌≡◌, ℕ, zero, suc, ◌+◌, ◌<◌, ◌≤◌, List, [], ◌∷◌, ◌++◌, length, map, replicate, take, Option, Some, None, option_map, refl}
+use Rattle.std.proofs.Common.{ap, sym, ◌∙◌, subst, arith}
+use Rattle.std.specs.Prelude.{slice_get, slice_index_or}
+use Rattle.std.proofs.lemmas.{List.take_more, Option.slice_get_within, Option.same_Some}
+use Rattle.event_log.specs.{declared.entries.Entry.Entry, declared.ids.BufId.BufId, declared.ids.CpuId.CpuId}
+use Rattle.event_log.specs.{declared.ids.TheConstants.THREADS, declared.ids.Tid.Tid, Actions.Action}
+use Rattle.layer_traits.specs.{declared.moves.WaitList.WaitList, declared.steps.Reason.Reason, declared.steps.Step.Step}
+use Rattle.layer_traits.specs.{declared.steps.Step.TheVariants.Stepped, declared.steps.Step.TheVariants.Halted, Places.Step as Moving}
+use Rattle.cpu.specs.{declared.guests.Guest.Guest, Claims.CpuShown, Claims.Shown, Claims.shown_of, Cpus.guest_at, Cpus.programs_of, Sound.IsReachedByTable}
+use Rattle.cpu.specs.{Sound.IsSetupFor, Sound.RanByTable, Sound.ReturnsAlone, Sound.SoundByTable, Sound.after_steps, Systems.GoesBy, Systems.SamePlan}
+use Rattle.cpu.specs.{Systems.SteppedByTable, Systems.whole_of, Table.Setups.Setup, Table.Steps.IsReached, Table.Steps.Whole}
+use Rattle.cpu.specs.{Table.Steps.steps, Table.Steps.steps_by, Table.Steps.system_step, Tower.Views.TowerName}
+use Rattle.cpu.specs.{Wakeups.Alone.HasReturned, Wakeups.Alone.IsInCall, Wakeups.Alone.steps_to_return}
+use Rattle.cpu.proofs.{GuestLists.at_programs, ListReads.shows_at, ListReads.there_is}
+use Rattle.cpu.proofs.{Wakeups.ReachedStates.systems_lose_no_wake_up, Wakeups.ReadyCalls.calls_return_alone}
+
+-- One setup for all states of a system.
+
+pub plan_back : {s r : Shown} → SamePlan s r → SamePlan r s
+plan_back same = record {
+  caps = sym same.caps;
+  homes = sym same.homes;
+  programs = sym same.programs;
+  count = sym same.count;
+  limits = sym same.limits;
+  room = sym same.room;
+}
+
+-- what the elements at one index show, where the lists show the same
+same_shown : {X Y : Type 0} (f : X → Y) (xs ys : List X) (k : ℕ) (x y : X) → map f xs ≡ map f ys → slice_get xs k ≡ Some x → slice_get ys k ≡ Some y → f x ≡ f y
+same_shown f xs ys k x y same at there =
+    same_Some (f x) (f y) (sym (shows_at f xs k x at) ∙ ap (λ l. slice_get l k) same ∙ shows_at f ys k y there)
+
+-- a guest of a table that has the programs of another one
+guest_as : (guests others : List (Option Guest)) (t : ℕ) (g : Guest) → programs_of guests ≡ programs_of others → guest_at guests t ≡ Some g
+    → (x : Guest) × (guest_at others t ≡ Some x) × (x.program ≡ g.program)
+guest_as guests others t g same at = go (guest_at others t) refl
+  where
+    shown : option_map (λ x. x.program) (guest_at others t) ≡ Some g.program
+    shown =
+        sym (at_programs others t) ∙ ap (λ (l : List (Option (List _))). slice_index_or l t None) (sym same) ∙ at_programs guests t
+        ∙ ap (λ (o : Option Guest). option_map (λ x. x.program) o) at
+
+    go : (o : Option Guest) → guest_at others t ≡ o → (x : Guest) × (guest_at others t ≡ Some x) × (x.program ≡ g.program)
+    go None is = absurd (cc (shown, is))
+    go (Some x) is = (x, is, same_Some x.program g.program (sym (ap (λ (o : Option Guest). option_map (λ y. y.program) o) is) ∙ shown))
+
+-- a setup of a system is that of each other state of it
+pub goes_on : (setup : Setup) {s r : Shown} → SamePlan s r → GoesBy setup s → GoesBy setup r
+goes_on setup {s = s} {r = r} same goes = record {
+  each = λ k q at.
+      let within = slice_get_within r.cpus k q at in
+      let count = same.count in
+      let old = there_is s.cpus k (omega (arith, within, count)) in
+      let of = goes.each k old.0 old.1 in
+      record {
+        homes_are = of.homes_are ∙ sym same.homes;
+        caps_are = of.caps_are ∙ sym same.caps;
+        room_is = of.room_is ∙ same_shown (λ (p : CpuShown). p.limit) s.cpus r.cpus k old.0 q (sym same.limits) old.1 at;
+        programs_are = λ t g there.
+            let before = guest_as q.guests old.0.guests t.0 g (same_shown (λ (p : CpuShown). programs_of p.guests) r.cpus s.cpus k q old.0 same.programs
+            at old.1) there in
+            of.programs_are t before.0 before.1 ∙ before.2;
+      };
+}
+
+pub setup_on : (setup : Setup) {s r : Shown} → SamePlan s r → IsSetupFor setup s → IsSetupFor setup r
+setup_on setup same is = record { goes = goes_on setup same is.goes; count = is.count ∙ sym same.count }
+
+-- A step.
+
+-- after a step of the table a system is reached as before it
+pub reached_on : (c : CpuId) (s r : Shown) (answer : Step) → c.0 < length s.cpus → SamePlan s r → SteppedByTable c s r answer → IsReachedByTable s
+    → IsReachedByTable r
+reached_on c s r answer within same went reached setup is =
+    let before = setup_on setup (plan_back same) is in
+    let count = before.count in
+    let next : (system_step setup c (whole_of s)).next ≡ whole_of r = ap (λ x. x.next) (sym (went setup before.goes)) in
+    subst (λ (n : ℕ). IsReached setup n (whole_of r)) (sym same.room)
+    (subst (λ (w : Whole). IsReached setup s.room w) next (steps c (reached setup before) (omega (arith, count, within))))
+
+-- what a machine tells
+pub record Observed : Type 0 where
+  pub caps : List ℕ
+  pub homes : List CpuId
+  pub seen : List Entry
+  pub wait_lists : BufId → WaitList → List Tid
+  pub owner : BufId → Option Tid
+  pub moves : List Moving
+  pub acts : List (Action TowerName)
+
+abbrev pub shown_in : Observed → List CpuShown → ℕ → ℕ → Shown
+shown_in m cpus room taken = shown_of m.caps m.homes m.seen m.wait_lists m.owner m.moves m.acts cpus room taken
+
+-- A schedule.
+
+pub after_more : (setup : Setup) (cs : List CpuId) (c : CpuId) (s : Whole)
+    → after_steps setup (cs ++ c ∷ []) s ≡ (system_step setup c (after_steps setup cs s)).next
+after_more setup [] c s = refl
+after_more setup (d ∷ cs) c s = after_more setup cs c (system_step setup d s).next
+
+-- a step more of a schedule, taken or not
+pub ran_on : (start s r : Shown) (all : List CpuId) (i : ℕ) (d : CpuId) (answer : Step) → i < length all → SamePlan start s → RanByTable start (take i all) s
+    → SteppedByTable (slice_index_or all i d) s r answer → RanByTable start (take (i + 1) all) r
+ran_on start s r all i d answer within same ran went setup goes =
+    sym (ap (λ x. x.next) (sym (went setup (goes_on setup same goes))))
+    ∙ ap (λ (w : Whole). (system_step setup (slice_index_or all i d) w).next) (ran setup goes)
+    ∙ sym (after_more setup (take i all) (slice_index_or all i d) (whole_of start))
+    ∙ ap (λ (l : List CpuId). after_steps setup l (whole_of start)) (sym (take_more all i d within))
+
+-- what a step went by, whatever it answered
+pub went_by : (IsStepwise : Type 0) (c : CpuId) (s r : Shown) (answer : Step) → IsStepwise → (IsStepwise → answer ≡ Stepped → SteppedByTable c s r Stepped)
+    → (IsStepwise → (reason : Reason) → answer ≡ Halted reason → SteppedByTable c s r (Halted reason)) → SteppedByTable c s r answer
+went_by IsStepwise c s r Stepped step goes halts = goes step refl
+went_by IsStepwise c s r (Halted reason) step goes halts = halts step reason refl
+
+-- so many steps of one CPU
+pub steps_alone : (setup : Setup) (c : CpuId) (n : ℕ) (s : Whole) → after_steps setup (replicate n c) s ≡ steps_by setup c n s
+steps_alone setup c zero s = refl
+steps_alone setup c (suc n) s = steps_alone setup c n (system_step setup c s).next
+
+-- What follows.
+
+pub sound_of : (s : Shown) → IsReachedByTable s → SoundByTable s
+sound_of s reached = record { reached = reached; awake = λ setup is b k at. systems_lose_no_wake_up setup s.room (whole_of s) (reached setup is) b k at }
+
+pub alone_of : (s : Shown) → length s.homes ≤ THREADS → 0 < length s.cpus → IsReachedByTable s → ReturnsAlone s
+alone_of s few some reached setup is c p t ready room =
+    let first = there_is s.cpus 0 some in
+    let homes = ap (λ (l : List CpuId). length l) (is.goes.each 0 first.0 first.1).homes_are in
+    let alone = calls_return_alone setup s.room (whole_of s) c p t (omega (arith, homes, few)) (reached setup is) ready (omega (arith, room)) in (
+      λ new ran. subst (λ (w : Whole). HasReturned w c p t ready.effect ready.buffer)
+          (after (steps_to_return setup c ready.effect ready.block) new ran) alone.0,
+      λ n before one_more ran. subst (λ (w : Whole). IsInCall w c t) (after n before ran) (alone.1 n one_more),
+      alone.2,
+    )
+  where
+    after : (n : ℕ) (new : Shown) → RanByTable s (replicate n c) new → steps_by setup c n (whole_of s) ≡ whole_of new
+    after n new ran = sym (ran setup is.goes ∙ steps_alone setup c n (whole_of s))

@@ -1,0 +1,111 @@
+-- A system over a layer of message calls, after a step of one of its CPUs.
+use Rattle.std.proofs.Common.{◌≡◌, ℕ, ◌+◌, ◌<◌, List, length, map, Option, Some, slice_set, vec_capacity, ap, arith, sym, subst, ◌∙◌, refl}
+use Rattle.std.specs.Prelude.{slice_get}
+use Rattle.std.proofs.lemmas.Option.{slice_get_within}
+use Rattle.std.specs.List.{AllByRecursion}
+use Rattle.event_log.specs.{declared.ids.BufId.BufId, declared.ids.TheConstants.CPUS, declared.ids.Tid.Tid, declared.ids.CpuId.CpuId, Actions.AreLegal}
+use Rattle.layer_traits.specs.{declared.call_layers.CallLayer.Ghosts, declared.steps.Step.TheVariants.Stepped, Along.IsStep, OnePlace.cpu_at, Places.Stands}
+use Rattle.cpu.specs.{declared.cpus.Cpu.Cpu, Claims.CpuShown, Claims.cpu_shown, CpuSteps.IsCpuAt, CpuSteps.IsTabledAt, CpuSteps.Leaves, Sound.IsReachedByTable}
+use Rattle.cpu.specs.{CpuSteps.WentAt, Systems.SteppedByTable, Table.Steps.cpu_step, Tower.Composed.named, Cpus.IsCpu, Cpus.programs_of, Systems.IsAt}
+use Rattle.cpu.specs.{Systems.SamePlan}
+use Rattle.cpu.proofs.{InvariantOverSteps.Holds, InvariantOverSteps.Works, InvariantOverSteps.stepped, ReachedSystems.Observed, ReachedSystems.shown_in, ListReads.shown_at, ListReads.shown_same}
+use Rattle.cpu.proofs.{ListReads.shown_length, ListReads.shows_at, OneOrder.Has, ReachedSystems.reached_on, TableSystems.shown_step}
+
+-- what a CPU shows
+abbrev pub shown_by : {P L M : Type 0} → Ghosts P L M → Cpu P M → CpuShown
+shown_by I x = cpu_shown (I.threads x.part) x.guests.items x.trace.items x.limit (I.is_inside x.part) (I.own x.part)
+
+-- what the machine tells, who owns its locks among it
+abbrev pub observed_by : {P L M : Type 0} → Ghosts P L M → (M → BufId → Option Tid) → M → Observed
+observed_by I owner m = record {
+  caps = I.caps m;
+  homes = I.homes_of m;
+  seen = I.seen m;
+  wait_lists = I.wait_lists m;
+  owner = owner m;
+  moves = I.moves m;
+  acts = I.acts m;
+}
+
+-- the CPUs of a system of so many threads
+abbrev pub works_by : {P L M : Type 0} → Ghosts P L M → (M → BufId → Option Tid) → ℕ → Works M (Cpu P M)
+works_by I owner threads = record {
+  Fits = λ x m. I.Fits x.part m;
+  number = λ x. x.number;
+  cpu = λ x. I.cpu_of x.part;
+  shown = shown_by I;
+  call_states = λ x. I.call_states x.part;
+  under_way = λ x. I.under_way x.part;
+  capacity = λ x. vec_capacity x.trace;
+  ActsFor = λ m c. I.ActsFor m c;
+  MayHold = λ m c. I.MayHold m c;
+  IsStepwise = I.IsStepwise;
+  told = observed_by I owner;
+  left = λ m. I.room m;
+  Tabled = λ m x. I.IsStepwise → IsTabledAt I m x;
+  Sound = λ m cpus space done. (threads ≡ length (I.homes_of m))
+      × (I.IsStepwise → IsReachedByTable (shown_in (observed_by I owner m) (map (shown_by I) cpus) space done));
+}
+
+module _ {P L M : Type 0} (I : Ghosts P L M) (owner : M → BufId → Option Tid) (threads : ℕ) where
+  abbrev W : Works M (Cpu P M)
+  W = works_by I owner threads
+
+  -- after a step of CPU number k, from x to y, the system keeps its plan
+  pub plan_preserved : (m n : M) (cpus : List (Cpu P M)) (room taken later k : ℕ) (x y : Cpu P M) → slice_get cpus k ≡ Some x → Leaves I m x n y
+      → SamePlan (shown_in (observed_by I owner m) (map (shown_by I) cpus) room taken)
+      (shown_in (observed_by I owner n) (map (shown_by I) (slice_set cpus k y)) room later)
+  plan_preserved m n cpus room taken later k x y at left = record {
+    caps = left.caps;
+    homes = left.homes;
+    programs = shown_same (shown_by I) (λ (p : CpuShown). programs_of p.guests) cpus k x y at left.programs;
+    count = shown_length (shown_by I) cpus k y;
+    limits = shown_same (shown_by I) (λ (p : CpuShown). p.limit) cpus k x y at left.limit;
+    room = refl;
+  }
+
+  -- CPU c, at number k, took a step of the step table, from x to y
+  module _ (m n : M) (cpus : List (Cpu P M)) (room taken k : ℕ) (c : CpuId) (x y : Cpu P M) (is : Holds W m cpus room taken) (at : slice_get cpus k ≡ Some x)
+      (same : k ≡ c.0) (left : Leaves I m x n y) (live : taken < room) (legal : AreLegal (I.acts n)) (went : I.IsStepwise → WentAt I m x n y Stepped) where
+    -- so did the table's system
+    pub by_table : I.IsStepwise → SteppedByTable c (shown_in (observed_by I owner m) (map (shown_by I) cpus) room taken)
+        (shown_in (observed_by I owner n) (map (shown_by I) (slice_set cpus k y)) room (taken + 1)) Stepped
+    by_table step setup goes =
+        let number : x.number ≡ c = (is.each k x at).number_is ∙ ap (λ (j : ℕ). cpu_at j) same in
+        shown_step (shown_by I) (λ d. I.ActsFor m d) setup c cpus k x y (I.acts m) (I.acts n) room taken at same
+        (subst (λ (d : CpuId). IsStep (λ a. I.ActsFor m a) (cpu_step setup d) (shown_by I x).private (shown_by I y).private (named (I.acts m)) (named (I.acts n))
+        Stepped) number (went step setup (goes.each k (shown_by I x) (shows_at (shown_by I) cpus k x at)))) is.acts_for legal (λ full. omega (arith, full, live))
+
+    -- and all holds as before
+    pub went_on : I.Fits y.part n → IsCpuAt I n y → (I.IsStepwise → IsTabledAt I n y) → AllByRecursion (λ e. e.cpu.0 < CPUS) (I.seen n)
+        → Holds W n (slice_set cpus k y) room (taken + 1)
+    went_on fits keeps table known =
+        let there = slice_get_within (map (shown_by I) cpus) k (shown_by I x) (shows_at (shown_by I) cpus k x at) in
+        stepped W m n cpus room taken k x y is (
+          is.sound.0 ∙ ap (λ (l : List CpuId). length l) (sym left.homes),
+          λ step. reached_on c _ _ Stepped (subst (λ (j : ℕ). j < length (map (shown_by I) cpus)) same there)
+              (plan_preserved m n cpus room taken (taken + 1) k x y at left) (by_table step) (is.sound.1 step),
+        ) at left.number left.cpu fits keeps table (λ z before step. rw (left.homes, left.caps, left.opening) (before step))
+        (λ z other there. left.others z.part other there) left.acts left.holders left.seen left.grows known left.homes left.caps left.room live
+
+-- from what always holds of each CPU to what is shown of it
+pub cpus_have : {P L M : Type 0} (I : Ghosts P L M) (m : M) (cpus : List (Cpu P M))
+    → ((k : ℕ) (x : Cpu P M) → slice_get cpus k ≡ Some x
+    → IsAt (λ y. I.Fits y.part m × (I.cpu_of y.part ≡ y.number) × IsCpuAt I m y × (I.IsStepwise → IsTabledAt I m y)) (λ y. y.number) k x)
+    → ((part : P) → I.Fits part m → Stands (I.homes_of m) (I.cpu_of part) (I.moves m) (I.threads part))
+    → (k : ℕ) (p : CpuShown) → slice_get (map (shown_by I) cpus) k ≡ Some p → Has (I.homes_of m) (length (I.caps m)) (I.seen m) (I.moves m) k p
+cpus_have {P} {M} I m cpus each stand = shown_at (shown_by I) (λ k p. Has (I.homes_of m) (length (I.caps m)) (I.seen m) (I.moves m) k p) cpus has_of
+  where
+    has_of : (k : ℕ) (x : Cpu P M) → slice_get cpus k ≡ Some x → Has (I.homes_of m) (length (I.caps m)) (I.seen m) (I.moves m) k (shown_by I x)
+    has_of k x there =
+        let at = (each k x there).number_is in
+        let holds = (each k x there).holds in
+        record {
+          call_states = I.call_states x.part;
+          under_way = I.under_way x.part;
+          capacity = vec_capacity x.trace;
+          is = subst (λ (c : CpuId). IsCpu (I.homes_of m) (length (I.caps m)) (I.seen m) (I.threads x.part) (I.call_states x.part)
+              (I.under_way x.part) c x.guests.items
+              x.trace.items x.limit (vec_capacity x.trace)) at holds.2;
+          stands = subst (λ (c : CpuId). Stands (I.homes_of m) c (I.moves m) (I.threads x.part)) (holds.1 ∙ at) (stand x.part holds.0);
+        }

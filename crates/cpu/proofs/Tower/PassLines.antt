@@ -1,0 +1,197 @@
+-- The passes from thread to thread are lines of the table, or steps of it without an action.
+use Rattle.std.proofs.Common.{◌≡◌, ◌≢◌, ℕ, ◌+◌, ◌<◌, Bool, true, false, ◌&&◌, ◌||◌, List, [], ◌∷◌, ◌++◌, length, slice_get, slice_set, Option, Some, None}
+use Rattle.std.proofs.Common.{IsSome, refl, ap, sym, ◌∙◌, arith, inl, inr}
+use Rattle.std.proofs.{lemmas.Bool.ne_eqb, lemmas.List.append-nil, Math.Bool.or-true}
+use Rattle.event_log.specs.declared.{entries.Entry.Entry, ids.BufId.BufId, ids.CpuId.CpuId, ids.LockId.TheVariants.Pending, ids.Tid.Tid}
+use Rattle.guest.specs.State.{State, after_yield, at_start, next_of}
+use Rattle.thread_blocks.specs.Queues.{is_in, same_tid}
+use Rattle.thread_blocks.proofs.{Members.same_tid_self, Distinct.pushed_in}
+use Rattle.layer_traits.specs.{declared.passes.Pass.Pass, declared.call_states.CallState.CallState, QLockLaw.slept_for, Passes.queue_for, Places.is_thread}
+use Rattle.layer_traits.specs.{Plans.Left, BufferLaw.Buffering, BufferLaw.fifo_pass_plan, BufferLaw.no_call, BufferLaw.call_state_of}
+use Rattle.cpu.specs.{Table.Blocks.Pend, Table.Setups.Setup, Table.Setups.Private, Table.Setups.Thread, Table.Setups.program_of, Table.Setups.thread_at}
+use Rattle.cpu.specs.{Table.Choice.after_by, Table.Choice.after_section, Table.Choice.asked_by, Table.Choice.at_pending, Table.Choice.ends}
+use Rattle.cpu.specs.{Table.Choice.with_guest, Tower.Views.TowerAnswer, Tower.Views.TowerBlock, Tower.Views.answer_view, Tower.Views.tower}
+use Rattle.cpu.specs.{Tower.Privates.guest_at, Tower.Privates.private_of, Tower.Privates.private_passed, Tower.Privates.thread_from, Tower.Privates.thread_of}
+use Rattle.cpu.specs.{Tower.Privates.tid, Tower.Composed.HandIsKnown, Tower.Composed.IsKind, Tower.Composed.IsLine}
+use Rattle.cpu.proofs.Tower.{Callers.Runner, ChangedThread.changed, ChangedThread.numbered_changed, ChangedThread.numbered_same, ChangedThread.own_at, ChangedThread.part_at}
+use Rattle.cpu.proofs.Tower.{ChangedThread.parts, ChangedThread.threads_at, SectionLines.react_in, HandLines.home_there, HandLines.queue_is, Chains.put_same, BegunPolls.thread_here}
+use Rattle.layer_traits.specs.declared.passes.Pass.TheVariants as pass
+use Rattle.layer_traits.specs.declared.queue_edits.QueueBlock.TheVariants as block
+use Rattle.layer_traits.specs.declared.queue_edits.QueueEdit.TheVariants as queue
+use Rattle.layer_traits.specs.declared.queues.QueueAnswer.TheVariants as told
+use Rattle.layer_traits.specs.declared.call_states.Stage.TheVariants as at
+
+-- the plan of a poll of this pass is a line of the table
+abbrev pub PassLine : Setup → CpuId → Pass → Buffering → List State → List Entry → Type 0
+PassLine setup c p own guests trace =
+    IsLine setup c (private_of own guests trace) (fifo_pass_plan setup.homes c p own) (private_passed setup own guests trace p)
+
+or_false : (b : Bool) → (b || false) ≡ b
+or_false true = refl
+or_false false = refl
+
+and_false : (b : Bool) → (b && false) ≡ false
+and_false true = refl
+and_false false = refl
+
+module _ (setup : Setup) (c : CpuId) (guests : List State) (trace : List Entry) (ended : List Tid) (slept waits : List (Option BufId))
+    (call_states : List CallState) where
+  -- nobody runs or is ready: the pending are taken
+  abbrev idle_with : List Tid → Buffering
+  idle_with ready = own_at None None ready ended None slept waits call_states
+
+  pub drain_line : PassLine setup c pass.Drain (idle_with []) guests trace
+  drain_line = record {
+    lock = Pending c;
+    name = queue.TakeAll;
+    react = react_in (fifo_pass_plan setup.homes c pass.Drain (idle_with []));
+    is = refl;
+    asks = refl;
+    used = inl refl;
+    stays = refl;
+    gives = by_block;
+  }
+    where
+      by_block : (x : TowerBlock) → IsKind (Pending c) x
+          → HandIsKnown setup (react_in (fifo_pass_plan setup.homes c pass.Drain (idle_with [])) (Some (tower.answer queue.TakeAll x))).own
+          → private_passed setup (idle_with []) guests trace pass.Drain
+          (react_in (fifo_pass_plan setup.homes c pass.Drain (idle_with [])) (Some (tower.answer queue.TakeAll x)))
+          ≡ after_section setup c (private_of (idle_with []) guests trace) (answer_view (tower.answer queue.TakeAll x))
+      by_block (block.Above state) kind known = absurd kind
+      by_block (block.Queue threads homes) kind known = ap (λ r. private_of (idle_with r) guests trace) (append-nil threads)
+
+  -- the thread in the hand is put among its home's pending
+  abbrev holding : Tid → List Tid → Buffering
+  holding u ready = own_at None (Some u) ready ended None slept waits call_states
+
+  pub make_ready_line : (u : Tid) (ready : List Tid) → IsSome (slice_get setup.homes u.0) → PassLine setup c (pass.MakeReady u) (holding u ready) guests trace
+  make_ready_line u ready known = record {
+    lock = Pending (queue_for setup.homes c u);
+    name = queue.Push u;
+    react = react_in (fifo_pass_plan setup.homes c (pass.MakeReady u) (holding u ready));
+    is = refl;
+    asks = ap (λ d. at_pending d (Pend u)) (sym (queue_is c (slice_get setup.homes u.0) known));
+    used = inr (u, home_there c (slice_get setup.homes u.0) known);
+    stays = refl;
+    gives = λ x kind hand. refl;
+  }
+
+  -- The thread that runs is in no call.
+
+  module _ (t : Tid) (ready : List Tid) (at_idle : (call_state_of call_states t).stage ≡ at.Idle) (in_guests : t.0 < length guests)
+      (in_call_states : t.0 < length call_states) where
+    abbrev runner : Runner
+    runner = record {
+      t = t;
+      ready = ready;
+      ended = ended;
+      slept = slept;
+      waits = waits;
+      call_states = call_states;
+      guests = guests;
+      in_guests = in_guests;
+      in_call_states = in_call_states;
+    }
+
+    abbrev pub running : Buffering
+    running = part_at runner None None
+
+    abbrev p : Private
+    p = private_of running guests trace
+
+    abbrev g : State
+    g = guest_at guests t
+
+    abbrev free : State → Thread
+    free guest = record { guest = guest; call = None; ended = is_in t ended }
+
+    thread_free : (k : Bool) (guest : State)
+        → thread_from (call_state_of call_states t) (slept_for slept t) (slept_for waits t) k (is_in t ended) guest ≡ free guest
+    thread_free k guest =
+        ap (λ s. thread_from (record (call_state_of call_states t) { stage = s }) (slept_for slept t) (slept_for waits t) k (is_in t ended) guest) at_idle
+
+    pub there_free : thread_at p t ≡ free g
+    there_free = thread_here running guests trace t in_guests ∙ thread_free (is_thread t (Some t) && false) g
+
+    -- it yields: the pending are ready, and behind them the thread
+    abbrev yields : Option TowerAnswer → Left Buffering (Unit {0})
+    yields reply = react_in (fifo_pass_plan setup.homes c pass.YieldNow running) reply
+
+    yielded : (pending : List Tid)
+        → private_passed setup running guests trace pass.YieldNow (yields (Some (told.Taken pending)))
+        ≡ after_section setup c p (answer_view (told.Taken pending))
+    yielded pending =
+        let guest : State = after_yield (next_of (program_of setup t) g) g in
+        let ready2 : List Tid = (ready ++ pending) ++ t ∷ [] in
+        (λ i. private_of (own_at None None ready2 ended None slept waits (put_same call_states t.0 (call_state_of call_states t) no_call refl i))
+        (slice_set guests t.0 guest) trace)
+        ∙ (changed runner None None None None ready2 None slept waits (call_state_of call_states t) guest trace
+        (slept_for slept t) (slept_for waits t) false (λ j other. refl) (λ j other. refl) (λ j other. refl) refl refl refl
+        ∙ (ap (λ x. parts None ready2 None (slice_set (threads_at running guests) t.0 x) trace) (thread_free false guest)
+        ∙ sym (ap (λ x. after_by setup c p t x.call (answer_view (told.Taken pending))) there_free
+        ∙ ap (λ x. parts None ready2 None (slice_set (threads_at running guests) t.0
+        (record x { guest = after_yield (next_of (program_of setup t) x.guest) x.guest })) trace)
+        there_free)))
+
+    pub yield_line : PassLine setup c pass.YieldNow running guests trace
+    yield_line = record {
+      lock = Pending c;
+      name = queue.TakeAll;
+      react = yields;
+      is = refl;
+      asks = ap (λ x. asked_by c t x.call) there_free;
+      used = inl refl;
+      stays = refl;
+      gives = by_block;
+    }
+      where
+        by_block : (x : TowerBlock) → IsKind (Pending c) x → HandIsKnown setup (yields (Some (tower.answer queue.TakeAll x))).own
+            → private_passed setup running guests trace pass.YieldNow (yields (Some (tower.answer queue.TakeAll x)))
+            ≡ after_section setup c p (answer_view (tower.answer queue.TakeAll x))
+        by_block (block.Above state) kind known = absurd kind
+        by_block (block.Queue threads homes) kind known = yielded threads
+
+    -- it ends
+    pub ended_now : private_of (own_at None None ready (ended ++ t ∷ []) None slept waits call_states) guests trace ≡ ends p t
+    ended_now =
+        let after : Buffering = own_at None None ready (ended ++ t ∷ []) None slept waits call_states in
+        let zero_plus : t.0 ≡ 0 + t.0 = omega arith in
+        ap (λ l. parts None ready None l trace)
+        (ap (λ l. threads_at after l) (put_same guests t.0 g at_start refl)
+        ∙ (numbered_changed (λ n. thread_of running (tid n)) (λ n. thread_of after (tid n)) 0 t.0 t.0 guests g zero_plus
+        (λ j x other. λ i. thread_from (call_state_of call_states (tid j)) (slept_for slept (tid j)) (slept_for waits (tid j))
+        (sym (ap (λ b. b && false) (ne_eqb t.0 j (λ e. other (sym e)))) i) (not_new j other i) x) in_guests
+        ∙ (ap (λ x. slice_set (threads_at running guests) t.0 x) here
+        ∙ ap (λ x. slice_set (threads_at running guests) t.0 (record x { ended = true })) (sym there_free))))
+      where
+        not_new : (j : ℕ) → j ≢ t.0 → is_in (tid j) (ended ++ t ∷ []) ≡ is_in (tid j) ended
+        not_new j other =
+            pushed_in (tid j) t ended
+            ∙ (ap (λ b. is_in (tid j) ended || (b || false)) (ne_eqb j t.0 other) ∙ or_false (is_in (tid j) ended))
+
+        here : thread_of (own_at None None ready (ended ++ t ∷ []) None slept waits call_states) t g ≡ record { guest = g; call = None; ended = true }
+        here =
+            ap (λ s. thread_from (record (call_state_of call_states t) { stage = s }) (slept_for slept t) (slept_for waits t) false (is_in t
+            (ended ++ t ∷ [])) g) at_idle
+            ∙ ap (λ b. record { guest = g; call = None; ended = b })
+            (pushed_in t t ended ∙ (ap (λ b. is_in t ended || (b || false)) (same_tid_self t) ∙ or-true (is_in t ended)))
+
+  -- an instruction of the thread's own
+  pub computed_now : (own : Buffering) (t : Tid) (guest : State) → t.0 < length guests
+      → private_of own (slice_set guests t.0 guest) trace ≡ with_guest (private_of own guests trace) t guest
+  computed_now own t guest within =
+      let zero_plus : t.0 ≡ 0 + t.0 = omega arith in
+      ap (λ l. parts own.cv.lock.sleep.threads.current own.cv.lock.sleep.threads.ready own.cv.lock.sleep.threads.hand l trace)
+      (numbered_changed (λ n. thread_of own (tid n)) (λ n. thread_of own (tid n)) 0 t.0 t.0 guests guest zero_plus (λ j x other. refl) within
+      ∙ ap (λ x. slice_set (threads_at own guests) t.0 (record x { guest = guest })) (sym (thread_here own guests trace t within)))
+
+  -- the first that is ready runs
+  pub switched_now : (t : Tid) (ready : List Tid)
+      → private_of (own_at (Some t) None ready ended None slept waits call_states) guests trace
+      ≡ record (private_of (idle_with (t ∷ ready)) guests trace) { current = Some t; ready = ready }
+  switched_now t ready =
+      ap (λ l. parts (Some t) ready None l trace)
+      (numbered_same (λ n. thread_of (idle_with (t ∷ ready)) (tid n))
+      (λ n. thread_of (own_at (Some t) None ready ended None slept waits call_states) (tid n)) 0 guests
+      (λ j x below. ap (λ k. thread_from (call_state_of call_states (tid j)) (slept_for slept (tid j)) (slept_for waits (tid j)) k (is_in (tid j) ended) x)
+      (and_false (same_tid t (tid j)))))

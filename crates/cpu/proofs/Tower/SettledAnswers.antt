@@ -1,0 +1,64 @@
+-- What the table makes of the answer of a section of the current thread's call.
+use Rattle.std.proofs.Common.{◌≡◌, ◌<◌, Bool, List, length, slice_set, Option, Some, None, ap, ◌∙◌}
+use Rattle.std.proofs.lemmas.List.{get_or-set_same, set-set}
+use Rattle.event_log.specs.declared.{entries.Entry.Entry, ids.CpuId.CpuId, ids.Tid.Tid}
+use Rattle.guest.specs.State.{State, next_of}
+use Rattle.cpu.specs.Table.{Blocks.Answer, Setups.Setup, Setups.Call, Setups.Thread, Setups.Private, Setups.new_thread, Setups.program_of, Setups.thread_at}
+use Rattle.cpu.specs.Table.{Choice.after_by, Choice.after_section, Choice.asked, Choice.asked_by, Choice.at_buffer, Choice.guest_after, Choice.recorded}
+use Rattle.cpu.specs.Table.{Choice.returned_at, Choice.returned_by, Choice.section_at, Choice.settled, Choice.slept_if, Choice.woken}
+use Rattle.layer_traits.specs.declared.call_states.Stage.TheVariants.{Idle}
+use Rattle.cpu.proofs.Tower.ChangedThread.{parts}
+
+module _ (setup : Setup) (c : CpuId) (ready : List Tid) (threads : List Thread) (trace : List Entry) (t : Tid) (g : State) (e : Bool)
+    (within : t.0 < length threads) where
+  -- thread t inside a call, and after it
+  abbrev pub calling : Call → Thread
+  calling call = record { guest = g; call = Some call; ended = e }
+
+  abbrev pub done_with : Call → Thread
+  done_with call = record { guest = guest_after call.asks call.closed (next_of (program_of setup t) g) call.message g; call = None; ended = e }
+
+  -- thread t runs and stands so
+  abbrev pub with_t : List Tid → Option Tid → Thread → List Entry → Private
+  with_t ready2 hand x trace2 = parts (Some t) ready2 hand (slice_set threads t.0 x) trace2
+
+  abbrev pub from_t : Call → Private
+  from_t call = with_t ready None (calling call) trace
+
+  there : (x : Thread) (ready2 : List Tid) (hand : Option Tid) (trace2 : List Entry) → thread_at (with_t ready2 hand x trace2) t ≡ x
+  there x ready2 hand trace2 = get_or-set_same threads t.0 x new_thread within
+
+  pub asks_for : (call : Call) → asked setup c (from_t call) ≡ at_buffer call.buffer (section_at t call call.stage)
+  asks_for call = ap (λ x. asked_by c t x.call) (there (calling call) ready None trace)
+
+  -- the table's private state after a section whose answer leaves the call so
+  abbrev pub put : Call → Call → List Entry → Thread → Private
+  put call next trace2 x = parts (Some t) ready None (slice_set (slice_set threads t.0 (calling call)) t.0 (record x { call = Some next })) trace2
+
+  pub recorded_is : (call : Call) (a : Answer) (next : Call) (trace2 : List Entry)
+      → recorded c (from_t call) t call call.stage a.told ≡ put call next trace2 (thread_at (from_t call) t)
+      → after_section setup c (from_t call) a ≡ settled setup (woken setup c a.woke (slept_if a.slept (with_t ready None (calling next) trace2)))
+  recorded_is call a next trace2 is =
+      ap (λ x. after_by setup c (from_t call) t x.call a) (there (calling call) ready None trace)
+      ∙ ap (λ r. settled setup (woken setup c a.woke (slept_if a.slept r)))
+      (is ∙ (ap (put call next trace2) (there (calling call) ready None trace)
+      ∙ ap (λ l. parts (Some t) ready None l trace2) (set-set threads t.0 (calling call) (calling next))))
+
+  -- a call that has a section left goes on
+  pub goes_on : (next : Call) (ready2 : List Tid) (trace2 : List Entry) → ((p : Private) → returned_at setup p t next next.stage ≡ p)
+      → settled setup (with_t ready2 None (calling next) trace2) ≡ with_t ready2 None (calling next) trace2
+  goes_on next ready2 trace2 stays =
+      ap (λ x. returned_by setup (with_t ready2 None (calling next) trace2) t x.call) (there (calling next) ready2 None trace2)
+      ∙ stays (with_t ready2 None (calling next) trace2)
+
+  -- a call that has none left returns
+  pub returns : (call : Call) (ready2 : List Tid) (trace2 : List Entry)
+      → settled setup (with_t ready2 None (calling (record call { stage = Idle })) trace2) ≡ with_t ready2 None (done_with call) trace2
+  returns call ready2 trace2 =
+      let next : Call = record call { stage = Idle } in
+      let p : Private = with_t ready2 None (calling next) trace2 in
+      ap (λ x. returned_by setup p t x.call) (there (calling next) ready2 None trace2)
+      ∙ (ap (λ x. parts (Some t) ready2 None (slice_set (slice_set threads t.0 (calling next)) t.0
+      (record x { guest = guest_after call.asks call.closed (next_of (program_of setup t) x.guest) call.message x.guest; call = None })) trace2)
+      (there (calling next) ready2 None trace2)
+      ∙ ap (λ l. parts (Some t) ready2 None l trace2) (set-set threads t.0 (calling next) (done_with call)))

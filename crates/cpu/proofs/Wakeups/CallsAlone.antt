@@ -1,0 +1,373 @@
+-- A call alone goes through its sections, with one more where a signal wakes a thread of another CPU.
+use Rattle.std.proofs.Common.{◌≡◌, ℕ, ◌+◌, ◌<◌, ◌≤◌, Bool, true, false, not, ◌&&◌, List, [], ◌∷◌, ◌++◌, slice_get, Option, Some, None, option_map}
+use Rattle.std.proofs.Common.{if◌then◌else◌, refl, sym, ap, ◌∙◌, subst, arith}
+use Rattle.std.proofs.lemmas.Bool.{lt-ltb}
+use Rattle.event_log.specs.declared.ids.{CpuId.CpuId, Tid.Tid, LockId.TheVariants.Pending, LockId.TheVariants.Buffer as AtBuffer, TheConstants.THREADS}
+use Rattle.event_log.specs.{declared.entries.Entry.Entry, History.same_cpu, Runs.Sends, Runs.Receives, Sections.Section}
+use Rattle.thread_blocks.specs.Queues.{first}
+use Rattle.layer_traits.specs.{declared.locked.Side.TheVariants.Receivers, declared.locked.Side.TheVariants.Senders, BufferBlocks.may_join}
+use Rattle.cpu.specs.Table.{Blocks.Buffer, Blocks.OfBuffer, Blocks.Name, Blocks.RelQ, Blocks.Pend, Blocks.side_of, Blocks.Reported, Blocks.Nothing}
+use Rattle.cpu.specs.Table.{Blocks.Position, Blocks.Answer, Edits.edited_buffer, Edits.acquired, Edits.entered, Edits.reports, Edits.wakes, Edits.answer}
+use Rattle.cpu.specs.Table.{Edits.answer_of_acquire, Edits.answer_of_buffer, Setups.Setup, Setups.Call, Setups.Private, Setups.thread_at, Setups.home_of}
+use Rattle.cpu.specs.Table.{Setups.home_threads, Setups.have_ended, Setups.stands_at, Choice.section_at, Choice.first_signal, Choice.second_signal}
+use Rattle.cpu.specs.Table.{Choice.asked, Choice.Goes, Choice.choice, Choice.with_call, Choice.entry_of, Choice.effected, Choice.recorded, Choice.woken}
+use Rattle.cpu.specs.Table.{Choice.guest_after, Choice.returned, Choice.returned_at, Choice.settled, Choice.after_section, Steps.Whole, Steps.steps_by}
+use Rattle.layer_traits.specs.declared.call_states.Stage.TheVariants.{Idle, Acquires, Enters, Tries, Signals, SignalsOwn, Releases}
+use Rattle.cpu.specs.Wakeups.{Alone.IsInCall, Alone.steps_to_move, Order.block_of}
+use Rattle.cpu.proofs.Wakeups.{Agreement.at_same, CpuStep.pending_there}
+use Rattle.cpu.proofs.Wakeups.CpuAlone.{steps_more, section_of, Stands, after_three, two_steps, here_two, three_steps, stands_after, InCall, with_new, goes_on}
+use Rattle.cpu.proofs.Wakeups.CpuAlone.{asks_for, after_is, settled_is, block_next}
+
+module _ (setup : Setup) (c : CpuId) (t : Tid) where
+  -- after n steps of CPU c its thread t stands in this call, which goes on; the call's buffer holds this
+  pub record Gets (s : Whole) (n : ℕ) (k : Buffer) (call : Call) (traced : List Entry) (left : ℕ) : Type 0 where
+    pub now : Whole
+    pub by : steps_by setup c n s ≡ now
+    pub before : Private
+    pub state : Private
+    pub past : List (Section Name)
+    pub stands : Stands setup c now before past left
+    pub goes : choice setup c before ≡ Goes state
+    pub inside : InCall setup c state t call traced
+    pub block : block_of setup (AtBuffer call.buffer) past ≡ Some (OfBuffer k)
+
+  -- one section of the call
+  advance : (s : Whole) (n : ℕ) (k next : Buffer) (call more : Call) (traced longer : List Entry) (left : ℕ) (a : Answer) → Gets s n k call traced (left + 3)
+      → answer_of_buffer (section_at t call call.stage) k ≡ a → edited_buffer (section_at t call call.stage) k ≡ next → call.buffer ≡ more.buffer
+      → ((p : Private) → InCall setup c p t call traced → InCall setup c (after_section setup c p a) t more longer)
+      → Gets s (n + 3) next more longer left
+  advance s n k next call more traced longer left a gets told edits same_buffer goes_so =
+      let q = gets.state in
+      let asks = asks_for setup c q t call traced gets.inside in
+      let answers : option_map (answer (asked setup c q).name) (block_of setup (asked setup c q).lock gets.past) ≡ Some a =
+      ap (λ ask. option_map (answer ask.name) (block_of setup ask.lock gets.past)) asks
+      ∙ ap (option_map (answer (section_at t call call.stage))) gets.block ∙ ap Some told in
+      let after = goes_so q gets.inside in
+      record {
+        now = after_three setup c gets.now q a;
+        by = steps_more setup c n 3 s ∙ ap (steps_by setup c 3) gets.by
+            ∙ three_steps setup c gets.now gets.before q gets.past left a gets.stands gets.goes answers;
+        before = after_section setup c q a;
+        state = after_section setup c q a;
+        past = section_of c (asked setup c q) ∷ gets.past;
+        stands = stands_after setup c gets.now gets.before q gets.past left a gets.stands;
+        goes = goes_on setup c (after_section setup c q a) t more longer after;
+        inside = after;
+        block = ap (λ b. block_of setup (AtBuffer b) (section_of c (asked setup c q) ∷ gets.past)) (sym same_buffer)
+            ∙ ap (λ ask. block_of setup (AtBuffer call.buffer) (section_of c ask ∷ gets.past)) asks
+            ∙ block_next setup c call.buffer (section_at t call call.stage) gets.past k gets.block
+            ∙ ap (λ x. Some (OfBuffer x)) edits;
+      }
+
+  -- a section that puts nobody to sleep and wakes nobody: the call records what it answers
+  answer_recorded : (p h : Private) (call more : Call) (traced longer : List Entry) (told : Reported) → InCall setup c p t call traced
+      → recorded c p t call call.stage told ≡ h
+      → InCall setup c h t more longer → returned_at setup h t more more.stage ≡ h → InCall setup c (after_section setup c p (reports told)) t more longer
+  answer_recorded p h call more traced longer told inside is after stays =
+      let same : after_section setup c p (reports told) ≡ h =
+      after_is setup c p t call traced (reports told) inside ∙ ap (settled setup) is ∙ settled_is setup c h t more longer after ∙ stays in
+      subst (λ x. InCall setup c x t more longer) (sym same) after
+
+  new_in : (p : Private) (call more : Call) (traced : List Entry) → InCall setup c p t call traced → InCall setup c (with_call p t (Some more)) t more traced
+  new_in p call more traced at = with_new setup c p t more traced at.hand at.current at.known at.live at.trace
+
+  -- The sections, one after the other.
+
+  pub acquires : (s : Whole) (n left : ℕ) (k : Buffer) (call : Call) (traced : List Entry) → k.busy ≡ None
+      → Gets s n k (record call { stage = Acquires }) traced (left + 3)
+      → Gets s (n + 3) (record k { busy = Some t }) (record call { stage = Enters }) traced left
+  acquires s n left k call traced free gets =
+      advance s n k (record k { busy = Some t }) (record call { stage = Acquires }) (record call { stage = Enters }) traced traced left (reports Nothing) gets
+      (ap answer_of_acquire free) (ap (λ o. acquired t o k) free) refl
+      (λ p inside.
+      answer_recorded p (with_call p t (Some (record call { stage = Enters }))) (record call { stage = Acquires })
+      (record call { stage = Enters }) traced traced Nothing inside refl
+      (new_in p (record call { stage = Acquires }) (record call { stage = Enters }) traced inside) refl)
+
+  module _ (small : t.0 < THREADS) where
+    may_enter : (line : List Tid) → line ≡ [] → may_join t line ≡ true
+    may_enter line empty = ap (may_join t) empty ∙ ap (λ b. b && true) (lt-ltb t.0 THREADS small)
+
+    pub enters_send : (s : Whole) (n left : ℕ) (k : Buffer) (call : Call) (traced : List Entry) → k.send_line ≡ []
+        → Gets s n k (record call { asks = Sends; stage = Enters }) traced (left + 3)
+        → Gets s (n + 3) (entered t Senders k) (record call { asks = Sends; position = k.send_positions; stage = Tries }) traced left
+    enters_send s n left k call traced empty gets =
+        let more : Call = record call { asks = Sends; position = k.send_positions; stage = Tries } in
+        advance s n k (entered t Senders k) (record call { asks = Sends; stage = Enters }) more traced traced left (reports
+        (Position k.send_positions)) gets refl
+        (ap (λ b. if b then entered t Senders k else k) (may_enter k.send_line empty)) refl
+        (λ p inside.
+        answer_recorded p (with_call p t (Some more)) (record call { asks = Sends; stage = Enters }) more traced traced (Position k.send_positions) inside refl
+        (new_in p (record call { asks = Sends; stage = Enters }) more traced inside) refl)
+
+    pub enters_receive : (s : Whole) (n left : ℕ) (k : Buffer) (call : Call) (traced : List Entry) → k.receive_line ≡ []
+        → Gets s n k (record call { asks = Receives; stage = Enters }) traced (left + 3)
+        → Gets s (n + 3) (entered t Receivers k) (record call { asks = Receives; position = k.receive_positions; stage = Tries }) traced left
+    enters_receive s n left k call traced empty gets =
+        let more : Call = record call { asks = Receives; position = k.receive_positions; stage = Tries } in
+        advance s n k (entered t Receivers k) (record call { asks = Receives; stage = Enters }) more traced traced left
+        (reports (Position k.receive_positions)) gets refl
+        (ap (λ b. if b then entered t Receivers k else k) (may_enter k.receive_line empty)) refl
+        (λ p inside.
+        answer_recorded p (with_call p t (Some more)) (record call { asks = Receives; stage = Enters }) more traced traced
+        (Position k.receive_positions) inside refl
+        (new_in p (record call { asks = Receives; stage = Enters }) more traced inside) refl)
+
+  -- the state after an effect: the entry is written
+  effect_in : (p : Private) (call now : Call) (op : ℕ) (traced : List Entry) → InCall setup c p t call traced
+      → InCall setup c (effected c p t now op) t (record now { effect = Some op; stage = Signals }) (traced ++ entry_of c t now op now.message ∷ [])
+  effect_in p call now op traced inside =
+      let after = new_in p call (record now { effect = Some op; stage = Signals }) traced inside in
+      record {
+        hand = after.hand;
+        current = after.current;
+        calls = after.calls;
+        known = after.known;
+        live = have_same (home_threads setup c) ∙ after.live;
+        trace = ap (λ x. x ++ entry_of c t now op now.message ∷ []) inside.trace;
+      }
+    where
+      have_same : (ts : List Tid)
+          → have_ended (effected c p t now op) ts ≡ have_ended (with_call p t (Some (record now { effect = Some op; stage = Signals }))) ts
+      have_same [] = refl
+      have_same (u ∷ ts) = ap (λ b. (thread_at (with_call p t (Some (record now { effect = Some op; stage = Signals }))) u).ended && b) (have_same ts)
+
+  -- a section that has the call's effect: the call as it then is
+  pub tries : (s : Whole) (n left : ℕ) (k next : Buffer) (call now : Call) (traced : List Entry) (told : Reported) → call.buffer ≡ now.buffer
+      → answer_of_buffer (section_at t call call.stage) k ≡ reports told → edited_buffer (section_at t call call.stage) k ≡ next
+      → ((p : Private) → recorded c p t call call.stage told ≡ effected c p t now k.effects)
+      → Gets s n k call traced (left + 3)
+      → Gets s (n + 3) next (record now { effect = Some k.effects; stage = Signals }) (traced ++ entry_of c t now k.effects now.message ∷ []) left
+  tries s n left k next call now traced told same_buffer tells_so edits recorded_so gets =
+      advance s n k next call (record now { effect = Some k.effects; stage = Signals }) traced (traced ++ entry_of c t now k.effects now.message ∷ []) left
+      (reports told) gets tells_so edits same_buffer
+      (λ p inside.
+      answer_recorded p (effected c p t now k.effects) call (record now { effect = Some k.effects; stage = Signals }) traced
+      (traced ++ entry_of c t now k.effects now.message ∷ []) told inside (recorded_so p) (effect_in p call now k.effects traced inside) refl)
+
+  -- less room than there is
+  with_less : (s : Whole) (n : ℕ) (k : Buffer) (call : Call) (traced : List Entry) (left less : ℕ) → less ≤ left
+      → Gets s n k call traced left → Gets s n k call traced less
+  with_less s n k call traced left less fewer gets = record {
+    now = gets.now;
+    by = gets.by;
+    before = gets.before;
+    state = gets.state;
+    past = gets.past;
+    stands = record {
+      here = gets.stands.here;
+      did = gets.stands.did;
+      free = gets.stands.free;
+      rests = gets.stands.rests;
+      room = let room = gets.stands.room in omega (arith, room, fewer);
+    };
+    goes = gets.goes;
+    inside = gets.inside;
+    block = gets.block;
+  }
+
+  -- a signal that wakes nobody
+  signals_none : (s : Whole) (n left : ℕ) (k next : Buffer) (call more : Call) (traced : List Entry) → call.buffer ≡ more.buffer
+      → answer_of_buffer (section_at t call call.stage) k ≡ wakes None → edited_buffer (section_at t call call.stage) k ≡ next
+      → ((p : Private) (told : Reported) → recorded c p t call call.stage told ≡ with_call p t (Some more))
+      → ((p : Private) → returned_at setup p t more more.stage ≡ p)
+      → Gets s n k call traced (left + 3) → Gets s (n + 3) next more traced left
+  signals_none s n left k next call more traced same_buffer told edits recorded_so stays gets =
+      advance s n k next call more traced traced left (reports Nothing) gets told edits same_buffer
+      (λ p inside. answer_recorded p (with_call p t (Some more)) call more traced traced Nothing inside (recorded_so p Nothing)
+      (new_in p call more traced inside) (stays (with_call p t (Some more))))
+
+  -- a signal that wakes a thread at home here
+  signals_home : (s : Whole) (n left : ℕ) (k next : Buffer) (call more : Call) (traced : List Entry) (u : Tid)
+      → same_cpu (home_of setup u) c ≡ true → call.buffer ≡ more.buffer
+      → answer_of_buffer (section_at t call call.stage) k ≡ wakes (Some u) → edited_buffer (section_at t call call.stage) k ≡ next
+      → ((p : Private) (told : Reported) → recorded c p t call call.stage told ≡ with_call p t (Some more))
+      → ((p : Private) → returned_at setup p t more more.stage ≡ p)
+      → Gets s n k call traced (left + 3) → Gets s (n + 3) next more traced left
+  signals_home s n left k next call more traced u here same_buffer told edits recorded_so stays gets =
+      advance s n k next call more traced traced left (wakes (Some u)) gets told edits same_buffer (λ p inside.
+      let h = with_call p t (Some more) in
+      let now = new_in p call more traced inside in
+      let ready : Private = record h { ready = h.ready ++ u ∷ [] } in
+      let at : InCall setup c ready t more traced =
+      record {
+        hand = now.hand;
+        current = now.current;
+        calls = now.calls;
+        known = now.known;
+        live = ready_live p (home_threads setup c) more u now.live;
+        trace = now.trace;
+      } in
+      let same : after_section setup c p (wakes (Some u)) ≡ ready =
+      after_is setup c p t call traced (wakes (Some u)) inside
+      ∙ ap (λ x. settled setup (woken setup c (Some u) x)) (recorded_so p Nothing)
+      ∙ ap (λ b. settled setup (if b then record h { ready = h.ready ++ u ∷ [] } else record h { hand = Some u })) here
+      ∙ settled_is setup c ready t more traced at ∙ stays ready in
+      subst (λ x. InCall setup c x t more traced) (sym same) at)
+    where
+      ready_live : (p : Private) (ts : List Tid) (more : Call) (u : Tid) → have_ended (with_call p t (Some more)) ts ≡ false
+          → have_ended (record (with_call p t (Some more)) { ready = (with_call p t (Some more)).ready ++ u ∷ [] }) ts ≡ false
+      ready_live p ts more u live = have_same ts ∙ live
+        where
+          have_same : (ts : List Tid)
+              → have_ended (record (with_call p t (Some more)) { ready = (with_call p t (Some more)).ready ++ u ∷ [] }) ts
+              ≡ have_ended (with_call p t (Some more)) ts
+          have_same [] = refl
+          have_same (v ∷ ts) = ap (λ b. (thread_at (with_call p t (Some more)) v).ended && b) (have_same ts)
+
+  -- a signal that wakes a thread of another CPU: the next section puts it among the pending there
+  signals_away : (s : Whole) (n left : ℕ) (k next : Buffer) (call more : Call) (traced : List Entry) (u : Tid)
+      → same_cpu (home_of setup u) c ≡ false → call.buffer ≡ more.buffer
+      → answer_of_buffer (section_at t call call.stage) k ≡ wakes (Some u) → edited_buffer (section_at t call call.stage) k ≡ next
+      → ((p : Private) (told : Reported) → recorded c p t call call.stage told ≡ with_call p t (Some more))
+      → ((p : Private) → returned_at setup p t more more.stage ≡ p)
+      → Gets s n k call traced ((left + 3) + 3) → Gets s ((n + 3) + 3) next more traced left
+  signals_away s n left k next call more traced u away same_buffer told edits recorded_so stays gets =
+      let q = gets.state in
+      let asks = asks_for setup c q t call traced gets.inside in
+      let answers : option_map (answer (asked setup c q).name) (block_of setup (asked setup c q).lock gets.past) ≡ Some (wakes (Some u)) =
+      ap (λ ask. option_map (answer ask.name) (block_of setup ask.lock gets.past)) asks
+      ∙ ap (option_map (answer (section_at t call call.stage))) gets.block ∙ ap Some told in
+      let h = with_call q t (Some more) in
+      let held : Private = record h { hand = Some u } in
+      let same : after_section setup c q (wakes (Some u)) ≡ held =
+      after_is setup c q t call traced (wakes (Some u)) gets.inside
+      ∙ ap (λ x. settled setup (woken setup c (Some u) x)) (recorded_so q Nothing)
+      ∙ ap (λ b. settled setup (if b then record h { ready = h.ready ++ u ∷ [] } else record h { hand = Some u })) away in
+      let one = after_three setup c gets.now q (wakes (Some u)) in
+      let past : List (Section Name) = section_of c (asked setup c q) ∷ gets.past in
+      let by_one : steps_by setup c (n + 3) s ≡ one =
+      steps_more setup c n 3 s ∙ ap (steps_by setup c 3) gets.by
+      ∙ three_steps setup c gets.now gets.before q gets.past (left + 3) (wakes (Some u)) gets.stands gets.goes answers in
+      let stands_one : Stands setup c one held past (left + 3) =
+      subst (λ x. Stands setup c one x past (left + 3)) same (stands_after setup c gets.now gets.before q gets.past (left + 3) (wakes (Some u)) gets.stands) in
+      let there = pending_there setup (home_of setup u) past in
+      let pends : option_map (answer (Pend u)) (block_of setup (Pending (home_of setup u)) past) ≡ Some (reports Nothing) =
+      ap (option_map (answer (Pend u))) there.1 in
+      let now = new_in q call more traced gets.inside in
+      let at : InCall setup c (record h { hand = None }) t more traced =
+      record {
+        hand = refl;
+        current = now.current;
+        calls = now.calls;
+        known = now.known;
+        live = empty_live q (home_threads setup c) more now.live;
+        trace = now.trace;
+      } in
+      let after : after_section setup c held (reports Nothing) ≡ record h { hand = None } =
+      settled_is setup c (record h { hand = None }) t more traced at ∙ stays (record h { hand = None }) in
+      let inside_after : InCall setup c (after_section setup c held (reports Nothing)) t more traced =
+      subst (λ x. InCall setup c x t more traced) (sym after) at in
+      record {
+        now = after_three setup c one held (reports Nothing);
+        by = steps_more setup c (n + 3) 3 s ∙ ap (steps_by setup c 3) by_one
+            ∙ three_steps setup c one held held past left (reports Nothing) stands_one refl pends;
+        before = after_section setup c held (reports Nothing);
+        state = after_section setup c held (reports Nothing);
+        past = section_of c (asked setup c held) ∷ past;
+        stands = stands_after setup c one held held past left (reports Nothing) stands_one;
+        goes = goes_on setup c (after_section setup c held (reports Nothing)) t more traced inside_after;
+        inside = inside_after;
+        block = ap (λ b. block_of setup (AtBuffer b) past) (sym same_buffer)
+            ∙ ap (λ ask. block_of setup (AtBuffer call.buffer) (section_of c ask ∷ gets.past)) asks
+            ∙ block_next setup c call.buffer (section_at t call call.stage) gets.past k gets.block
+            ∙ ap (λ x. Some (OfBuffer x)) edits;
+      }
+    where
+      empty_live : (p : Private) (ts : List Tid) (more : Call) → have_ended (with_call p t (Some more)) ts ≡ false
+          → have_ended (record (with_call p t (Some more)) { hand = None }) ts ≡ false
+      empty_live p ts more live = have_same ts ∙ live
+        where
+          have_same : (ts : List Tid) → have_ended (record (with_call p t (Some more)) { hand = None }) ts ≡ have_ended (with_call p t (Some more)) ts
+          have_same [] = refl
+          have_same (v ∷ ts) = ap (λ b. (thread_at (with_call p t (Some more)) v).ended && b) (have_same ts)
+
+  -- a signal, whomever it wakes
+  signals : (s : Whole) (n left : ℕ) (k next : Buffer) (call more : Call) (traced : List Entry) (woke : Option Tid) → call.buffer ≡ more.buffer
+      → answer_of_buffer (section_at t call call.stage) k ≡ wakes woke → edited_buffer (section_at t call call.stage) k ≡ next
+      → ((p : Private) (told : Reported) → recorded c p t call call.stage told ≡ with_call p t (Some more))
+      → ((p : Private) → returned_at setup p t more more.stage ≡ p)
+      → Gets s n k call traced (left + (3 + steps_to_move setup c woke)) → Gets s (n + (3 + steps_to_move setup c woke)) next more traced left
+  signals s n left k next call more traced None same_buffer told edits recorded_so stays gets =
+      signals_none s n left k next call more traced same_buffer told edits recorded_so stays gets
+  signals s n left k next call more traced (Some u) same_buffer told edits recorded_so stays gets = by_home (same_cpu (home_of setup u) c) refl gets
+    where
+      by_home : (here : Bool) → same_cpu (home_of setup u) c ≡ here → Gets s n k call traced (left + (3 + (if not here then 3 else 0)))
+          → Gets s (n + (3 + (if not here then 3 else 0))) next more traced left
+      by_home true here got = signals_home s n left k next call more traced u here same_buffer told edits recorded_so stays got
+      by_home false away got =
+          let same : (n + 3) + 3 ≡ n + 6 = omega arith in
+          subst (λ m. Gets s m next more traced left) same
+          (signals_away s n left k next call more traced u away same_buffer told edits recorded_so stays
+          (with_less s n k call traced (left + 6) ((left + 3) + 3) (omega arith) got))
+
+  -- the call has returned, with this trace; one step before it was under way
+  pub record Returned (s : Whole) (n : ℕ) (traced : List Entry) : Type 0 where
+    pub now : Private
+    pub here : slice_get (steps_by setup c n s).cpus c.0 ≡ Some now
+    pub outside : (thread_at now t).call ≡ None
+    pub trace : now.trace ≡ traced
+    pub before : (m : ℕ) → m + 1 ≡ n → IsInCall (steps_by setup c m s) c t
+
+  -- the lock is given back, and nobody sleeps at it
+  releases : (s : Whole) (n left : ℕ) (k : Buffer) (call : Call) (traced : List Entry) → k.sleepers ≡ []
+      → Gets s n k (record call { stage = Releases }) traced (left + 3)
+      → Returned s (n + 3) traced
+  releases s n left k call traced none gets =
+      let last : Call = record call { stage = Releases } in
+      let gone : Call = record call { stage = Idle } in
+      let q = gets.state in
+      let asks = asks_for setup c q t last traced gets.inside in
+      let told : answer_of_buffer (RelQ t) k ≡ reports Nothing = ap (λ x. wakes (first x)) none in
+      let answers : option_map (answer (asked setup c q).name) (block_of setup (asked setup c q).lock gets.past) ≡ Some (reports Nothing) =
+      ap (λ ask. option_map (answer ask.name) (block_of setup ask.lock gets.past)) asks ∙ ap (option_map (answer (RelQ t))) gets.block ∙ ap Some told in
+      let h = with_call q t (Some gone) in
+      let now = new_in q last gone traced gets.inside in
+      let same : after_section setup c q (reports Nothing) ≡ returned setup h t gone =
+      after_is setup c q t last traced (reports Nothing) gets.inside ∙ settled_is setup c h t gone traced now in
+      let by : steps_by setup c (n + 3) s ≡ after_three setup c gets.now q (reports Nothing) =
+      steps_more setup c n 3 s ∙ ap (steps_by setup c 3) gets.by
+      ∙ three_steps setup c gets.now gets.before q gets.past left (reports Nothing) gets.stands gets.goes answers in
+      let stands = stands_after setup c gets.now gets.before q gets.past left (reports Nothing) gets.stands in
+      record {
+        now = returned setup h t gone;
+        here = ap (λ x. slice_get x.cpus c.0) by ∙ stands.here ∙ ap Some same;
+        outside = ap (λ y. y.call)
+            (at_same h t (record (thread_at h t) {
+              guest = guest_after gone.asks gone.closed (stands_at setup h t) gone.message (thread_at h t).guest;
+              call = None;
+            }) now.known);
+        trace = now.trace;
+        before = λ m last_step.
+            let same_step : n + 2 ≡ m = omega (arith, last_step) in
+            subst (λ k. IsInCall (steps_by setup c k s) c t) same_step (record {
+              now = q;
+              here = ap (λ x. slice_get x.cpus c.0)
+                  (steps_more setup c n 2 s ∙ ap (steps_by setup c 2) gets.by
+                  ∙ two_steps setup c gets.now gets.before q gets.past left gets.stands gets.goes)
+                  ∙ here_two setup c gets.now gets.before q gets.stands.here;
+              call = last;
+              inside = gets.inside.calls;
+            });
+      }
+
+  -- From the effect to the return: the two signals and the release.
+  pub ending : (s : Whole) (n left : ℕ) (k : Buffer) (call : Call) (traced : List Entry) (woke own : Option Tid)
+      → answer_of_buffer (first_signal t (side_of call.asks)) k ≡ wakes woke
+      → answer_of_buffer (second_signal t (side_of call.asks)) (edited_buffer (first_signal t (side_of call.asks)) k) ≡ wakes own
+      → (edited_buffer (second_signal t (side_of call.asks)) (edited_buffer (first_signal t (side_of call.asks)) k)).sleepers ≡ []
+      → 9 + (steps_to_move setup c woke + steps_to_move setup c own) ≤ left
+      → Gets s n k (record call { stage = Signals }) traced left
+      → Returned s (n + (9 + (steps_to_move setup c woke + steps_to_move setup c own))) traced
+  ending s n left k call traced woke own first_tells own_tells none space gets =
+      let mine = steps_to_move setup c own in
+      let theirs = steps_to_move setup c woke in
+      let other = edited_buffer (first_signal t (side_of call.asks)) k in
+      let both = edited_buffer (second_signal t (side_of call.asks)) other in
+      let one = signals s n (3 + (3 + mine)) k other (record call { stage = Signals }) (record call { stage = SignalsOwn }) traced woke refl first_tells refl
+      (λ p told. refl) (λ p. refl)
+      (with_less s n k (record call { stage = Signals }) traced left ((3 + (3 + mine)) + (3 + theirs)) (omega (arith, space)) gets) in
+      let two = signals s (n + (3 + theirs)) 3 other both (record call { stage = SignalsOwn }) (record call { stage = Releases }) traced own refl own_tells refl
+      (λ p told. refl) (λ p. refl) one in
+      let same : ((n + (3 + theirs)) + (3 + mine)) + 3 ≡ n + (9 + (theirs + mine)) = omega arith in
+      subst (λ m. Returned s m traced) same (releases s ((n + (3 + theirs)) + (3 + mine)) 0 both call traced none two)

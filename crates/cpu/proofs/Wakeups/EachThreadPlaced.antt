@@ -1,0 +1,287 @@
+-- In every state that a system reaches each live thread has one place.
+use Rattle.std.proofs.Common.{◌≡◌, ℕ, zero, suc, ◌+◌, ◌<◌, Bool, true, false, not, ◌&&◌, ◌==◌, List, ◌++◌, length, slice_get, Some, nat_lt, refl, sym, ap, ◌∙◌}
+use Rattle.std.proofs.Common.{subst, arith}
+use Rattle.std.proofs.lemmas.Bool.{and_from, and_left, and_right, false_from_ne_true, lt-ltb, ltb-true, ne_eqb}
+use Rattle.event_log.specs.{declared.ids.CpuId.CpuId, declared.ids.Tid.Tid, declared.ids.BufId.BufId, declared.ids.LockId.TheVariants.Pending}
+use Rattle.event_log.specs.{declared.ids.LockId.TheVariants.Buffer as AtBuffer, declared.ids.TheConstants.THREADS, History.same_cpu, Sections.Section}
+use Rattle.event_log.specs.{Sections.sections_in}
+use Rattle.event_log.proofs.Same.{same_cpu_self}
+use Rattle.layer_traits.specs.{declared.moves.WaitList.WaitList, ListsAgree.same_list, Passes.as_list, OnePlace.total}
+use Rattle.layer_traits.specs.Places.{Where, Home, Hand, Pend as IsPending, Asleep, At, is_home, is_hand, is_thread, one_if, count_in}
+use Rattle.layer_traits.proofs.{CountLemmas.count_append, CountLemmas.count_as_list, OnePlaceLemmas.total_at, OnePlaceLemmas.total_none}
+use Rattle.cpu.specs.{Table.Blocks.Buffer, Table.Blocks.OfBuffer, Table.Blocks.Name, Table.Setups.Setup, Table.Setups.Private, Table.Setups.thread_at}
+use Rattle.cpu.specs.{Table.Setups.home_of, Table.Steps.Whole, Table.Steps.cpu_numbered, Table.Worked.buffer_numbered, Wakeups.Order.block_of}
+use Rattle.cpu.specs.{Wakeups.Quiet.HomesExist}
+use Rattle.cpu.specs.Wakeups.OnePlace.{own_queues, queues_in, all_of, of_cpu, of_pending, of_buffer, everyone, thread_in, thread_of, is_live, StandInOnePlace}
+use Rattle.cpu.proofs.Wakeups.{Lists.refuted, PostsAndVisits.is_buffer, PostsAndVisits.sleeps_in, PostsAndVisits.is_pending, PostsAndVisits.is_local, PostsAndVisits.post, PostsAndVisits.visit, PostsAndVisits.marked}
+use Rattle.cpu.proofs.Wakeups.{ThreadAtBuffer.sleeps_here, ThreadAtBuffer.marked_none, BuffersAndThreads.Good, Placed.IsListed, Placed.IsPlaced, Placed.buffer_there, Agreement.seat}
+use Rattle.cpu.proofs.Wakeups.{CpuStep.pending_there, ReachedStates.fair_good, SystemInv.SystemInv, SystemInv.reached_inv, SystemInv.cpu_there}
+use Rattle.layer_traits.specs.declared.moves.WaitList.TheVariants as wait_list
+
+-- Sums of the numbers below n.
+
+count_all : (t : Tid) (f : ℕ → List Tid) (n : ℕ) → count_in t (all_of f n) ≡ total (λ i. count_in t (f i)) n
+count_all t f zero = refl
+count_all t f (suc n) = count_append t (all_of f n) (f n) ∙ ap (λ m. m + count_in t (f n)) (count_all t f n)
+
+module _ (setup : Setup) (s : Whole) (homes : HomesExist setup) (kept : SystemInv setup s) (u : Tid) where
+  abbrev past : List (Section Name)
+  past = sections_in s.log
+
+  good : Good setup (sections_in s.log)
+  good = fair_good setup s.log kept.sound.fair
+
+  abbrev ended_at : ℕ → Bool
+  ended_at i = (thread_in (slice_get s.cpus i) u).ended
+
+  -- What each queue has of the thread, by its post.
+
+  at_cpu : (x : Where) → post setup u (sections_in s.log) ≡ x → (i : ℕ) → i < setup.cpus
+      → count_in u (of_cpu s i) ≡ one_if (seat setup (cpu_numbered i) u x (ended_at i)) + one_if (is_hand (cpu_numbered i) x)
+  at_cpu x is i below = by_cpu (cpu_there setup s kept (cpu_numbered i) below)
+    where
+      by_cpu : ((p : Private) × (slice_get s.cpus i ≡ Some p))
+          → count_in u (of_cpu s i) ≡ one_if (seat setup (cpu_numbered i) u x (ended_at i)) + one_if (is_hand (cpu_numbered i) x)
+      by_cpu cpu =
+          let p = cpu.0 in
+          let agrees = (kept.sound.cpus (cpu_numbered i) p cpu.1).agrees in
+          let list : count_in u (of_cpu s i) ≡ count_in u ((as_list p.current ++ p.ready) ++ as_list p.hand) = ap (λ o. count_in u (own_queues o)) cpu.1 in
+          let parts : count_in u ((as_list p.current ++ p.ready) ++ as_list p.hand) ≡ count_in u (as_list p.current ++ p.ready) + count_in u (as_list p.hand) =
+          count_append u (as_list p.current ++ p.ready) (as_list p.hand) in
+          let front : count_in u (as_list p.current ++ p.ready) ≡ count_in u (as_list p.current) + count_in u p.ready =
+          count_append u (as_list p.current) p.ready in
+          let current = count_as_list u p.current in
+          let hand : count_in u (as_list p.hand) ≡ one_if (is_hand (cpu_numbered i) x) =
+          count_as_list u p.hand ∙ ap one_if (agrees.hands u) ∙ ap (λ y. one_if (is_hand (cpu_numbered i) y)) is in
+          let seats : one_if (is_thread u p.current) + count_in u p.ready ≡ one_if (seat setup (cpu_numbered i) u x (ended_at i)) =
+          agrees.seats u ∙ ap (λ y. one_if (seat setup (cpu_numbered i) u y (thread_at p u).ended)) is
+          ∙ ap (λ o. one_if (seat setup (cpu_numbered i) u x (thread_in o u).ended)) (sym cpu.1) in
+          omega (arith, list, parts, front, current, hand, seats)
+
+  at_pending : (x : Where) → post setup u (sections_in s.log) ≡ x → (i : ℕ)
+      → count_in u (of_pending setup s i) ≡ one_if (same_cpu (home_of setup u) (cpu_numbered i) && is_pending x)
+  at_pending x is i =
+      let there = pending_there setup (cpu_numbered i) (sections_in s.log) in
+      ap (λ o. count_in u (queues_in o)) there.1 ∙ good.pending (cpu_numbered i) u there.0 there.1
+      ∙ ap (λ y. one_if (same_cpu (home_of setup u) (cpu_numbered i) && is_pending y)) is
+
+  at_buffer : (x : Where) → post setup u (sections_in s.log) ≡ x → (i : ℕ) → i < length setup.caps
+      → count_in u (of_buffer setup s i)
+      ≡ marked u (sleeps_in (buffer_numbered i) wait_list.Sleepers x) + (marked u (sleeps_in (buffer_numbered i) wait_list.Receivers x) + marked u (sleeps_in (buffer_numbered i) wait_list.Senders x))
+  at_buffer x is i below = by_block (buffer_there setup (buffer_numbered i) (sections_in s.log) below)
+    where
+      by_block : ((k : Buffer) × (block_of setup (AtBuffer (buffer_numbered i)) (sections_in s.log) ≡ Some (OfBuffer k)))
+          → count_in u (of_buffer setup s i)
+          ≡ marked u (sleeps_in (buffer_numbered i) wait_list.Sleepers x) + (marked u (sleeps_in (buffer_numbered i) wait_list.Receivers x) + marked u (sleeps_in (buffer_numbered i) wait_list.Senders x))
+      by_block there =
+          let k = there.0 in
+          let pair = good.pairs (buffer_numbered i) u k there.1 in
+          let list : count_in u (of_buffer setup s i) ≡ count_in u (k.sleepers ++ (k.waiting_receivers ++ k.waiting_senders)) =
+          ap (λ o. count_in u (queues_in o)) there.1 in
+          let parts = count_append u k.sleepers (k.waiting_receivers ++ k.waiting_senders) in
+          let waits = count_append u k.waiting_receivers k.waiting_senders in
+          let sleepers : count_in u k.sleepers ≡ marked u (sleeps_in (buffer_numbered i) wait_list.Sleepers x) =
+          pair.sleepers ∙ ap (λ y. marked u (sleeps_in (buffer_numbered i) wait_list.Sleepers y)) is in
+          let receivers : count_in u k.waiting_receivers ≡ marked u (sleeps_in (buffer_numbered i) wait_list.Receivers x) =
+          pair.receivers ∙ ap (λ y. marked u (sleeps_in (buffer_numbered i) wait_list.Receivers y)) is in
+          let senders : count_in u k.waiting_senders ≡ marked u (sleeps_in (buffer_numbered i) wait_list.Senders x) =
+          pair.senders ∙ ap (λ y. marked u (sleeps_in (buffer_numbered i) wait_list.Senders y)) is in
+          omega (arith, list, parts, waits, sleepers, receivers, senders)
+
+  -- the three sums
+  abbrev cpus_sum : ℕ
+  cpus_sum = total (λ i. count_in u (of_cpu s i)) setup.cpus
+
+  abbrev pending_sum : ℕ
+  pending_sum = total (λ i. count_in u (of_pending setup s i)) setup.cpus
+
+  abbrev buffers_sum : ℕ
+  buffers_sum = total (λ i. count_in u (of_buffer setup s i)) (length setup.caps)
+
+  sums : count_in u (everyone setup s) ≡ cpus_sum + (pending_sum + buffers_sum)
+  sums =
+      let parts = count_append u (all_of (of_cpu s) setup.cpus) (all_of (of_pending setup s) setup.cpus ++ all_of (of_buffer setup s) (length setup.caps)) in
+      let rest = count_append u (all_of (of_pending setup s) setup.cpus) (all_of (of_buffer setup s) (length setup.caps)) in
+      let cpus = count_all u (of_cpu s) setup.cpus in
+      let pending = count_all u (of_pending setup s) setup.cpus in
+      let buffers = count_all u (of_buffer setup s) (length setup.caps) in
+      omega (arith, parts, rest, cpus, pending, buffers)
+
+  no_pending : (x : Where) → post setup u (sections_in s.log) ≡ x → is_pending x ≡ false → pending_sum ≡ 0
+  no_pending x is off =
+      total_none _ setup.cpus (λ i below. at_pending x is i ∙ ap one_if (and_right (same_cpu (home_of setup u) (cpu_numbered i)) (is_pending x) off))
+
+  no_buffers : (x : Where) → post setup u (sections_in s.log) ≡ x → ((b : BufId) (list : WaitList) → sleeps_in b list x ≡ false) → buffers_sum ≡ 0
+  no_buffers x is awake =
+      total_none _ (length setup.caps) (λ i below.
+      let here = at_buffer x is i below in
+      let none = λ (list : WaitList). marked_none u (sleeps_in (buffer_numbered i) list x) (awake (buffer_numbered i) list) in
+      let sleepers = none wait_list.Sleepers in
+      let receivers = none wait_list.Receivers in
+      let senders = none wait_list.Senders in
+      omega (arith, here, sleepers, receivers, senders))
+
+  -- no seat where the thread is not at home
+  no_seat : (x : Where) (i : ℕ) → is_home x ≡ false → one_if (seat setup (cpu_numbered i) u x (ended_at i)) ≡ 0
+  no_seat x i off = ap one_if (and_right (is_local setup (cpu_numbered i) u) (is_home x && not (ended_at i)) (and_left (is_home x) (not (ended_at i)) off))
+
+  no_cpus : (x : Where) → post setup u (sections_in s.log) ≡ x → is_home x ≡ false → ((c : CpuId) → is_hand c x ≡ false) → cpus_sum ≡ 0
+  no_cpus x is away no_hand =
+      total_none _ setup.cpus (λ i below.
+      let here = at_cpu x is i below in
+      let seats = no_seat x i away in
+      let hand : one_if (is_hand (cpu_numbered i) x) ≡ 0 = ap one_if (no_hand (cpu_numbered i)) in
+      omega (arith, here, seats, hand))
+
+  -- A number that is no thread's.
+
+  unknown : nat_lt u.0 (length setup.homes) ≡ false → count_in u (everyone setup s) ≡ one_if (is_live setup s u)
+  unknown off = by_post (post setup u (sections_in s.log)) refl
+    where
+      away : (x : Where) → post setup u (sections_in s.log) ≡ x → is_home x ≡ false → count_in u (everyone setup s) ≡ one_if (is_live setup s u)
+      away x is out = refuted off (good.known u (ap is_home is ∙ out))
+
+      by_post : (x : Where) → post setup u (sections_in s.log) ≡ x → count_in u (everyone setup s) ≡ one_if (is_live setup s u)
+      by_post Home is =
+          let cpus : cpus_sum ≡ 0 =
+          total_none _ setup.cpus (λ i below.
+          let here = at_cpu Home is i below in
+          let seats : one_if (seat setup (cpu_numbered i) u Home (ended_at i)) ≡ 0 =
+          ap one_if (and_left (is_local setup (cpu_numbered i) u) (true && not (ended_at i))
+          (and_right (same_cpu (home_of setup u) (cpu_numbered i)) (nat_lt u.0 (length setup.homes)) off)) in
+          omega (arith, here, seats)) in
+          let pending = no_pending Home is refl in
+          let buffers = no_buffers Home is (λ b list. refl) in
+          let live : one_if (is_live setup s u) ≡ 0 = ap one_if (and_left (nat_lt u.0 (length setup.homes)) (not (thread_of setup s u).ended) off) in
+          omega (arith, sums, cpus, pending, buffers, live)
+      by_post (Hand c) is = away (Hand c) is refl
+      by_post (IsPending q) is = away (IsPending q) is refl
+      by_post (Asleep p) is = away (Asleep p) is refl
+
+  -- A thread.
+
+  module _ (known : nat_lt u.0 (length setup.homes) ≡ true) where
+    home_within : (home_of setup u).0 < setup.cpus
+    home_within = homes.1 u (ltb-true u.0 (length setup.homes) known)
+
+    small : nat_lt u.0 THREADS ≡ true
+    small =
+        let below = ltb-true u.0 (length setup.homes) known in
+        let few = homes.0 in
+        lt-ltb u.0 THREADS (omega (arith, below, few))
+
+    other_cpu : (i : ℕ) → (i ≡ (home_of setup u).0 → ⊥) → same_cpu (home_of setup u) (cpu_numbered i) ≡ false
+    other_cpu i off = ne_eqb (home_of setup u).0 i (λ same. off (sym same))
+
+    -- away from home a thread has not ended
+    alive : (x : Where) → post setup u (sections_in s.log) ≡ x → is_home x ≡ false → one_if (is_live setup s u) ≡ 1
+    alive x is out = by_cpu (cpu_there setup s kept (home_of setup u) home_within)
+      where
+        by_cpu : ((p : Private) × (slice_get s.cpus (home_of setup u).0 ≡ Some p)) → one_if (is_live setup s u) ≡ 1
+        by_cpu cpu =
+            let agrees = (kept.sound.cpus (home_of setup u) cpu.0 cpu.1).agrees in
+            let local : is_local setup (home_of setup u) u ≡ true =
+            and_from (same_cpu (home_of setup u) (home_of setup u)) (nat_lt u.0 (length setup.homes)) (same_cpu_self (home_of setup u)) known in
+            let goes : (thread_at cpu.0 u).ended ≡ false =
+            false_from_ne_true (thread_at cpu.0 u).ended (λ ended. refuted (ap is_home is ∙ out) (agrees.ends u local ended)) in
+            let goes_here : (thread_of setup s u).ended ≡ false = ap (λ o. (thread_in o u).ended) cpu.1 ∙ goes in
+            (λ i. one_if (known i && not (goes_here i)))
+
+    by_post : (x : Where) → post setup u (sections_in s.log) ≡ x → count_in u (everyone setup s) ≡ one_if (is_live setup s u)
+    by_post Home is =
+        let cpus : cpus_sum ≡ count_in u (of_cpu s (home_of setup u).0) =
+        total_at (λ i. count_in u (of_cpu s i)) setup.cpus (home_of setup u).0 home_within (λ i below off.
+        let here = at_cpu Home is i below in
+        let seats : one_if (seat setup (cpu_numbered i) u Home (ended_at i)) ≡ 0 =
+        ap one_if (and_left (is_local setup (cpu_numbered i) u) (true && not (ended_at i))
+        (and_left (same_cpu (home_of setup u) (cpu_numbered i)) (nat_lt u.0 (length setup.homes)) (other_cpu i off))) in
+        omega (arith, here, seats)) in
+        let here = at_cpu Home is (home_of setup u).0 home_within in
+        let seats : one_if (seat setup (home_of setup u) u Home (ended_at (home_of setup u).0)) ≡ one_if (is_live setup s u) =
+        (λ i. one_if ((same_cpu_self (home_of setup u) i && known i) && (true && not (ended_at (home_of setup u).0))))
+        ∙ (λ i. one_if (sym known i && not (ended_at (home_of setup u).0))) in
+        let pending = no_pending Home is refl in
+        let buffers = no_buffers Home is (λ b list. refl) in
+        omega (arith, sums, cpus, here, seats, pending, buffers)
+    by_post (Hand e) is =
+        let within : e.0 < setup.cpus = subst (IsPlaced setup (visit setup u (sections_in s.log))) is (kept.placed.posts u) in
+        let cpus : cpus_sum ≡ count_in u (of_cpu s e.0) =
+        total_at (λ i. count_in u (of_cpu s i)) setup.cpus e.0 within (λ i below off.
+        let here = at_cpu (Hand e) is i below in
+        let seats = no_seat (Hand e) i refl in
+        let hand : one_if (same_cpu e (cpu_numbered i)) ≡ 0 = ap one_if (ne_eqb e.0 i (λ same. off (sym same))) in
+        omega (arith, here, seats, hand)) in
+        let here = at_cpu (Hand e) is e.0 within in
+        let seats = no_seat (Hand e) e.0 refl in
+        let hand : one_if (same_cpu e (cpu_numbered e.0)) ≡ 1 = ap one_if (same_cpu_self e) in
+        let pending = no_pending (Hand e) is refl in
+        let buffers = no_buffers (Hand e) is (λ b list. refl) in
+        let live = alive (Hand e) is refl in
+        omega (arith, sums, cpus, here, seats, hand, pending, buffers, live)
+    by_post (IsPending q) is =
+        let cpus = no_cpus (IsPending q) is refl (λ c. refl) in
+        let pending : pending_sum ≡ count_in u (of_pending setup s (home_of setup u).0) =
+        total_at (λ i. count_in u (of_pending setup s i)) setup.cpus (home_of setup u).0 home_within (λ i below off.
+        at_pending (IsPending q) is i ∙ ap one_if (and_left (same_cpu (home_of setup u) (cpu_numbered i)) true (other_cpu i off))) in
+        let here : count_in u (of_pending setup s (home_of setup u).0) ≡ 1 =
+        at_pending (IsPending q) is (home_of setup u).0 ∙ ap one_if
+        (and_from (same_cpu (home_of setup u) (home_of setup u)) true (same_cpu_self (home_of setup u)) refl) in
+        let buffers = no_buffers (IsPending q) is (λ b list. refl) in
+        let live = alive (IsPending q) is refl in
+        omega (arith, sums, cpus, pending, here, buffers, live)
+    by_post (Asleep (At (Pending d) list)) is = absurd (subst (IsPlaced setup (visit setup u (sections_in s.log))) is (kept.placed.posts u))
+    by_post (Asleep (At (AtBuffer b) list)) is =
+        let x : Where = Asleep (At (AtBuffer b) list) in
+        let placed : (b.0 < length setup.caps) × IsListed b list (visit setup u (sections_in s.log)) =
+        subst (IsPlaced setup (visit setup u (sections_in s.log))) is (kept.placed.posts u) in
+        let cpus = no_cpus x is refl (λ c. refl) in
+        let pending = no_pending x is refl in
+        let buffers : buffers_sum ≡ count_in u (of_buffer setup s b.0) =
+        total_at (λ i. count_in u (of_buffer setup s i)) (length setup.caps) b.0 placed.0 (λ i below off.
+        let here = at_buffer x is i below in
+        let none = λ (other : WaitList). marked_none u (sleeps_in (buffer_numbered i) other x)
+        (and_left (b.0 == i) (same_list list other) (ne_eqb b.0 i (λ same. off (sym same)))) in
+        let sleepers = none wait_list.Sleepers in
+        let receivers = none wait_list.Receivers in
+        let senders = none wait_list.Senders in
+        omega (arith, here, sleepers, receivers, senders)) in
+        let here = at_buffer x is b.0 placed.0 in
+        let one = in_one_list b list in
+        let live = alive x is refl in
+        omega (arith, sums, cpus, pending, buffers, here, one, live)
+      where
+        there : (b : BufId) (list : WaitList) → marked u (sleeps_in b list (Asleep (At (AtBuffer b) list))) ≡ 1
+        there b list = λ i. one_if (small i && sleeps_here b list i)
+
+        not_there : (b : BufId) (list other : WaitList) → same_list list other ≡ false → marked u (sleeps_in b other (Asleep (At (AtBuffer b) list))) ≡ 0
+        not_there b list other apart = marked_none u (is_buffer b b && same_list list other) (and_right (is_buffer b b) (same_list list other) apart)
+
+        in_one_list : (b : BufId) (list : WaitList)
+            → marked u (sleeps_in b wait_list.Sleepers (Asleep (At (AtBuffer b) list)))
+            + (marked u (sleeps_in b wait_list.Receivers (Asleep (At (AtBuffer b) list)))
+            + marked u (sleeps_in b wait_list.Senders (Asleep (At (AtBuffer b) list)))) ≡ 1
+        in_one_list b wait_list.Sleepers =
+            let one = there b wait_list.Sleepers in
+            let receivers = not_there b wait_list.Sleepers wait_list.Receivers refl in
+            let senders = not_there b wait_list.Sleepers wait_list.Senders refl in
+            omega (arith, one, receivers, senders)
+        in_one_list b wait_list.Receivers =
+            let one = there b wait_list.Receivers in
+            let sleepers = not_there b wait_list.Receivers wait_list.Sleepers refl in
+            let senders = not_there b wait_list.Receivers wait_list.Senders refl in
+            omega (arith, one, sleepers, senders)
+        in_one_list b wait_list.Senders =
+            let one = there b wait_list.Senders in
+            let sleepers = not_there b wait_list.Senders wait_list.Sleepers refl in
+            let receivers = not_there b wait_list.Senders wait_list.Receivers refl in
+            omega (arith, one, sleepers, receivers)
+
+  one_place : count_in u (everyone setup s) ≡ one_if (is_live setup s u)
+  one_place = by_known (nat_lt u.0 (length setup.homes)) refl
+    where
+      by_known : (known : Bool) → nat_lt u.0 (length setup.homes) ≡ known → count_in u (everyone setup s) ≡ one_if (is_live setup s u)
+      by_known true known = by_post known (post setup u (sections_in s.log)) refl
+      by_known false off = unknown off
+
+pub stand_in_one_place : StandInOnePlace
+stand_in_one_place setup room s homes reached t = one_place setup s homes (reached_inv setup room s reached) t

@@ -1,0 +1,344 @@
+-- Every state that a system reaches is sound: each section of its log may come where it stands, and each CPU agrees with the log.
+use Rattle.std.proofs.Common.{◌≡◌, ℕ, zero, suc, ◌+◌, ◌<◌, ◌==◌, Bool, true, false, ◌&&◌, List, [], ◌∷◌, ◌++◌, length, map, slice_get, slice_set, get_or}
+use Rattle.std.proofs.Common.{Option, Some, None, option_map, nat_lt, if◌then◌else◌, refl, sym, ap, ◌∙◌, subst, arith}
+use Rattle.std.proofs.{lemmas.Bool.and_right, lemmas.Bool.eq-eqb, lemmas.Bool.ne_eqb, lemmas.Bool.eqb-true, lemmas.Bool.eqb-false, lemmas.Bool.lt-ltb}
+use Rattle.std.proofs.{lemmas.Bool.le-ltb, lemmas.Bool.ltb-true, lemmas.Bool.ltb-false, lemmas.List.length-map, Math.Bool.and-true}
+use Rattle.event_log.specs.{declared.ids.CpuId.CpuId, declared.ids.Tid.Tid, declared.ids.LockId.LockId, History.same_cpu, History.IsLawful}
+use Rattle.event_log.specs.{Sections.sections_in, Actions.Action, Actions.Take, Actions.Try, Actions.Give, Actions.Phase, Actions.Rests}
+use Rattle.event_log.specs.{Actions.Waits as WaitsAt, Actions.Holds, Actions.phase, Actions.cpu_of_action, Actions.spot_of, Actions.gives, Actions.action_in}
+use Rattle.event_log.proofs.{Same.same_cpu_true, Exclusion.phase_own, Exclusion.phase_other}
+use Rattle.layer_traits.specs.{declared.steps.Step.Step, declared.steps.Step.TheVariants.Stepped, declared.steps.Step.TheVariants.Halted, Places.Home}
+use Rattle.layer_traits.specs.{Places.is_thread, Places.one_if, Places.count_in, Plans.is_in_section, Plans.at_give, Along.Outcome, Passes.or_else}
+use Rattle.cpu.specs.Table.{Blocks.Name, Edits.answer, Setups.Setup, Setups.Private, Setups.new_thread, Setups.home_threads_from, Setups.home_threads}
+use Rattle.cpu.specs.Table.{Setups.at_boot, Choice.asked, Choice.Choice, Choice.Halts, Choice.Alone, Choice.Goes, Choice.choice, Steps.after_reply}
+use Rattle.cpu.specs.Table.{Steps.chosen, Steps.step_in, Steps.cpu_step, Steps.Whole, Steps.cpu_numbered, Steps.boots_from, Steps.whole_at_boot}
+use Rattle.cpu.specs.Table.{Steps.whole_after, Steps.roomy, Steps.answered_by, Steps.step_at, Steps.system_step, Steps.IsReached, Steps.boots, Steps.steps}
+use Rattle.cpu.specs.Wakeups.{Order.block_of, Lost.SystemsKeepOrder, Lost.SystemsLoseNoWakeUp, Lost.FreeLocksHaveNoSleepers}
+use Rattle.cpu.proofs.Wakeups.{Lists.refuted, Ordered.buffer_awake, Ordered.order_loses_no_wake_up, PostsAndVisits.is_local, PostsAndVisits.post, PostsAndVisits.visit, PostsAndVisits.MayComeAt}
+use Rattle.cpu.proofs.Wakeups.{BuffersAndThreads.Good, BuffersAndThreads.good_none, BuffersAndThreads.good_step, Agreement.visit_of_call, Agreement.is_done, Agreement.seat, Agreement.Agrees}
+use Rattle.cpu.proofs.Wakeups.{Agreement.IsSettled, CpuStep.foreign_step, CpuStep.give_ok, ChosenSteps.ChoiceOk, ChosenSteps.choice_ok}
+
+-- Logs of actions.
+
+-- an action that ends a section ends one that may come
+abbrev pub IsFair : Setup → List (Action Name) → Action Name → Type 0
+IsFair setup past (Give cpu lock name) = MayComeAt setup (sections_in past) cpu lock name
+IsFair setup past other = Unit {0}
+
+abbrev pub IsFairLog : Setup → List (Action Name) → Type 0
+IsFairLog setup log = IsLawful (IsFair setup) log
+
+pub fair_good : (setup : Setup) (log : List (Action Name)) → IsFairLog setup log → Good setup (sections_in log)
+fair_good setup [] fair = good_none setup
+fair_good setup (Take cpu lock ∷ past) fair = fair_good setup past fair.1
+fair_good setup (Try cpu lock hit ∷ past) fair = fair_good setup past fair.1
+fair_good setup (Give cpu lock name ∷ past) fair =
+    good_step setup (sections_in past) (record { cpu = cpu; lock = lock; edit = name }) (fair_good setup past fair.1) fair.0
+
+-- the lock at which a CPU in this phase stands
+abbrev pub lock_in : Phase → Option LockId
+lock_in Rests = None
+lock_in (WaitsAt lock) = Some lock
+lock_in (Holds lock) = Some lock
+
+-- a CPU agrees with the log, and stands at the lock of the section that is asked of it
+pub record Ok (setup : Setup) (c : CpuId) (p : Private) (log : List (Action Name)) : Type 0 where
+  pub agrees : Agrees setup c p (λ u. visit setup u (sections_in log)) (λ u. post setup u (sections_in log))
+  pub settled : IsSettled setup c p
+  pub under : (lock : LockId) → lock_in (phase c log) ≡ Some lock → lock ≡ (asked setup c p).lock
+
+lock_or : LockId → Option LockId → LockId
+lock_or lock None = lock
+lock_or lock (Some other) = other
+
+some_lock : (a b : LockId) → Some a ≡ Some b → a ≡ b
+unfolding lock_or
+some_lock a b same = ap (lock_or a) same
+
+no_lock : {A : Type 0} {lock : LockId} → None ≡ Some lock → A
+no_lock {A = A} {lock = lock} is = absurd (cc is)
+
+-- One step.
+
+-- each of these actions is the CPU's
+abbrev pub AllDo : CpuId → List (Action Name) → Type 0
+AllDo c [] = Unit {0}
+AllDo c (a ∷ acts) = (cpu_of_action a ≡ c) × AllDo c acts
+
+pub record StepOk (setup : Setup) (c : CpuId) (log : List (Action Name)) (o : Outcome Private Name) : Type 0 where
+  pub fair : IsFairLog setup (o.acts ++ log)
+  pub ok : Ok setup c o.next (o.acts ++ log)
+  pub does : AllDo c o.acts
+
+module _ (setup : Setup) (c : CpuId) (log : List (Action Name)) (fair : IsFairLog setup log) where
+  -- the action that is due to a CPU in this phase, and what it leaves
+  abbrev acted : Private → Phase → Outcome Private Name
+  acted q now = record {
+    next = after_reply setup c q (at_give now (option_map (answer (asked setup c q).name) (block_of setup (asked setup c q).lock (sections_in log))));
+    acts = action_in c (asked setup c q).lock (asked setup c q).name log now ∷ [];
+    answer = Stepped;
+  }
+
+  acted_ok : (q : Private) → Ok setup c q log → (now : Phase) → phase c log ≡ now → StepOk setup c log (acted q now)
+  acted_ok q ok Rests is = record {
+    fair = (tt, fair);
+    ok = record {
+      agrees = ok.agrees;
+      settled = ok.settled;
+      under = λ lock at. sym (some_lock (asked setup c q).lock lock (sym (ap lock_in (phase_own (Take c (asked setup c q).lock) log)) ∙ at));
+    };
+    does = (refl, tt);
+  }
+  acted_ok q ok (WaitsAt there) is = record {
+    fair = (tt, fair);
+    ok = record {
+      agrees = ok.agrees;
+      settled = ok.settled;
+      under = λ lock at.
+          by_hit (gives there log == spot_of c log) lock (sym (ap lock_in (phase_own (Try c there (gives there log == spot_of c log)) log)) ∙ at);
+    };
+    does = (refl, tt);
+  }
+    where
+      by_hit : (hit : Bool) (lock : LockId) → lock_in (if hit then Holds there else WaitsAt there) ≡ Some lock → lock ≡ (asked setup c q).lock
+      by_hit true lock at = sym (some_lock there lock at) ∙ ok.under there (ap lock_in is)
+      by_hit false lock at = sym (some_lock there lock at) ∙ ok.under there (ap lock_in is)
+  acted_ok q ok (Holds there) is =
+      let given = give_ok setup (sections_in log) (fair_good setup log fair) c q ok.agrees ok.settled in
+      let same : (asked setup c q).lock ≡ there = sym (ok.under there (ap lock_in is)) in
+      let P : LockId → Type 0 = λ x. StepOk setup c log (record {
+        next = after_reply setup c q (option_map (answer (asked setup c q).name) (block_of setup (asked setup c q).lock (sections_in log)));
+        acts = Give c x (asked setup c q).name ∷ [];
+        answer = Stepped;
+      }) in
+      subst P same (record {
+        fair = (given.may, fair);
+        ok = record {
+          agrees = given.agrees;
+          settled = given.settled;
+          under = λ lock at. no_lock (sym (ap lock_in (phase_own (Give c (asked setup c q).lock (asked setup c q).name) log)) ∙ at);
+        };
+        does = (refl, tt);
+      })
+
+  rests_nowhere : {A : Type 0} (now : Phase) (lock : LockId) → is_in_section now ≡ false → lock_in now ≡ Some lock → A
+  rests_nowhere Rests lock off at = no_lock at
+  rests_nowhere other lock off at = absurd (cc off)
+
+  pub step_ok : (p : Private) → Ok setup c p log → StepOk setup c log (cpu_step setup c p log)
+  step_ok p ok = by_section (is_in_section (phase c log)) refl
+    where
+      by_choice : is_in_section (phase c log) ≡ false → (what : Choice)
+          → ChoiceOk setup c (λ u. visit setup u (sections_in log)) (λ u. post setup u (sections_in log)) what
+          → StepOk setup c log (chosen setup c p what log)
+      by_choice rests (Halts reason) chosen_ok = record { fair = fair; ok = ok; does = tt }
+      by_choice rests (Alone q) chosen_ok = record {
+        fair = fair;
+        ok = record { agrees = chosen_ok.0; settled = chosen_ok.1; under = λ lock at. rests_nowhere (phase c log) lock rests at };
+        does = tt;
+      }
+      by_choice rests (Goes q) chosen_ok =
+          acted_ok q (record { agrees = chosen_ok.0; settled = chosen_ok.1; under = λ lock at. rests_nowhere (phase c log) lock rests at }) (phase c log) refl
+
+      by_section : (inside : Bool) → is_in_section (phase c log) ≡ inside → StepOk setup c log (step_in setup c p log inside)
+      by_section true is = acted_ok p ok (phase c log) refl
+      by_section false is =
+          by_choice is (choice setup c p)
+          (choice_ok setup c p (λ u. visit setup u (sections_in log)) (λ u. post setup u (sections_in log)) ok.agrees ok.settled)
+
+-- an action of another CPU
+pub ok_beside : (setup : Setup) (e : CpuId) (p : Private) (log : List (Action Name)) (a : Action Name)
+    → same_cpu (cpu_of_action a) e ≡ false → IsFairLog setup log → IsFair setup log a
+    → Ok setup e p log → Ok setup e p (a ∷ log)
+ok_beside setup e p log (Take cpu lock) off fair may ok = record {
+  agrees = ok.agrees;
+  settled = ok.settled;
+  under = λ at is. ok.under at (sym (ap lock_in (phase_other (Take cpu lock) log e off)) ∙ is);
+}
+ok_beside setup e p log (Try cpu lock hit) off fair may ok = record {
+  agrees = ok.agrees;
+  settled = ok.settled;
+  under = λ at is. ok.under at (sym (ap lock_in (phase_other (Try cpu lock hit) log e off)) ∙ is);
+}
+ok_beside setup e p log (Give cpu lock name) off fair may ok = record {
+  agrees = foreign_step setup (sections_in log) (fair_good setup log fair) e p (record { cpu = cpu; lock = lock; edit = name }) off may ok.agrees;
+  settled = ok.settled;
+  under = λ at is. ok.under at (sym (ap lock_in (phase_other (Give cpu lock name) log e off)) ∙ is);
+}
+
+pub all_beside : (setup : Setup) (c e : CpuId) (p : Private) (log acts : List (Action Name))
+    → same_cpu c e ≡ false → AllDo c acts → IsFairLog setup (acts ++ log)
+    → Ok setup e p log → Ok setup e p (acts ++ log)
+all_beside setup c e p log [] off does fair ok = ok
+all_beside setup c e p log (a ∷ acts) off does fair ok =
+    ok_beside setup e p (acts ++ log) a (ap (λ d. same_cpu d e) does.0 ∙ off) fair.1 fair.0 (all_beside setup c e p log acts off does.1 fair.1 ok)
+
+-- A CPU at boot.
+
+all_new : (homes : List CpuId) (i : ℕ) → get_or (map (λ home. new_thread) homes) i new_thread ≡ new_thread
+all_new [] i = refl
+all_new (home ∷ homes) zero = refl
+all_new (home ∷ homes) (suc i) = all_new homes i
+
+-- the threads from number i on that are at home on c, by count: u is one of them where it is at its place among the homes
+homed_before : (c : CpuId) (homes : List CpuId) (i : ℕ) (u : Tid) → u.0 < i → count_in u (home_threads_from c homes i) ≡ 0
+homed_before c [] i u before = refl
+homed_before c (home ∷ homes) i u before = by_test (same_cpu home c) (homed_before c homes (i + 1) u (omega (arith, before)))
+  where
+    by_test : (here : Bool) → count_in u (home_threads_from c homes (i + 1)) ≡ 0
+        → count_in u (if here then record { 0 = i } ∷ home_threads_from c homes (i + 1) else home_threads_from c homes (i + 1)) ≡ 0
+    by_test true none =
+        let other : one_if (u.0 == i) ≡ 0 = ap one_if (ne_eqb u.0 i (λ same. absurd (omega (arith, same, before)))) in
+        omega (arith, other, none)
+    by_test false none = none
+
+below_suc : (k n m : ℕ) → m ≡ n + 1 → nat_lt k n ≡ nat_lt (suc k) m
+below_suc k n m is = by_test (nat_lt k n) refl
+  where
+    by_test : (b : Bool) → nat_lt k n ≡ b → b ≡ nat_lt (suc k) m
+    by_test true below = let more = ltb-true k n below in sym (lt-ltb (suc k) m (omega (arith, more, is)))
+    by_test false above = let more = ltb-false k n above in sym (le-ltb (suc k) m (omega (arith, more, is)))
+
+homed_at : (c : CpuId) (homes : List CpuId) (i k : ℕ) (u : Tid) → u.0 ≡ i + k
+    → count_in u (home_threads_from c homes i) ≡ one_if (same_cpu (or_else (record { 0 = 0 }) (slice_get homes k)) c && nat_lt k (length homes))
+homed_at c [] i k u at =
+    sym (ap one_if (and_right (same_cpu (record { 0 = 0 }) c) (nat_lt k 0) (le-ltb k 0 (omega arith))))
+homed_at c (home ∷ homes) i zero u at = by_test (same_cpu home c) (homed_before c homes (i + 1) u (omega (arith, at)))
+  where
+    by_test : (here : Bool) → count_in u (home_threads_from c homes (i + 1)) ≡ 0
+        → count_in u (if here then record { 0 = i } ∷ home_threads_from c homes (i + 1) else home_threads_from c homes (i + 1))
+        ≡ one_if (here && nat_lt 0 (length (home ∷ homes)))
+    by_test true none =
+        let mine : one_if (u.0 == i) ≡ 1 = ap one_if (eq-eqb u.0 i (omega (arith, at))) in
+        let more : one_if (nat_lt 0 (length (home ∷ homes))) ≡ 1 = ap one_if (lt-ltb 0 (length (home ∷ homes)) (omega arith)) in
+        omega (arith, mine, none, more)
+    by_test false none = none
+homed_at c (home ∷ homes) i (suc k) u at = by_test (same_cpu home c) (homed_at c homes (i + 1) k u (omega (arith, at)))
+  where
+    same_below : nat_lt k (length homes) ≡ nat_lt (suc k) (length (home ∷ homes))
+    same_below = below_suc k (length homes) (length (home ∷ homes)) (omega arith)
+
+    by_test : (here : Bool)
+        → count_in u (home_threads_from c homes (i + 1)) ≡ one_if (same_cpu (or_else (record { 0 = 0 }) (slice_get homes k)) c && nat_lt k (length homes))
+        → count_in u (if here then record { 0 = i } ∷ home_threads_from c homes (i + 1) else home_threads_from c homes (i + 1))
+        ≡ one_if (same_cpu (or_else (record { 0 = 0 }) (slice_get homes k)) c && nat_lt (suc k) (length (home ∷ homes)))
+    by_test true more =
+        let other : one_if (u.0 == i) ≡ 0 = ap one_if (ne_eqb u.0 i (λ same. absurd (omega (arith, same, at)))) in
+        let now : one_if (u.0 == i) + count_in u (home_threads_from c homes (i + 1)) ≡ count_in u (home_threads_from c homes (i + 1)) = omega (arith, other) in
+        now ∙ more ∙ ap (λ b. one_if (same_cpu (or_else (record { 0 = 0 }) (slice_get homes k)) c && b)) same_below
+    by_test false more = more ∙ ap (λ b. one_if (same_cpu (or_else (record { 0 = 0 }) (slice_get homes k)) c && b)) same_below
+
+pub ok_at_boot : (setup : Setup) (c : CpuId) → Ok setup c (at_boot setup c) []
+ok_at_boot setup c = record {
+  agrees = record {
+    size = length-map setup.homes (λ home. new_thread);
+    calls = λ u local. ap (λ y. visit_of_call y.call) (sym (all_new setup.homes u.0));
+    seats = λ u.
+        let is = homed_at c setup.homes 0 u.0 u (omega arith) in
+        let now : one_if (is_thread u None) + count_in u (home_threads setup c) ≡ count_in u (home_threads setup c) = omega arith in
+        now ∙ is ∙ sym (ap (λ y. one_if (seat setup c u Home y.ended)) (all_new setup.homes u.0) ∙ ap one_if (and-true (is_local setup c u)));
+    hands = λ u. refl;
+    ends = λ u local ended. refl;
+  };
+  settled = λ u local done. refuted (ap (λ y. is_done y.call) (all_new setup.homes u.0)) done;
+  under = λ lock at. no_lock at;
+}
+
+-- Systems.
+
+pub record Sound (setup : Setup) (s : Whole) : Type 0 where
+  pub fair : IsFairLog setup s.log
+  pub cpus : (e : CpuId) (p : Private) → slice_get s.cpus e.0 ≡ Some p → Ok setup e p s.log
+
+private_or : Private → Option Private → Private
+private_or p None = p
+private_or p (Some q) = q
+
+pub same_private : (p q : Private) → Some p ≡ Some q → p ≡ q
+unfolding private_or
+same_private p q is = ap (private_or p) is
+
+-- what stands in a list after one of its items was set
+pub get_set : (xs : List Private) (i j : ℕ) (x y : Private) → slice_get (slice_set xs i x) j ≡ Some y → i ≡ j → x ≡ y
+get_set [] i j x y is same = absurd (cc is)
+get_set (z ∷ xs) zero zero x y is same = same_private x y is
+get_set (z ∷ xs) zero (suc j) x y is same = absurd (omega (arith, same))
+get_set (z ∷ xs) (suc i) zero x y is same = absurd (omega (arith, same))
+get_set (z ∷ xs) (suc i) (suc j) x y is same = get_set xs i j x y is (omega (arith, same))
+
+pub get_set_other : (xs : List Private) (i j : ℕ) (x : Private) → (i ≡ j → ⊥) → slice_get (slice_set xs i x) j ≡ slice_get xs j
+get_set_other [] i j x off = refl
+get_set_other (z ∷ xs) zero zero x off = absurd (off refl)
+get_set_other (z ∷ xs) zero (suc j) x off = refl
+get_set_other (z ∷ xs) (suc i) zero x off = refl
+get_set_other (z ∷ xs) (suc i) (suc j) x off = get_set_other xs i j x (λ same. off (ap suc same))
+
+pub boots_at : (setup : Setup) (n k i : ℕ) (p : Private) → slice_get (boots_from setup n k) i ≡ Some p → at_boot setup (cpu_numbered (n + i)) ≡ p
+boots_at setup n zero i p is = absurd (cc is)
+boots_at setup n (suc k) zero p is = ap (λ m. at_boot setup (cpu_numbered m)) (by_zero n) ∙ same_private (at_boot setup (cpu_numbered n)) p is
+  where
+    by_zero : (n : ℕ) → n + 0 ≡ n
+    by_zero n = omega arith
+boots_at setup n (suc k) (suc i) p is = ap (λ m. at_boot setup (cpu_numbered m)) (by_suc n i) ∙ boots_at setup (n + 1) k i p is
+  where
+    by_suc : (n i : ℕ) → n + suc i ≡ (n + 1) + i
+    by_suc n i = omega arith
+
+sound_at_boot : (setup : Setup) (room : ℕ) → Sound setup (whole_at_boot setup room)
+sound_at_boot setup room = record {
+  fair = tt;
+  cpus = λ e p is.
+      let zero_plus : 0 + e.0 ≡ e.0 = omega arith in
+      let at : at_boot setup e ≡ p = ap (λ m. at_boot setup (cpu_numbered m)) (sym zero_plus) ∙ boots_at setup 0 setup.cpus e.0 p is in
+      subst (λ q. Ok setup e q []) at (ok_at_boot setup e);
+}
+
+module _ (setup : Setup) (s : Whole) (sound : Sound setup s) (c : CpuId) where
+  sound_after : (p : Private) → slice_get s.cpus c.0 ≡ Some p → Sound setup (whole_after c s (cpu_step setup c p s.log))
+  sound_after p here = record {
+    fair = step.fair;
+    cpus = λ e q is. by_test e q is (same_cpu c e) refl;
+  }
+    where
+      step : StepOk setup c s.log (cpu_step setup c p s.log)
+      step = step_ok setup c s.log sound.fair p (sound.cpus c p here)
+
+      by_test : (e : CpuId) (q : Private) → slice_get (slice_set s.cpus c.0 (cpu_step setup c p s.log).next) e.0 ≡ Some q → (mine : Bool) → same_cpu c e ≡ mine
+          → Ok setup e q ((cpu_step setup c p s.log).acts ++ s.log)
+      by_test e q is true same =
+          let P : CpuId → Type 0 = λ x. Ok setup x q ((cpu_step setup c p s.log).acts ++ s.log) in
+          subst P (same_cpu_true c e same)
+          (subst (λ x. Ok setup c x ((cpu_step setup c p s.log).acts ++ s.log))
+          (get_set s.cpus c.0 e.0 (cpu_step setup c p s.log).next q is (eqb-true c.0 e.0 same)) step.ok)
+      by_test e q is false off =
+          all_beside setup c e q s.log (cpu_step setup c p s.log).acts off step.does step.fair
+          (sound.cpus e q (sym (get_set_other s.cpus c.0 e.0 (cpu_step setup c p s.log).next (eqb-false c.0 e.0 off)) ∙ is))
+
+  sound_at : (o : Option Private) → slice_get s.cpus c.0 ≡ o → Sound setup (step_at setup c s o).next
+  sound_at None here = sound
+  sound_at (Some p) here = by_answer (cpu_step setup c p s.log).answer
+    where
+      by_room : (full : Bool) → Sound setup (roomy c s (cpu_step setup c p s.log) full).next
+      by_room true = sound
+      by_room false = sound_after p here
+
+      by_answer : (answer : Step) → Sound setup (answered_by c s (cpu_step setup c p s.log) answer).next
+      by_answer (Halted reason) = sound
+      by_answer Stepped = by_room (s.taken == s.room)
+
+pub sound_step : (setup : Setup) (s : Whole) → Sound setup s → (c : CpuId) → Sound setup (system_step setup c s).next
+sound_step setup s sound c = sound_at setup s sound c (slice_get s.cpus c.0) refl
+
+pub reached_sound : (setup : Setup) (room : ℕ) (s : Whole) → IsReached setup room s → Sound setup s
+reached_sound setup room s boots = sound_at_boot setup room
+reached_sound setup room s (steps {s = before} c reached within) = sound_step setup before (reached_sound setup room before reached) c
+
+pub systems_keep_order : SystemsKeepOrder
+systems_keep_order setup room s reached = (fair_good setup s.log (reached_sound setup room s reached).fair).ordered
+
+pub systems_lose_no_wake_up : SystemsLoseNoWakeUp
+systems_lose_no_wake_up setup room s reached b k is = order_loses_no_wake_up setup (sections_in s.log) (systems_keep_order setup room s reached) b k is
+
+pub free_locks_have_no_sleepers : FreeLocksHaveNoSleepers
+free_locks_have_no_sleepers setup room s reached b k is free =
+    ((buffer_awake setup (sections_in s.log) (systems_keep_order setup room s reached) b k is).idle free).1
