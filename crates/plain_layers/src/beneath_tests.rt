@@ -129,6 +129,43 @@ fn a_thousand_items_pass_a_ring_of_two(rt: HostRuntime) {
     assert_eq!(rt; ring.take(), None);
 }
 
+/// Puts the item on both queues where it shall and there is room, else takes from both, and compares what they answer and hold. The twin
+/// keeps its items side by side, the first one first, and closes the gap that a take leaves.
+fn goes_as_its_twin(
+    rt: &impl Abort,
+    puts: bool,
+    item: u64,
+    ring: &mut Ring<u64>,
+    twin: &mut ArrayVec<u64, CAPACITY>,
+) {
+    if puts && ring.len() < CAPACITY {
+        ring.put(item);
+        assert!(rt; twin.try_push(item).is_ok());
+    } else {
+        let first = if twin.is_empty() {
+            None
+        } else {
+            Some(twin.remove(0))
+        };
+        assert_eq!(rt; ring.take(), first);
+    }
+    assert_eq!(rt; ring.items().as_slice(), twin.as_slice());
+}
+
+// Which call comes is the top bit of a linear congruence modulo 2^64.
+#[test]
+fn ten_thousand_calls_of_a_ring_are_answered_as_by_its_twin(rt: HostRuntime) {
+    let mut state = 2026u64;
+    let mut ring = Ring::new(0u64);
+    let mut twin = ArrayVec::new();
+    for item in 0..10_000 {
+        state = state
+            .wrapping_mul(6_364_136_223_846_793_005)
+            .wrapping_add(1_442_695_040_888_963_407);
+        goes_as_its_twin(&rt, state >> 63 == 1, item, &mut ring, &mut twin);
+    }
+}
+
 #[test]
 fn a_plan_is_read_whole(rt: HostRuntime) -> Result<(), Fail> {
     let plan =
