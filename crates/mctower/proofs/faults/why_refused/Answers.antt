@@ -2,11 +2,11 @@ use Rattle.std.proofs.Common.{rules}
 use Rattle.mctower.proofs.FaultLemmas.{shown_so}
 use Rattle.mctower.proofs.faults.why_refused.Goals as goal
 
-pub returns-in_ok-named-in_default : goal.returns-in_ok-named-in_default
-returns-in_ok-named-in_default c = (
+pub returns-in_ok-named-in_default-kind : goal.returns-in_ok-named-in_default-kind
+returns-in_ok-named-in_default-kind c = (
   search rules,
   search rules,
   search rules,
   search rules,
-  shown_so c.shown.result.bytes c.as_str-in_default.result.now c.shown.ensures,
+  shown_so c.shown.result.bytes c.as_str-in_default-kind.result.now c.shown.ensures,
 )
