@@ -1,5 +1,5 @@
 -- The lists that all CPUs share: an allowed call can be done on them, and it keeps them in agreement with the calls.
-use Rattle.std.proofs.Common.{◌≡◌, ◌≢◌, ℕ, ◌<◌, Bool, true, false, List, [], ◌∷◌, ◌++◌, length, slice_get, slice_set, ◌==◌, Err, is_err, is_ok, if◌then◌else◌}
+use Rattle.std.proofs.Common.{◌≡◌, ◌≢◌, ℕ, ◌<◌, Bool, true, false, List, [], ◌∷◌, ◌++◌, length, slice_get, slice_set, ◌==◌, if◌then◌else◌}
 use Rattle.std.proofs.Common.{Option, Some, None, IsSome, IfSome, option_map, refl, ap, sym, ◌∙◌, subst, arith, Result, Ok, OnOk, replicate, reverse, unwrap_or}
 use Rattle.std.proofs.Common.{◌≤◌}
 use Rattle.std.proofs.lemmas.{Bool.eq-eqb, Bool.eqb-true, List.get_or-replicate, List.length-replicate, List.reverse-append, Option.get_or_from_slice_get}
@@ -46,12 +46,6 @@ pub can_handed : {H E B : Type 0} (meant : H → Payload → E) (call : QueueCal
 can_handed meant (Push d t) payload lists can = can
 can_handed meant (TakeAll d) payload lists can = can
 can_handed meant (OnBuffer b e) payload lists can = can
-
--- a list that was empty and has grown by one
-pub one_pushed : {A F X : Type 0} (r : Result A F) (items : List X) (x : X) → is_err r ≡ false → items ≡ (if is_ok r then [] ++ x ∷ [] else [])
-    → items ≡ x ∷ []
-one_pushed (Ok a) items x went is = is
-one_pushed (Err e) items x went is = absurd cc
 
 not_equal : (i j : ℕ) → (i == j) ≡ false → i ≢ j
 not_equal i j other same = let equal : (i == j) ≡ true = eq-eqb i j same in absurd (cc (equal, other))

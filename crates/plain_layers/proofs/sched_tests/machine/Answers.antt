@@ -1,7 +1,5 @@
-use Rattle.std.proofs.Common.{◌≡◌, false, List, [], ◌∷◌, ◌++◌, if◌then◌else◌, is_err, is_ok, slice_get, ap, Option, Some, None, Result, Ok, Err, IfOk, subst}
-use Rattle.std.proofs.Common.{sym, ◌∙◌}
+use Rattle.std.proofs.Common.{◌≡◌, List, [], ◌∷◌, ◌++◌, slice_get, ap, Option, Some, None, Result, Ok, Err, IfOk, ◌∙◌}
 use Rattle.event_log.specs.declared.ids.BufId.{BufId}
-use Rattle.plain_layers.proofs.KernelLemmas.{one_pushed}
 use Rattle.plain_layers.proofs.sched_tests.machine.Goals as goal
 
 -- buffer 0 opens with the one block
@@ -13,6 +11,5 @@ opens_first (Err e) opens items x one all = tt
 pub returns-clause-free : goal.returns-clause-free
 returns-clause-free g c =
     let old : c.new-blocks.result.items ≡ [] = c.new-blocks.ensures.items in
-    let blocks = one_pushed c.push.result c.push.new.self.items None (sym c.is_err.ensures.value ∙ c.if-is_err.false)
-    (subst (λ l. c.push.new.self.items ≡ (if is_ok c.push.result then l ++ None ∷ [] else l)) old c.push.ensures.items) in
+    let blocks : c.push.new.self.items ≡ None ∷ [] = c.in_ok-push.ensures.items ∙ ap (λ l. l ++ None ∷ []) old in
     opens_first c.open.result _ c.push.new.self.items None blocks c.open.ensures.blocks
