@@ -1,6 +1,6 @@
 //! A log of events with room for so many. Only `with_room` takes memory. No call waits.
 
-ghost use Rattle.std.specs.Prelude.{◌≡◌, ◌≤◌, ◌<◌, ◌++◌, ◌∷◌, ◌↔◌, [], List, length, slice_get, vec_capacity, IfOk, IsOk, IsErr, OnOk, OnErr, option_map};
+ghost use Rattle.std.specs.Prelude.{◌≡◌, ◌≤◌, ◌<◌, ◌++◌, ◌∷◌, ◌+◌, ◌↔◌, [], List, length, replicate, slice_get, vec_capacity, IfOk, IsOk, IsErr, OnOk, OnErr, option_map};
 
 use crate::refusals::{LogFull, NoMemory};
 use std::alloc::Global;
@@ -62,6 +62,22 @@ impl<E> EventLog<E> {
         ensures room { room_of self.new ≡ room_of self.old }
     {
         self.events.push_reserved(event);
+    }
+
+    /// Puts so many copies of `event` at the end of a log that is known to have room: no test is made
+    /// for each of them when it runs. Takes no memory.
+    ///
+    /// Requires: the log has room for as many more events.
+    #[inline(always)]
+    pub fn push_copies(&mut self, event: E, copies: usize)
+    where
+        E: Copy,
+        requires { length (events_in self.old) + copies ≤ room_of self.old }
+        ensures pushed { events_in self.new ≡ events_in self.old ++ replicate copies event }
+        ensures room { room_of self.new ≡ room_of self.old }
+    {
+        let len = self.events.len() + copies;
+        let _filled = self.events.resize(len, event);
     }
 
     /// How many events stand in the log.
