@@ -5,6 +5,8 @@ pub mod PlanLemmas
 pub mod Alone
 pub mod PlanRenaming
 pub mod LookLemmas
+pub mod SpinLemmas
+pub mod StepLemmas
 pub mod CountLemmas
 pub mod PlaceLemmas
 pub mod OnePlaceLemmas
@@ -13,6 +15,7 @@ pub mod KernelRenaming
 pub mod SleepLemmas
 pub mod SleepRenaming
 pub mod CallLemmas
+pub mod PollRunLemmas
 pub mod NestedLemmas
 pub mod ActedLemmas
 pub mod OwnedLemmas

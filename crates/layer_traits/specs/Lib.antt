@@ -12,6 +12,7 @@ pub mod Places
 pub mod MoveRules
 pub mod Passes
 pub mod Looks
+pub mod Spins
 pub mod QueueBlocks
 pub mod Queues
 pub mod QueueRules
@@ -30,6 +31,8 @@ pub mod BufferProtocol
 pub mod BufferEffects
 pub mod BufferLaw
 pub mod IpcLaw
+pub mod PollRuns
+pub mod LayerPolls
 pub mod Owned
 pub mod Observed
 pub mod Openings

@@ -8,17 +8,17 @@ ghost use Rattle.event_log.specs.declared.ids.{CpuId.CpuId, Tid.Tid, BufId.BufId
 ghost use Rattle.layer_traits.specs.{declared.calls.Call.Call, declared.calls.Reply.Reply, declared.buffer_edits.BufferEdit.BufferEdit};
 ghost use Rattle.layer_traits.specs.{declared.moves.WaitList.WaitList, declared.queue_edits.QueueEdit.QueueEdit, declared.queue_edits.QueueBlock.QueueBlock};
 ghost use Rattle.layer_traits.specs.{declared.call_states.CallState.CallState, Acted.MovesAre, Conditions.CvCall, Places.Step, Places.Stands, Places.Threads};
-ghost use Rattle.layer_traits.specs.{Places.AreMoves, Places.at_boot, Plans.Follows, Plans.table_of, Plans.is_in_section, Framed.Framed, Looks.Tries};
+ghost use Rattle.layer_traits.specs.{Places.AreMoves, Places.at_boot, Plans.Follows, Plans.table_of, Plans.is_in_section, Framed.Framed, Looks.Tries, Spins.BeginWith, Spins.Spun, Spins.Misses};
 ghost use Rattle.layer_traits.specs.{QueueBlocks.StartsWell, QueueBlocks.homes_in, QueueBlocks.inner, Queues.buffer_sections, Queues.event_of};
 ghost use Rattle.layer_traits.specs.{QueueRules.queue_rules, Passes.MayPass, Passes.IsLocalPass, Passes.PassPolled, QLocking.lock_moves, QLocking.lock_rules};
 ghost use Rattle.layer_traits.specs.{BufferProtocol.BufferLock, BufferProtocol.buffer_rules, BufferEffects.MayTakeEffect, BufferEffects.effects_in};
-ghost use Rattle.layer_traits.specs.{IpcLaw.WaitListsAgree, IpcLaw.NothingDone, IpcLaw.OpensSo};
+ghost use Rattle.layer_traits.specs.{IpcLaw.WaitListsAgree, IpcLaw.NothingDone, IpcLaw.OpensSo, PollRuns.PolledOn};
 ghost use Rattle.layer_traits.specs.BufferLaw.{BufferPlan, Buffering, Called, answer_in, reply_with, Calling, UnderWay, IsRefused, MayGoOn, MayPollCall};
 ghost use Rattle.layer_traits.specs.BufferLaw.{MovesGrow, OthersSeen, Passing, RunsOn, buffer_of, buffering_at_start, fifo_pass_plan, no_call, still_calling};
 ghost use Rattle.layer_traits.specs.BufferLaw.{still_passing, call_state_of, message_of};
 ghost use Rattle.event_log.specs.{declared.entries.Entry.Entry, History.IsLawful, Actions.Action, Actions.AreLegal, Actions.phase, Sections.sections_in};
 
-use crate::calls::{Call, Effect, Reply, ReplyKind};
+use crate::calls::{Call, Effect, PollRun, Reply, ReplyKind};
 use crate::own_threads::OwnThreads;
 use crate::passes::Pass;
 use event_log::{CpuId, Msg, Tid};
@@ -193,6 +193,27 @@ pub trait CallLayer<L: CallLaw>: Sized {
         ensures caps { caps m.new ≡ caps m.old }
         ensures tries { IsStepwise → result ≡ true → Tries (ActsFor m.old) (cpu_of self.old) (acts m.old) (acts m.new) };
 
+    /// Notes looks of a section that waits at its lock and whose look would miss: one for each of the
+    /// steps at the front of `steps` that are this CPU's, at most. Returns how many it noted: each
+    /// missed, and nothing else has changed. A layer may always return 0.
+    ///
+    /// Requires: part and machine agree, and there is room for as many events as there are steps.
+    #[inline(always)]
+    fn spin(&self, m: &mut Self::Machine, steps: &[CpuId]) -> usize
+        requires fits { Fits self.now m.old }
+        requires room { length steps.now ≤ room m.old }
+        ensures few { BeginWith (cpu_of self.now) result steps.now }
+        ensures still { result ≡ 0 → m.new ≡ m.old }
+        ensures spun { Spun Fits opening site seen room ActsFor MayHold result m.old m.new }
+        ensures moves { moves m.new ≡ moves m.old }
+        ensures homes { homes_of m.new ≡ homes_of m.old }
+        ensures caps { caps m.new ≡ caps m.old }
+        ensures wait_lists { wait_lists m.new ≡ wait_lists m.old }
+        ensures tries { IsStepwise → Misses (cpu_of self.now) result (acts m.old) (acts m.new) }
+    {
+        0
+    }
+
     /// Does at most one action of the call of `t`. Returns the kind of its reply once the call has
     /// ended, and `None` while the same call is to be polled again. A message that was received lies in
     /// the effect of `t`, where a CPU reads it with no copy. `NoBuffer` comes exactly where the number
@@ -229,7 +250,33 @@ pub trait CallLayer<L: CallLaw>: Sized {
             (opening m.old) (cpu_of self.old) (L.plan (length (caps m.old)) (homes_in (opening m.old)) (cpu_of self.old) t call.now (own self.old))
             (acts m.old) (acts m.new) (record { own = own self.new; answer = answer_in (call_states self.new) t result }) };
 
-    /// The same, with the whole reply.
+    /// Does up to `most` actions of the call of `t`, one after the other: the first is a poll, and
+    /// each after it a poll or a look of the call's section at its lock. It goes on at most until the
+    /// call ends, has its effect, or leaves `t` not running, and may stop before. Returns how many it
+    /// did, and the kind of the reply if the last of them ended the call.
+    ///
+    /// Requires: as `poll_kind`, with room for as many events as `most` tells, which is not 0.
+    #[inline(always)]
+    fn poll_on(&mut self, m: &mut Self::Machine, t: Tid, call: &Call, most: usize) -> PollRun
+        requires fits { Fits self.old m.old }
+        requires there { L.IsThere (caps m.old) call.now }
+        requires some { 0 < most }
+        requires room { most ≤ room m.old }
+        requires runs { (threads self.old).current ≡ Some t }
+        requires hand { under_way self.old ≡ None → (threads self.old).hand ≡ None }
+        requires same { MayPollCall (call_state_of (call_states self.old) t) call.now }
+        requires goes_on { MayGoOn (under_way self.old) (Calling t) }
+        ensures few { result.actions ≤ most }
+        ensures polled_on { PolledOn Fits cpu_of opening site room ActsFor MayHold threads call_states own is_inside under_way caps homes_of seen moves acts
+            IsWhole IsStepwise L.plan t call.now self.old m.old result.actions self.new m.new result.reply }
+    {
+        PollRun {
+            actions: 1,
+            reply: self.poll_kind(m, t, call),
+        }
+    }
+
+    /// The same as `poll_kind`, with the whole reply.
     ///
     /// Requires: as `poll_kind`.
     #[inline(always)]

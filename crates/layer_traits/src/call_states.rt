@@ -1,6 +1,12 @@
-//! How far the message call of a thread has come.
+//! How far the message call of a thread has come. No call takes memory or waits.
+
+ghost use Rattle.std.specs.Prelude.{◌≡◌, replicate};
+ghost use Rattle.event_log.specs.declared.ids.TheConstants.{THREADS};
+ghost use Rattle.layer_traits.specs.BufferLaw.{no_call};
 
 use crate::calls::{Call, Effect};
+use crate::payloads::Ghost;
+use event_log::THREADS;
 
 /// The stages of a message call, each by the section that it does.
 #[derive(Clone, Copy)]
@@ -26,14 +32,35 @@ pub enum Stage {
 }
 
 /// What a part keeps of a thread's message call.
-#[derive(Clone, Copy)]
+#[derive(Drop)]
 pub struct CallState {
     /// How far the call has come.
     pub stage: Stage,
-    /// The call; `None` between calls.
-    pub call: Option<Call>,
+    /// The call; `None` between calls. It is for clauses alone.
+    pub call: Ghost<Option<Call>>,
     /// The position that the thread drew last.
     pub position: u64,
     /// The effect of the newest call, until the next one begins.
     pub effect: Option<Effect>,
+}
+
+impl Default for CallState {
+    ghost is_default = { λ call_state. call_state ≡ no_call };
+
+    /// A thread that never called.
+    fn default() -> CallState {
+        CallState {
+            stage: Stage::Idle,
+            call: Ghost::of(&None),
+            position: 0,
+            effect: None,
+        }
+    }
+}
+
+/// The call states, by thread, where no thread ever called.
+pub fn no_calls() -> [CallState; THREADS]
+    ensures { result ≡ replicate THREADS no_call }
+{
+    Default::default()
 }

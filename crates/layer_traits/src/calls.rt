@@ -62,6 +62,15 @@ pub enum ReplyKind {
     NoBuffer,
 }
 
+/// What a run of polls of one call did.
+#[derive(Clone, Copy)]
+pub struct PollRun {
+    /// How many actions it did: polls of the call, and looks of its section at its lock.
+    pub actions: usize,
+    /// The kind of the reply, once the last of them ended the call.
+    pub reply: Option<ReplyKind>,
+}
+
 /// The effect of a message call: the one step in which its message was put or taken, its buffer
 /// was closed, or it learned that the buffer is closed.
 #[derive(Clone, Copy)]

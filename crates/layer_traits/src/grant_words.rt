@@ -3,7 +3,7 @@
 //!
 //! No call takes memory, and none waits.
 
-ghost use Rattle.std.specs.Prelude.{◌≡◌, ℕ, ◌+◌, ◌<◌, ◌≤◌, List, [], Option, IsSome, MatchOption, option_map};
+ghost use Rattle.std.specs.Prelude.{◌≡◌, ℕ, ◌+◌, ◌<◌, ◌≤◌, ◌++◌, length, replicate, List, [], Option, IsSome, MatchOption, option_map};
 
 use crate::edits::{Mark, SplitEdit};
 use event_log::{CpuId, GrantEvent, LockId};
@@ -18,7 +18,7 @@ pub trait GrantWords {
     ghost use Rattle.event_log.specs.{History.IsLawful, WordsLog.Idle, WordsLog.Waiting, WordsLog.Holding, Sections.block_after};
     ghost use Rattle.event_log.specs.declared.grants.GrantEvent.{GrantEvent, TheVariants.Take, TheVariants.Peek, TheVariants.Give};
     ghost use Rattle.layer_traits.specs.{declared.edits.Mark.Mark, GrantProtocol.grant_sections, GrantProtocol.GrantMayCome, Protocol.section};
-    ghost use Rattle.layer_traits.specs.{Protocol.StaysAllowed, WordsProtocol.mark_of};
+    ghost use Rattle.layer_traits.specs.{Protocol.StaysAllowed, WordsProtocol.mark_of, Spins.BeginWith};
 
     /// The edits of the sections.
     type Edit: SplitEdit;
@@ -90,6 +90,30 @@ pub trait GrantWords {
         ensures site { site self.new ≡ site self.old }
         ensures room { room self.old ≤ room self.new + 1 }
         ensures acts { (c : CpuId) → ActsFor self.old c → ActsFor self.new c };
+
+    /// Notes peeks of `cpu`, which waits at `lock` with `ticket`, if a peek would miss: one for each of
+    /// the steps at the front of `steps` that are this CPU's, at most. Returns how many it noted: each
+    /// missed, and nothing else has changed. A machine may always return 0.
+    ///
+    /// Requires: the holder acts for `cpu`, the lock is there, there is room for as many events as
+    /// there are steps, and `cpu` waits there with `ticket`.
+    #[inline(always)]
+    fn spin(&mut self, cpu: CpuId, lock: LockId, ticket: u64, steps: &[CpuId]) -> usize
+        requires cpu { ActsFor self.old cpu }
+        requires lock { IsSome (opening self.old lock) }
+        requires room { length steps.now ≤ room self.old }
+        requires waiting { grant_lock_phase cpu (seen self.old) ≡ Waiting lock ticket }
+        ensures few { BeginWith cpu result steps.now }
+        ensures still { result ≡ 0 → self.new ≡ self.old }
+        ensures adds { (read : ℕ) × (seen self.new ≡ replicate result (Peek cpu lock ticket read) ++ seen self.old) }
+        ensures waits { grant_lock_phase cpu (seen self.new) ≡ Waiting lock ticket }
+        ensures opening { opening self.new ≡ opening self.old }
+        ensures site { site self.new ≡ site self.old }
+        ensures room { room self.old ≤ room self.new + result }
+        ensures acts { (c : CpuId) → ActsFor self.old c → ActsFor self.new c }
+    {
+        0
+    }
 
     /// Gives `lock` on for `cpu`: a store of its ticket plus 2 in the next ticket's grant word.
     /// `block` goes home.

@@ -2,11 +2,11 @@
 //!
 //! No call takes memory, and none waits.
 
-ghost use Rattle.std.specs.Prelude.{◌≡◌, ℕ, ◌<◌, true, false, Bool, List, [], Option, None, Some, OnSome, if◌then◌else◌};
+ghost use Rattle.std.specs.Prelude.{◌≡◌, ℕ, ◌<◌, ◌≤◌, length, true, false, Bool, List, [], Option, None, Some, OnSome, if◌then◌else◌};
 ghost use Rattle.event_log.specs.{declared.ids.CpuId.CpuId, declared.ids.LockId.LockId, Actions.Action, Actions.AreLegal, Actions.phase};
 ghost use Rattle.event_log.specs.{declared.ids.TheConstants.CPUS, History.IsLawful, History.Grows};
 ghost use Rattle.layer_traits.specs.{declared.payloads.Payload.Payload, Payloads.told_by, Plans.Plan, Plans.Table, Plans.Follows, Plans.is_in_section};
-ghost use Rattle.layer_traits.specs.{Framed.Framed, Looks.Tries};
+ghost use Rattle.layer_traits.specs.{Framed.Framed, Looks.Tries, Spins.BeginWith, Spins.Spun, Spins.Misses};
 
 use crate::payloads::Payload;
 use event_log::{CpuId, LockId};
@@ -196,6 +196,24 @@ pub trait Layer<L: Law>: Sized {
         ensures framed { Framed Fits cpu_of opening site room ActsFor MayHold self.old self.new m.old m.new }
         ensures tries { IsStepwise → result ≡ true
             → Tries (ActsFor m.old) (cpu_of self.old) (acts m.old) (acts m.new) };
+
+    /// Notes looks of a section that waits at its lock and whose look would miss: one for each of the
+    /// steps at the front of `steps` that are this CPU's, at most. Returns how many it noted: each
+    /// missed, and nothing else has changed. A layer may always return 0.
+    ///
+    /// Requires: part and machine agree, and there is room for as many events as there are steps.
+    #[inline(always)]
+    fn spin(&self, m: &mut Self::Machine, steps: &[CpuId]) -> usize
+        requires fits { Fits self.now m.old }
+        requires room { length steps.now ≤ room m.old }
+        ensures few { BeginWith (cpu_of self.now) result steps.now }
+        ensures still { result ≡ 0 → m.new ≡ m.old }
+        ensures spun { Spun Fits opening site seen room ActsFor MayHold result m.old m.new }
+        ensures outside { (c : CpuId) → IsOutside m.old c → IsOutside m.new c }
+        ensures tries { IsStepwise → Misses (cpu_of self.now) result (acts m.old) (acts m.new) }
+    {
+        0
+    }
 
     /// Does at most one action of `call`. Returns its answer once the call has ended, and `None` while
     /// the same call is to be polled again. A call that touches nothing shared answers at once.

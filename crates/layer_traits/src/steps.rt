@@ -1,4 +1,11 @@
-//! What one step of a CPU answers.
+//! What one step of a CPU answers, and the steps of one CPU at the front of a schedule.
+//!
+//! No call takes memory, and none waits.
+
+ghost use Rattle.std.specs.Prelude.{length, IsTrue};
+ghost use Rattle.layer_traits.specs.Spins.{BeginWith};
+
+use event_log::CpuId;
 
 /// Why a CPU takes no step.
 #[derive(Clone, Copy)]
@@ -19,4 +26,57 @@ pub enum Step {
     Stepped,
     /// No step was taken, and nothing has changed.
     Halted(Reason),
+}
+
+/// How many steps are compared at once.
+const RUN: usize = 32;
+
+/// How many of the steps at the front of `steps` are those of `cpu`. Runs of `RUN` steps are
+/// compared whole, and the rest step by step.
+pub fn steps_of(cpu: CpuId, steps: &[CpuId]) -> usize
+    ensures { BeginWith cpu result steps.now }
+{
+    let runs = runs_of(cpu, steps);
+    runs + few_of(cpu, &steps[runs..])
+}
+
+/// How many steps there are in the runs at the front of `steps` whose steps are all those of `cpu`.
+fn runs_of(cpu: CpuId, steps: &[CpuId]) -> usize
+    ensures { BeginWith cpu result steps.now }
+{
+    let mut own = 0;
+    while RUN <= steps.len() - own {
+        if !all_of(cpu, &steps[own..own + RUN]) {
+            return own;
+        }
+        own += RUN;
+    }
+    own
+}
+
+/// Whether all of `steps` are those of `cpu`. No step is passed over, so that many are compared at
+/// once.
+#[inline(always)]
+fn all_of(cpu: CpuId, steps: &[CpuId]) -> bool
+    ensures { IsTrue result → BeginWith cpu (length steps.now) steps.now }
+{
+    let mut all = true;
+    for step in steps {
+        all &= step.0 == cpu.0;
+    }
+    all
+}
+
+/// How many of the steps at the front of `steps` are those of `cpu`, step by step.
+fn few_of(cpu: CpuId, steps: &[CpuId]) -> usize
+    ensures { BeginWith cpu result steps.now }
+{
+    let mut own = 0;
+    for step in steps {
+        if step.0 != cpu.0 {
+            return own;
+        }
+        own += 1;
+    }
+    own
 }

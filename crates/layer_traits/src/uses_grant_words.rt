@@ -57,6 +57,11 @@ impl<W: UsesGrantWords> GrantWords for W {
     }
 
     #[inline(always)]
+    fn spin(&mut self, cpu: CpuId, lock: LockId, ticket: u64, steps: &[CpuId]) -> usize {
+        <W as Words>::spin(self, cpu, lock, ticket, steps)
+    }
+
+    #[inline(always)]
     fn give(
         &mut self,
         cpu: CpuId,

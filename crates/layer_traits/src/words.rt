@@ -2,7 +2,7 @@
 //!
 //! No call takes memory, and none waits.
 
-ghost use Rattle.std.specs.Prelude.{◌≡◌, ℕ, ◌+◌, ◌<◌, ◌≤◌, List, [], Option, IsSome, MatchOption, option_map};
+ghost use Rattle.std.specs.Prelude.{◌≡◌, ℕ, ◌+◌, ◌<◌, ◌≤◌, ◌++◌, length, replicate, List, [], Option, IsSome, MatchOption, option_map};
 
 use crate::edits::{Mark, SplitEdit};
 use event_log::{CpuId, Event, LockId};
@@ -20,7 +20,7 @@ pub trait Words {
     ghost use Rattle.event_log.specs.{WordsLog.lock_phase, WordsLog.Idle, WordsLog.Waiting, WordsLog.Holding, Sections.Section, Sections.block_after};
     ghost use Rattle.event_log.specs.declared.events.Event.{Event, TheVariants.Draw, TheVariants.Look, TheVariants.Free};
     ghost use Rattle.layer_traits.specs.{declared.edits.Mark.Mark, Protocol.section, Protocol.StaysAllowed, WordsProtocol.mark_of, WordsProtocol.sections};
-    ghost use Rattle.layer_traits.specs.{WordsProtocol.MayCome};
+    ghost use Rattle.layer_traits.specs.{WordsProtocol.MayCome, Spins.BeginWith};
 
     /// The edits of the sections.
     type Edit: SplitEdit;
@@ -92,6 +92,30 @@ pub trait Words {
         ensures site { site self.new ≡ site self.old }
         ensures room { room self.old ≤ room self.new + 1 }
         ensures acts { (c : CpuId) → ActsFor self.old c → ActsFor self.new c };
+
+    /// Notes looks of `cpu`, which waits at `lock` with `ticket`, if a look would miss: one for each of
+    /// the steps at the front of `steps` that are this CPU's, at most. Returns how many it noted: each
+    /// missed, and nothing else has changed. A machine may always return 0.
+    ///
+    /// Requires: the holder acts for `cpu`, the lock is there, there is room for as many events as
+    /// there are steps, and `cpu` waits there with `ticket`.
+    #[inline(always)]
+    fn spin(&mut self, cpu: CpuId, lock: LockId, ticket: u64, steps: &[CpuId]) -> usize
+        requires cpu { ActsFor self.old cpu }
+        requires lock { IsSome (opening self.old lock) }
+        requires room { length steps.now ≤ room self.old }
+        requires waiting { lock_phase cpu (seen self.old) ≡ Waiting lock ticket }
+        ensures few { BeginWith cpu result steps.now }
+        ensures still { result ≡ 0 → self.new ≡ self.old }
+        ensures adds { (read : ℕ) × (seen self.new ≡ replicate result (Look cpu lock ticket read) ++ seen self.old) }
+        ensures waits { lock_phase cpu (seen self.new) ≡ Waiting lock ticket }
+        ensures opening { opening self.new ≡ opening self.old }
+        ensures site { site self.new ≡ site self.old }
+        ensures room { room self.old ≤ room self.new + result }
+        ensures acts { (c : CpuId) → ActsFor self.old c → ActsFor self.new c }
+    {
+        0
+    }
 
     /// Frees `lock` for `cpu`: a fetch-and-add of 1 on `serving`. `block` goes home.
     ///

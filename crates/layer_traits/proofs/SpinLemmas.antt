@@ -1,0 +1,83 @@
+-- Looks that all missed change no CPU's phase or spot and no section, and are the same looks under other names.
+use Rattle.std.proofs.Common.{◌≡◌, ℕ, zero, suc, ◌<◌, ◌%◌, Bool, true, false, List, ◌∷◌, ◌++◌, map, replicate, if◌then◌else◌, refl, ap, sym, ◌∙◌}
+use Rattle.std.proofs.Common.{arith}
+use Rattle.event_log.specs.{declared.ids.CpuId.CpuId, declared.ids.LockId.LockId, declared.ids.LockId.TheVariants.Pending, declared.ids.TheConstants.CPUS}
+use Rattle.event_log.specs.{declared.events.Event.Event, declared.events.Event.TheVariants.Look, declared.grants.GrantEvent.GrantEvent}
+use Rattle.event_log.specs.{declared.grants.GrantEvent.TheVariants.Peek, Actions.Action, Actions.Try, Actions.Waits, Actions.phase, Actions.renamed}
+use Rattle.event_log.specs.{Actions.spot_of, Grants.grant_word, History.same_cpu, Sections.sections_in}
+use Rattle.event_log.proofs.Same.{same_cpu_true}
+use Rattle.event_log.proofs.Renaming.{phase_renamed}
+use Rattle.layer_traits.specs.{AsGrants.as_grants, Spins.Misses}
+
+-- no look is none that hit
+pub none_missed : {N : Type 0} (cpu : CpuId) (acts : List (Action N)) → Misses cpu 0 acts acts
+none_missed cpu acts = record { lock = Pending cpu; waits = λ some. absurd (omega arith); grows = refl }
+
+module _ {N : Type 0} (cpu : CpuId) (lock : LockId) (old : List (Action N)) where
+  abbrev missed : ℕ → List (Action N)
+  missed looks = replicate looks (Try cpu lock false) ++ old
+
+  one_more : (c : CpuId) (past : List (Action N)) (b : Bool) → same_cpu cpu c ≡ b → phase cpu old ≡ Waits lock → phase c past ≡ phase c old
+      → (if b then Waits lock else phase c past) ≡ phase c old
+  one_more c past true same waits rest = sym waits ∙ ap (λ d. phase d old) (same_cpu_true cpu c same)
+  one_more c past false other waits rest = rest
+
+  phase_missed : (c : CpuId) (looks : ℕ) → phase cpu old ≡ Waits lock → phase c (missed looks) ≡ phase c old
+  phase_missed c zero waits = refl
+  phase_missed c (suc looks) waits = one_more c (missed looks) (same_cpu cpu c) refl waits (phase_missed c looks waits)
+
+  pub same_phase : (c : CpuId) (looks : ℕ) → (0 < looks → phase cpu old ≡ Waits lock) → phase c (missed looks) ≡ phase c old
+  same_phase c zero waits = refl
+  same_phase c (suc looks) waits = phase_missed c (suc looks) (waits (omega arith))
+
+  pub same_spot : (c : CpuId) (looks : ℕ) → spot_of c (missed looks) ≡ spot_of c old
+  same_spot c zero = refl
+  same_spot c (suc looks) = same_spot c looks
+
+  pub same_sections : (looks : ℕ) → sections_in (missed looks) ≡ sections_in old
+  same_sections zero = refl
+  same_sections (suc looks) = same_sections looks
+
+-- what looks that all missed leave
+pub record LeftSame {N : Type 0} (old new : List (Action N)) : Type 0 where
+  pub phases : (c : CpuId) → phase c new ≡ phase c old
+  pub spots : (c : CpuId) → spot_of c new ≡ spot_of c old
+  pub sections : sections_in new ≡ sections_in old
+
+pub left_same : {N : Type 0} (cpu : CpuId) (looks : ℕ) (old new : List (Action N)) → Misses cpu looks old new → LeftSame old new
+left_same cpu looks old new misses = record {
+  phases = λ c. ap (phase c) misses.grows ∙ same_phase cpu misses.lock old c looks misses.waits;
+  spots = λ c. ap (spot_of c) misses.grows ∙ same_spot cpu misses.lock old c looks;
+  sections = ap sections_in misses.grows ∙ same_sections cpu misses.lock old looks;
+}
+
+missed_renamed : {M N : Type 0} (name : M → N) (cpu : CpuId) (lock : LockId) (old : List (Action M)) (looks : ℕ)
+    → map (renamed name) (replicate looks (Try cpu lock false) ++ old) ≡ replicate looks (Try cpu lock false) ++ map (renamed name) old
+missed_renamed name cpu lock old zero = refl
+missed_renamed name cpu lock old (suc looks) = ap (λ l. Try cpu lock false ∷ l) (missed_renamed name cpu lock old looks)
+
+-- under other names they are the same looks
+pub misses_renamed : {M N : Type 0} (name : M → N) (cpu : CpuId) (looks : ℕ) (old new : List (Action M)) → Misses cpu looks old new
+    → Misses cpu looks (map (renamed name) old) (map (renamed name) new)
+misses_renamed name cpu looks old new misses = record {
+  lock = misses.lock;
+  waits = λ some. phase_renamed name cpu old ∙ misses.waits some;
+  grows = ap (map (renamed name)) misses.grows ∙ missed_renamed name cpu misses.lock old looks;
+}
+
+module _ {M : Type 0} (cpu : CpuId) (lock : LockId) (ticket read : ℕ) (old : List (Event M)) where
+  abbrev shown : ℕ
+  shown = grant_word lock (ticket % CPUS) (as_grants old)
+
+  word_peeked : (read_here : ℕ) (looks : ℕ) (past : List (GrantEvent M))
+      → grant_word lock (ticket % CPUS) (replicate looks (Peek cpu lock ticket read_here) ++ past) ≡ grant_word lock (ticket % CPUS) past
+  word_peeked read_here zero past = refl
+  word_peeked read_here (suc looks) past = word_peeked read_here looks past
+
+  -- looks, told as peeks
+  pub peeked : (looks : ℕ) → as_grants (replicate looks (Look cpu lock ticket read) ++ old) ≡ replicate looks (Peek cpu lock ticket shown) ++ as_grants old
+  peeked zero = refl
+  peeked (suc looks) =
+      let rest = peeked looks in
+      ap (λ l. Peek cpu lock ticket (grant_word lock (ticket % CPUS) l) ∷ l) rest
+      ∙ ap (λ n. Peek cpu lock ticket n ∷ replicate looks (Peek cpu lock ticket shown) ++ as_grants old) (word_peeked shown looks (as_grants old))

@@ -1,0 +1,5 @@
+use Rattle.layer_traits.proofs.SpinLemmas.{none_missed}
+use Rattle.layer_traits.proofs.threads.ThreadLayer.spin.Goals as goal
+
+pub returns-clause-tries : goal.returns-clause-tries
+returns-clause-tries g c = λ step. none_missed (g.Self.ThreadLayer.cpu_of c.args.self.now) (g.Self.ThreadLayer.acts c.args.m.now)
