@@ -79,6 +79,11 @@ impl<G: Guarded, Q: ThreadLayer<QLockLaw<CvEdit<G>>>> ThreadLayer<CvLaw<G>> for 
     }
 
     #[inline(always)]
+    fn spin(&self, m: &mut Q::Machine, steps: &[CpuId]) -> usize {
+        self.lower.spin(m, steps)
+    }
+
+    #[inline(always)]
     fn poll(
         &mut self,
         m: &mut Q::Machine,

@@ -11,6 +11,7 @@ pub mod SectionPollTaken
 pub mod Finish
 pub mod First
 pub mod Twice
+pub mod Goings
 pub mod Starting
 pub mod Chains
 pub mod Opening

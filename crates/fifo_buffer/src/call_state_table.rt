@@ -7,7 +7,9 @@ ghost use Rattle.fifo_buffer.specs.SectionPolls.{outcome_of, recorded_if};
 
 use crate::sections::{begin, record_section};
 use event_log::{THREADS, Tid};
-use layer_traits::{BareBufferOut, Call, CallState, CvOut, Effect, Outcome, Parcel, QOut, Stage};
+use layer_traits::{
+    BareBufferOut, Call, CallState, CvOut, Effect, Outcome, Parcel, QOut, Stage, no_calls,
+};
 
 /// The call state of each thread.
 #[derive(Drop)]
@@ -22,12 +24,7 @@ impl CallStates {
         ensures { result.call_states ≡ replicate THREADS no_call }
     {
         CallStates {
-            call_states: [CallState {
-                stage: Stage::Idle,
-                call: None,
-                position: 0,
-                effect: None,
-            }; THREADS],
+            call_states: no_calls(),
         }
     }
 
@@ -51,6 +48,20 @@ impl CallStates {
         ensures { result.now ≡ (call_state_of self.now.call_states t).effect }
     {
         &self.call_states[usize::from(t.0)].effect
+    }
+
+    /// Whether the call at which a poll of `call` by `t` goes on has taken effect: between calls a new
+    /// one begins, which has not.
+    ///
+    /// Requires: the thread is below `THREADS`.
+    #[inline(always)]
+    pub fn has_taken(&self, t: Tid, call: &Call) -> bool
+        requires { t.0 < THREADS }
+        ensures { result ≡ is_some (going (call_state_of self.now.call_states t) call.now).effect }
+    {
+        let _ = call;
+        let call_state = &self.call_states[usize::from(t.0)];
+        call_state.stage != Stage::Idle && call_state.effect.is_some()
     }
 
     /// The stage at which a poll of `call` by `t` goes on: between calls a new one begins.

@@ -13,7 +13,8 @@ use arrayvec::ArrayVec;
 use event_log::{BufId, CAPACITY, CpuId, Msg, Tid};
 use layer_traits::{
     BufferCall, BufferEdit, BufferLaw, Call, CallLayer, CvLaw, Effect, Ghost, OwnThreads,
-    OwnedBuffers, OwnedThreadLayer, Pass, Payload, ReplyKind, Stage, ThreadLayer, WaitList,
+    OwnedBuffers, OwnedThreadLayer, Pass, Payload, PollRun, ReplyKind, Stage, ThreadLayer,
+    WaitList,
 };
 
 /// One CPU's part of first-in first-out blocking bounded buffers (Anderson and Dahlin), over a part
@@ -94,48 +95,6 @@ impl<C: ThreadLayer<CvLaw<BufferEdit>>> Fifo<C> {
             Some(_) => { if answer.is_none() { Some(t) } else { None } }
         });
         answer
-    }
-
-    /// Goes on with `call` by `t` in the same poll, after a section that ended without an action: polls
-    /// the next section, and returns the kind of the reply if the call has ended.
-    #[inline(never)]
-    fn poll_next(&mut self, m: &mut C::Machine, t: Tid, call: &Call) -> Option<ReplyKind>
-        requires known { t.0 < THREADS }
-        requires fits { C.Fits self.old.lower m.old }
-        requires buffer { IsSome (C.opening m.old (Buffer (buffer_of call.now))) }
-        requires room { 0 < C.room m.old }
-        requires sizes { Sizes (C.own self.old.lower) self.old.call_states.call_states }
-        requires may { MayPollSection (inner (C.opening m.old)) (buffer_sections (C.seen m.old)) t call.now (going (call_state_of self.old.call_states.call_states t) call.now)
-            (C.own self.old.lower)
-            (C.under_way self.old.lower) }
-        ensures section_polled { (done : Bool)
-            × SectionPolled (homes_in (C.opening m.old)) (λ c. C.ActsFor m.old c) (inner (C.opening m.old)) (C.cpu_of self.old.lower) t call.now
-            (going (call_state_of self.old.call_states.call_states t) call.now) (C.seen m.old) (C.seen m.new) (C.own self.old.lower) (C.own self.new.lower)
-            (C.under_way self.new.lower) done
-            (call_state_of self.new.call_states.call_states t)
-            × (answer_in self.new.call_states.call_states t result
-            ≡ (if done then replied call.now (going (call_state_of self.old.call_states.call_states t) call.now)
-            (going (call_state_of self.old.call_states.call_states t) call.now).stage else None)) }
-        ensures call_states { self.new.call_states.call_states ≡ slice_set self.old.call_states.call_states t.0 (call_state_of self.new.call_states.call_states t) }
-        ensures calling { self.new.calling ≡ calling_after t (C.own self.new.lower).lock.sleep.threads.current
-            (answer_in self.new.call_states.call_states t result) }
-        ensures framed { Framed (λ (p : C) k. C.Fits p k) (λ p. C.cpu_of p) (λ k. C.opening k) (λ k. C.site k) (λ k. C.room k)
-            (λ k c. C.ActsFor k c) (λ k c. C.MayHold k c) self.old.lower self.new.lower m.old m.new }
-        ensures follows { C.IsStepwise
-            → Follows (C.ActsFor m.old) (table_of (queue_rules (lock_rules buffer_rules) (lock_moves buffer_rules))) (C.opening m.old)
-            (C.cpu_of self.old.lower)
-            (plan_of (homes_in (C.opening m.old)) (C.cpu_of self.old.lower) t call.now (going (call_state_of self.old.call_states.call_states t) call.now).stage
-            (going (call_state_of self.old.call_states.call_states t) call.now)
-            (buffering (C.own self.old.lower) self.old.call_states.call_states))
-            (C.acts m.old) (C.acts m.new)
-            (record {
-              own = buffering (C.own self.new.lower) self.new.call_states.call_states;
-              answer = answer_in self.new.call_states.call_states t result;
-            }) }
-    {
-        let next = self.call_states.next_stage(t, call);
-        let last = self.poll_section(m, t, call, next);
-        self.complete(t, call, next, last)
     }
 }
 
@@ -232,14 +191,52 @@ impl<C: ThreadLayer<CvLaw<BufferEdit>>> CallLayer<BufferLaw> for Fifo<C> {
         self.lower.look(m)
     }
 
+    #[inline(always)]
+    fn spin(&self, m: &mut C::Machine, steps: &[CpuId]) -> usize {
+        self.lower.spin(m, steps)
+    }
+
     fn poll_kind(&mut self, m: &mut C::Machine, t: Tid, call: &Call) -> Option<ReplyKind> {
-        let stage = self.call_states.next_stage(t, call);
-        let at_once = answers_at_once(stage, self.lower.at_once());
-        let done = self.poll_section(m, t, call, stage);
-        if done && at_once {
-            return self.poll_next(m, t, call);
+        let mut first = true;
+        'sections: loop {
+            let stage = self.call_states.next_stage(t, call);
+            let at_once = answers_at_once(stage, self.lower.at_once());
+            let done = self.poll_section(m, t, call, stage);
+            if first && done && at_once {
+                first = false;
+                continue 'sections;
+            }
+            return self.complete(t, call, stage, done);
         }
-        self.complete(t, call, stage, done)
+    }
+
+    #[inline(always)]
+    fn poll_on(&mut self, m: &mut C::Machine, t: Tid, call: &Call, most: usize) -> PollRun {
+        let had = self.call_states.has_taken(t, call);
+        let mut actions = 0;
+        let mut looked = false;
+        loop {
+            if actions > 0 && self.look(m) {
+                actions += 1;
+                if looked || actions == most {
+                    return PollRun {
+                        actions,
+                        reply: None,
+                    };
+                }
+                looked = true;
+                continue;
+            }
+            let reply = self.poll_kind(m, t, call);
+            actions += 1;
+            looked = false;
+            if actions == most || reply.is_some() || self.current().is_none() {
+                return PollRun { actions, reply };
+            }
+            if self.call_states.effect_here(t).is_some() != had {
+                return PollRun { actions, reply };
+            }
+        }
     }
 
     #[inline(always)]

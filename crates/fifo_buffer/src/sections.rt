@@ -9,8 +9,8 @@ ghost use Rattle.fifo_buffer.specs.SectionPolls.{is_at_once, reply_at};
 
 use event_log::{Kind, Msg, Tid};
 use layer_traits::{
-    BareBufferEdit, BareBufferOut, Call, CallState, CvEdit, CvLeave, CvOut, Effect, Parcel, QEdit,
-    QOut, ReplyKind, Side, Stage,
+    BareBufferEdit, BareBufferOut, Call, CallState, CvEdit, CvLeave, CvOut, Effect, Ghost, Parcel,
+    QEdit, QOut, ReplyKind, Side, Stage,
 };
 
 /// A call's own side; a close signals to the senders last.
@@ -109,7 +109,7 @@ pub fn begin(call_state: &mut CallState, call: &Call)
 {
     if call_state.stage == Stage::Idle {
         call_state.stage = Stage::Acquires;
-        call_state.call = Some(*call);
+        call_state.call = Ghost::of(&Some(*call));
         call_state.position = 0;
         call_state.effect = None;
     }
@@ -180,7 +180,7 @@ pub fn record_section(call_state: &mut CallState, out: &QOut<CvOut<BareBufferOut
         Stage::SignalsOwn => call_state.stage = Stage::Releases,
         Stage::Releases => {
             call_state.stage = Stage::Idle;
-            call_state.call = None;
+            call_state.call = Ghost::of(&None);
         }
     }
 }

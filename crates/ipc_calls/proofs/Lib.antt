@@ -1,4 +1,3 @@
 mod Opened
-mod Rows
-mod CallStates
 mod Towers
+mod CallRuns

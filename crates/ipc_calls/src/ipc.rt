@@ -10,7 +10,7 @@ use arrayvec::ArrayVec;
 use event_log::{BufId, CAPACITY, CpuId, Msg, NoMemory, THREADS, Tid};
 use layer_traits::{
     BufferLaw, Call, CallLayer, Effect, IpcLaw, OwnThreads, Owned, OwnedBuffers, Pass, Place,
-    ReplyKind, WaitList, kept_homes,
+    PollRun, ReplyKind, WaitList, kept_homes,
 };
 use std::alloc::Global;
 
@@ -138,12 +138,28 @@ impl<B: CallLayer<BufferLaw>> CallLayer<IpcLaw> for Ipc<B> {
         self.lower.look(m)
     }
 
+    #[inline(always)]
+    fn spin(&self, m: &mut B::Machine, steps: &[CpuId]) -> usize {
+        self.lower.spin(m, steps)
+    }
+
     fn poll_kind(&mut self, m: &mut B::Machine, t: Tid, call: &Call) -> Option<ReplyKind> {
         let buffer = call.buffer();
         if buffer.0 >= self.buffers {
             return Some(ReplyKind::NoBuffer);
         }
         self.lower.poll_kind(m, t, call)
+    }
+
+    #[inline(always)]
+    fn poll_on(&mut self, m: &mut B::Machine, t: Tid, call: &Call, most: usize) -> PollRun {
+        if call.buffer().0 >= self.buffers {
+            return PollRun {
+                actions: 1,
+                reply: Some(ReplyKind::NoBuffer),
+            };
+        }
+        self.lower.poll_on(m, t, call, most)
     }
 
     #[inline(always)]

@@ -27,8 +27,3 @@ pub use tower::{
     tower_blocks,
 };
 pub use whole::{WholeBuffers, calls_are_whole};
-
-#[cfg(test)]
-mod buffer_tests;
-#[cfg(test)]
-mod tests;

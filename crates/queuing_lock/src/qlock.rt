@@ -91,6 +91,11 @@ impl<F: Locked, S: ThreadLayer<SleepLaw<QLockEdit<F, F::Release>>>> ThreadLayer<
     }
 
     #[inline(always)]
+    fn spin(&self, m: &mut S::Machine, steps: &[CpuId]) -> usize {
+        self.lower.spin(m, steps)
+    }
+
+    #[inline(always)]
     fn poll(
         &mut self,
         m: &mut S::Machine,

@@ -84,6 +84,11 @@ impl<E: Moves, Q: Layer<QueueLaw<E>>> Layer<SchedLaw<E>> for Sched<Q> {
     }
 
     #[inline(always)]
+    fn spin(&self, m: &mut Q::Machine, steps: &[CpuId]) -> usize {
+        self.lower.spin(m, steps)
+    }
+
+    #[inline(always)]
     fn poll(
         &mut self,
         m: &mut Q::Machine,

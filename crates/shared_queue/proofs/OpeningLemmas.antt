@@ -1,6 +1,6 @@
 -- The locks with which shared queues open are distinct, and each opens with its block.
-use Rattle.std.proofs.Common.{◌≡◌, ◌≢◌, ◌≤◌, ◌<◌, ℕ, zero, suc, ◌+◌, Bool, true, false, All, List, [], ◌∷◌, ◌++◌, length, Option, Some, None, IsSome, Result}
-use Rattle.std.proofs.Common.{Ok, Err, IfOk, if◌then◌else◌, refl, ap, sym, ◌∙◌, subst, arith, append-nil, slice_get, ◌==◌}
+use Rattle.std.proofs.Common.{◌≡◌, ◌≢◌, ◌≤◌, ◌<◌, ℕ, zero, suc, ◌+◌, Bool, true, false, All, List, [], ◌∷◌, ◌++◌, length, Option, Some, None, IsSome}
+use Rattle.std.proofs.Common.{if◌then◌else◌, refl, ap, sym, ◌∙◌, subst, arith, append-nil, slice_get, ◌==◌}
 use Rattle.std.proofs.lemmas.{Bool.eq-eqb, Bool.eqb-false, Bool.ne_eqb, Option.get_or_from_slice_get, Option.slice_get_within}
 use Rattle.event_log.specs.{declared.ids.BufId.BufId, declared.ids.CpuId.CpuId, declared.ids.LockId.LockId, declared.ids.LockId.TheVariants.Pending}
 use Rattle.event_log.specs.{declared.ids.LockId.TheVariants.Buffer, declared.ids.TheConstants.THREADS, History.same_lock}

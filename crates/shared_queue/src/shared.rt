@@ -93,6 +93,11 @@ impl<E: Moves, L: Layer<LockLaw<QueueEdit<E>>>> Layer<QueueLaw<E>> for SharedQue
     }
 
     #[inline(always)]
+    fn spin(&self, m: &mut L::Machine, steps: &[CpuId]) -> usize {
+        self.lower.spin(m, steps)
+    }
+
+    #[inline(always)]
     fn poll(
         &mut self,
         m: &mut L::Machine,

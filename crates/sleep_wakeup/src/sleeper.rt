@@ -120,6 +120,11 @@ impl<E: Sleeps, S: Layer<SchedLaw<SleepEdit<E>>>> ThreadLayer<SleepLaw<E>> for S
     }
 
     #[inline(always)]
+    fn spin(&self, m: &mut S::Machine, steps: &[CpuId]) -> usize {
+        self.lower.spin(m, steps)
+    }
+
+    #[inline(always)]
     fn poll(
         &mut self,
         m: &mut S::Machine,

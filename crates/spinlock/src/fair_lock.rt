@@ -2,7 +2,7 @@
 //!
 //! No call takes memory, and none waits.
 
-ghost use Rattle.std.specs.Prelude.{◌≡◌, ℕ, ◌+◌, ◌%◌, ◌^◌, ◌<◌, ◌≤◌, Bool, List, Option, IsSome, MatchOption, option_map, ◌↔◌};
+ghost use Rattle.std.specs.Prelude.{◌≡◌, ℕ, ◌+◌, ◌%◌, ◌^◌, ◌<◌, ◌≤◌, Bool, List, Option, IsSome, MatchOption, length, option_map, ◌↔◌};
 
 use event_log::{CpuId, LockId};
 use layer_traits::{GrantWords, SplitEdit, Words};
@@ -21,7 +21,7 @@ pub trait FairLock<LockProtocol> {
     ghost use Rattle.event_log.specs.{declared.ids.CpuId.CpuId, declared.ids.LockId.LockId, Actions.Action, Actions.Take, Actions.Try, Actions.Give};
     ghost use Rattle.event_log.specs.{Actions.Rests, Actions.Waits, Actions.Holds, Actions.AreLegal, Actions.cpu_of_action, Actions.phase, Actions.spot_of};
     ghost use Rattle.event_log.specs.{History.Adds, History.IsLawful, Sections.block_after, Sections.sections_in};
-    ghost use Rattle.layer_traits.specs.Protocol.{section, StaysAllowed};
+    ghost use Rattle.layer_traits.specs.{Protocol.section, Protocol.StaysAllowed, Spins.BeginWith, Spins.Misses};
 
     /// The edits of the sections.
     type Edit: SplitEdit;
@@ -94,6 +94,30 @@ pub trait FairLock<LockProtocol> {
         ensures site { site self.new ≡ site self.old }
         ensures room { room self.old ≤ room self.new + 1 }
         ensures acts { (c : CpuId) → ActsFor self.old c → ActsFor self.new c };
+
+    /// Tries to enter `lock` for `cpu`, if it would miss: once for each of the steps at the front of
+    /// `steps` that are this CPU's, at most. Returns how often it tried: each time it missed, and
+    /// nothing else has changed. A machine may always return 0.
+    ///
+    /// Requires: the holder acts for `cpu`, the lock is there, there is room for as many events as
+    /// there are steps, and `cpu` waits there with `ticket`.
+    #[inline(always)]
+    fn spin(&mut self, cpu: CpuId, lock: LockId, ticket: u64, steps: &[CpuId]) -> usize
+        requires cpu { ActsFor self.old cpu }
+        requires lock { IsSome (opening self.old lock) }
+        requires room { length steps.now ≤ room self.old }
+        requires waits { phase cpu (acts self.old) ≡ Waits lock }
+        requires ticket { ticket ≡ spot_of cpu (acts self.old) % 2 ^ 64 }
+        ensures few { BeginWith cpu result steps.now }
+        ensures still { result ≡ 0 → self.new ≡ self.old }
+        ensures misses { Misses cpu result (acts self.old) (acts self.new) }
+        ensures opening { opening self.new ≡ opening self.old }
+        ensures site { site self.new ≡ site self.old }
+        ensures room { room self.old ≤ room self.new + result }
+        ensures acts { (c : CpuId) → ActsFor self.old c → ActsFor self.new c }
+    {
+        0
+    }
 
     /// Gives `lock` on for `cpu`. `block` goes home.
     ///
@@ -176,6 +200,11 @@ impl<W: Words> FairLock<UsesTickets> for W {
     }
 
     #[inline(always)]
+    fn spin(&mut self, cpu: CpuId, lock: LockId, ticket: u64, steps: &[CpuId]) -> usize {
+        <W as Words>::spin(self, cpu, lock, ticket, steps)
+    }
+
+    #[inline(always)]
     fn leave(
         &mut self,
         cpu: CpuId,
@@ -235,6 +264,11 @@ impl<W: GrantWords> FairLock<UsesGrants> for W {
         ticket: u64,
     ) -> Option<<W::Edit as SplitEdit>::Block> {
         self.peek(cpu, lock, ticket)
+    }
+
+    #[inline(always)]
+    fn spin(&mut self, cpu: CpuId, lock: LockId, ticket: u64, steps: &[CpuId]) -> usize {
+        <W as GrantWords>::spin(self, cpu, lock, ticket, steps)
     }
 
     #[inline(always)]

@@ -105,6 +105,15 @@ impl<M: FairLock<LockProtocol>, LockProtocol> Layer<LockLaw<M::Edit>>
     }
 
     #[inline(always)]
+    fn spin(&self, m: &mut M, steps: &[CpuId]) -> usize {
+        match self.stage {
+            TicketPhase::Waiting { lock, ticket, .. } => m.spin(self.cpu, lock, ticket, steps),
+            TicketPhase::Out => 0,
+            TicketPhase::Holding { .. } => 0,
+        }
+    }
+
+    #[inline(always)]
     fn poll(
         &mut self,
         m: &mut M,

@@ -1,37 +1,31 @@
-use Rattle.std.proofs.Common.{arith, ◌≡◌, ◌∙◌, List, ap, sym, subst, refl, true, false, Option, Some, inl, inr, ◌≤◌, ◌+◌, ◌++◌, None, if◌then◌else◌}
-use Rattle.event_log.specs.declared.ids.{CpuId.CpuId, Tid.Tid}
-use Rattle.layer_traits.specs.{declared.calls.Reply.Reply, declared.call_states.Stage.Stage, declared.call_states.CallState.CallState, BufferLaw.Buffering}
-use Rattle.layer_traits.specs.{BufferLaw.answer_in, BufferLaw.buffer_of, BufferLaw.buffering, BufferLaw.going, BufferLaw.plan_at, BufferLaw.plan_of}
-use Rattle.layer_traits.specs.{BufferLaw.replied, BufferLaw.call_state_of, BufferProtocol.buffer_rules, QLocking.lock_moves, QLocking.lock_rules, Places.home_of}
+use Rattle.std.proofs.Common.{◌≡◌, ◌≢◌, ◌∙◌, List, ap, sym, subst, refl, true, false, Option, Some, inl, inr, ◌⊎◌, ◌≤◌, ◌+◌, None}
+use Rattle.std.proofs.Common.{if◌then◌else◌}
+use Rattle.event_log.specs.{declared.ids.CpuId.CpuId, declared.ids.Tid.Tid}
+use Rattle.layer_traits.specs.{declared.calls.Reply.Reply, declared.call_states.Stage.Stage}
+use Rattle.layer_traits.specs.{declared.call_states.CallState.CallState, BufferLaw.Buffering, BufferLaw.answer_in}
+use Rattle.layer_traits.specs.{BufferLaw.buffer_of, BufferLaw.buffering, BufferLaw.fifo_plan, BufferLaw.going, BufferLaw.plan_of, BufferLaw.replied}
+use Rattle.layer_traits.specs.{BufferLaw.call_state_of, BufferProtocol.buffer_rules, QLocking.lock_moves, QLocking.lock_rules, Places.home_of}
 use Rattle.layer_traits.specs.{Plans.Follows, Plans.Left, Plans.table_of, QueueRules.queue_rules, QueueBlocks.homes_in, QueueBlocks.inner, Queues.buffer_sections}
 use Rattle.thread_blocks.specs.Queues.{same_tid}
-use Rattle.fifo_buffer.specs.{Stances.called_at, SectionPolls.FitsAt, SectionPolls.MayPollSection, SectionPolls.SectionPolled, SectionPolls.Sizes}
-use Rattle.fifo_buffer.specs.{SectionPolls.is_at_once, Laws.OwnedLaws.block_there}
+use Rattle.fifo_buffer.specs.{SectionPolls.FitsAt, SectionPolls.MayPollSection, SectionPolls.SectionPolled, SectionPolls.Sizes, SectionPolls.is_at_once}
+use Rattle.fifo_buffer.specs.{Laws.OwnedLaws.block_there}
 use Rattle.fifo_buffer.proofs.{Chains.follows_for, Chains.one_follows, Chains.two_follows, Finish.called_by, Finish.finish, Finish.others_after}
 use Rattle.fifo_buffer.proofs.{First.first_may, First.goes_called, Recorded.runs_home, Parts.moves_grown, Parts.other_part, SectionPollTaken.SectionPollTaken}
 use Rattle.fifo_buffer.proofs.SectionPollTaken.{taken}
-use Rattle.fifo_buffer.proofs.Twice.{apart_call_state, ended_of, next_going, completes_as, exit_free, marks_of, under_way_by, later_call, later_effect}
-use Rattle.fifo_buffer.proofs.Twice.{next_may, other_call_state, runs_by, sizes_of, why, why_slept}
-use Rattle.fifo_buffer.proofs.fifo.FifoCallLayerBufferLaw.poll_kind.{Given.Over, Goals.Start, Goals.After-poll_section-done}
-use Rattle.fifo_buffer.proofs.fifo.FifoCallLayerBufferLaw.poll_kind.Goals.{After-poll_next-arg-then-at_once-1, After-poll_next, After-complete}
+use Rattle.fifo_buffer.proofs.Twice.{MarksOf, apart_call_state, ended_of, next_going, completes_as, exit_free, marks_of, later_effect, next_may}
+use Rattle.fifo_buffer.proofs.Twice.{other_call_state, sizes_of, why, why_slept}
+use Rattle.fifo_buffer.proofs.fifo.FifoCallLayerBufferLaw.poll_kind.{Given.Over, Goals.Start, Goals.After-poll_section-done, Goals.After-complete}
+use Rattle.fifo_buffer.proofs.fifo.FifoCallLayerBufferLaw.poll_kind.Goals.{else-first-via-then-first+then-done+else-at_once}
+use Rattle.fifo_buffer.proofs.fifo.FifoCallLayerBufferLaw.poll_kind.Goals.{else-first-via-then-first+else-done, else-first-via-else-first}
 use Rattle.fifo_buffer.proofs.fifo.FifoCallLayerBufferLaw.poll_kind.Goals as goal
 
 pub poll_section-done-requires-clause-buffer : goal.poll_section-done-requires-clause-buffer
 poll_section-done-requires-clause-buffer g c =
-    block_there (g.C.ThreadLayer.opening c.args.m.now) c.requires.fits.1.boots (buffer_of c.args.call.now) c.requires.there
-
-pub poll_next-requires-clause-buffer : goal.poll_next-requires-clause-buffer
-poll_next-requires-clause-buffer g c =
-    rw c.poll_section-done.ensures.framed.stays.opening (block_there (g.C.ThreadLayer.opening c.args.m.now) c.requires.fits.1.boots
-    (buffer_of c.args.call.now) c.requires.there)
+    rw c.sections.invariant.still (block_there (g.C.ThreadLayer.opening c.args.m.now) c.requires.fits.1.boots (buffer_of c.args.call.now) c.requires.there)
 
 -- what is known when the poll begins
 module _ (g : Over) (c : Start g) where
   open g.C.ThreadLayer use {cpu_of, opening, own, seen, under_way}
-
-  -- the call state with which the call goes on
-  abbrev begins : CallState
-  begins = going (call_state_of c.args.self.now.call_states.call_states c.args.t) c.args.call.now
 
   home : home_of (homes_in (opening c.args.m.now)) c.args.t ≡ Some (cpu_of c.args.self.now.lower)
   home =
@@ -41,347 +35,219 @@ module _ (g : Over) (c : Start g) where
       runs_home (opening m) (cpu_of p) (seen m) (own p).lock.sleep.threads c.args.t (law.moves_legal m (cpu_of p) (law.own_cpu p m c.requires.fits.0))
       (law.stands p m c.requires.fits.0).stands c.requires.runs
 
-  -- the first section may be polled, and the call states of the other threads fit
-  first : MayPollSection (inner (opening c.args.m.now)) (buffer_sections (seen c.args.m.now)) c.args.t c.args.call.now begins (own c.args.self.now.lower)
-      (under_way c.args.self.now.lower)
-      × ((u : Tid) → home_of (homes_in (opening c.args.m.now)) u ≡ Some (cpu_of c.args.self.now.lower) → same_tid c.args.t u ≡ false
-      → FitsAt (inner (opening c.args.m.now)) (buffer_sections (seen c.args.m.now)) (own c.args.self.now.lower) c.args.self.now.call_states.call_states u)
-  first =
-      let m = c.args.m.now in
-      let p = c.args.self.now in
-      first_may (homes_in (opening m)) (cpu_of p.lower) (inner (opening m)) (buffer_sections (seen m)) (own p.lower) p.call_states.call_states
-      (under_way p.lower) p.calling c.args.t c.args.call.now home c.requires.fits.1.calls c.requires.runs c.requires.hand c.requires.same c.requires.goes_on
-
-pub poll_section-done-requires-clause-may : goal.poll_section-done-requires-clause-may
-poll_section-done-requires-clause-may g c = (first g (goal.at.poll_section-done-requires-clause-may g c).Start).0
-
--- what the first section did
-module _ (g : Over) (c : After-poll_section-done g) where
-  open g.C.ThreadLayer use {cpu_of, opening, own, seen}
-
-  abbrev start : Start g
-  start = (goal.at.poll_section-done-requires-clause-may g c.before).Start
-
-  abbrev section1 : SectionPollTaken
-  section1 = taken c.poll_section-done.ensures.section_polled
-
-  same1 : (u : Tid) → same_tid c.args.t u ≡ false
-      → call_state_of c.poll_section-done.new.self.call_states.call_states u ≡ call_state_of c.args.self.now.call_states.call_states u
-  same1 u other =
-      let now = c.poll_section-done.new.self.call_states.call_states in
-      other_call_state c.args.self.now.call_states.call_states now c.args.t u (call_state_of now c.args.t) c.poll_section-done.ensures.call_states other
-
-  sizes1 : Sizes (own c.poll_section-done.new.self.lower) c.poll_section-done.new.self.call_states.call_states
-  sizes1 = sizes_of section1 c.args.self.now.call_states.call_states c.poll_section-done.new.self.call_states.call_states
-      c.poll_section-done.ensures.call_states c.requires.fits.1.sizes
-
-  others1 : (u : Tid) → home_of (homes_in (opening c.args.m.now)) u ≡ Some (cpu_of c.args.self.now.lower) → same_tid c.args.t u ≡ false
-      → FitsAt (inner (opening c.args.m.now)) (buffer_sections (seen c.poll_section-done.new.m)) (own c.poll_section-done.new.self.lower)
-      c.poll_section-done.new.self.call_states.call_states u
-  others1 = others_after section1 (home g start) (first g start).0.called c.args.self.now.call_states.call_states
-      c.poll_section-done.new.self.call_states.call_states refl same1 (first g start).1
-
--- a second section follows in the same poll
-module _ (g : Over) (c : After-poll_next-arg-then-at_once-1 g) where
-  open g.C.ThreadLayer use {own, seen, opening, under_way}
-
-  abbrev polled : After-poll_section-done g
-  polled = (goal.at.poll_next-requires-clause-may g c).After-poll_section-done
-
-  -- the call state that the first section left
-  abbrev later1 : CallState
-  later1 = call_state_of c.poll_section-done.new.self.call_states.call_states c.args.t
-
-  called : (begins g (start g polled)).call ≡ Some c.args.call.now
-  called = (first g (start g polled)).0.called
-
-  at_once : is_at_once (begins g (start g polled)).stage c.at_once.result ≡ true
-  at_once = (ap (λ (s : Stage). is_at_once s c.at_once.result) (sym c.next_stage-stage.ensures) ∙ sym c.answers_at_once-at_once.ensures) ∙ c.if-at_once.true
-
-  next_is : going later1 c.args.call.now ≡ later1
-  next_is = next_going (section1 g polled) c.at_once.result c.if-done.true at_once called
-
-  may2 : MayPollSection (inner (opening c.args.m.now)) (buffer_sections (seen c.poll_section-done.new.m)) c.args.t c.args.call.now later1
-      (own c.poll_section-done.new.self.lower) (under_way c.poll_section-done.new.self.lower)
-  may2 = next_may (section1 g polled) c.at_once.result c.if-done.true at_once called
-
-  -- so the first did nothing to the machine
-  still : c.poll_section-done.new.m ≡ c.args.m.now
-  still = elim (why (section1 g polled) c.at_once.result c.if-done.true at_once called c.requires.runs c.at_once.ensures)
-      [ inl some ↦ c.poll_section-done.ensures.woken some | inr some ↦ c.poll_section-done.ensures.handed some ]
-
-pub poll_next-requires-clause-may : goal.poll_next-requires-clause-may
-poll_next-requires-clause-may g c =
-    let C = g.C.ThreadLayer in
-    let one = c.poll_section-done in
-    rw one.ensures.framed.stays.opening
-    (subst (λ (x : CallState). MayPollSection (inner (C.opening c.args.m.now)) (buffer_sections (C.seen one.new.m)) c.args.t c.args.call.now x
-    (C.own one.new.self.lower) (C.under_way one.new.self.lower)) (sym (next_is g c)) (may2 g c))
-
--- what the second section did
-module _ (g : Over) (c : After-poll_next g) where
-  open g.C.ThreadLayer use {ActsFor, cpu_of, opening, own, seen, under_way}
-
-  abbrev states2 : List CallState
-  states2 = c.poll_next.new.self.call_states.call_states
-
-  polled2 : SectionPolled (homes_in (opening c.args.m.now)) (λ d. ActsFor c.poll_section-done.new.m d) (inner (opening c.args.m.now))
-      (cpu_of c.args.self.now.lower) c.args.t c.args.call.now (going (later1 g c.before) c.args.call.now) (seen c.poll_section-done.new.m) (seen c.poll_next.new.m)
-      (own c.poll_section-done.new.self.lower) (own c.poll_next.new.self.lower) (under_way c.poll_next.new.self.lower) c.poll_next.ensures.section_polled.0
-      (call_state_of states2 c.args.t)
-  polled2 = rw (c.poll_section-done.ensures.framed.stays.opening, c.poll_section-done.ensures.framed.cpu) at c.poll_next.ensures.section_polled.1
-
-  called2 : (going (later1 g c.before) c.args.call.now).call ≡ Some c.args.call.now
-  called2 = ap (λ (x : CallState). x.call) (next_is g c.before)
-      ∙ later_call (section1 g (polled g c.before)) c.at_once.result c.if-done.true (at_once g c.before) (called g c.before)
-
-  same2 : (u : Tid) → same_tid c.args.t u ≡ false → call_state_of states2 u ≡ call_state_of c.poll_section-done.new.self.call_states.call_states u
-  same2 u other = other_call_state c.poll_section-done.new.self.call_states.call_states states2 c.args.t u (call_state_of states2 c.args.t)
-      c.poll_next.ensures.call_states other
-
-  abbrev answer2 : Option Reply
-  answer2 = answer_in states2 c.args.t c.poll_next.result
-
--- the call is not yet over, or it answers by its last section
-module _ (g : Over) (c : After-complete g) where
-  abbrev last : After-poll_section-done g
-  last = (goal.at.returns-clause-framed g c).After-poll_section-done
-
-  abbrev answer : Option Reply
-  answer = answer_in c.poll_section-done.new.self.call_states.call_states c.args.t c.complete.result
-
-  abbrev stage : Stage
-  stage = (begins g (start g last)).stage
-
-  replies : answer ≡ (if c.poll_section-done.result then replied c.args.call.now (begins g (start g last)) stage else None)
-  replies = completes_as (section1 g last) c.next_stage-stage.result c.next_stage-stage.ensures answer c.complete.ensures.answer
-
--- the buffer is there
-pub returns-clause-nothing : goal.returns-clause-nothing
-returns-clause-nothing g c none =
-    let there = c.requires.there in absurd (omega (arith, none, there))
-
-pub returns-then-at_once-clause-nothing : goal.returns-then-at_once-clause-nothing
-returns-then-at_once-clause-nothing g c none =
-    let there = c.requires.there in absurd (omega (arith, none, there))
-
-pub returns-clause-runs : goal.returns-clause-runs
-returns-clause-runs g c there =
-    rw (c.complete.ensures.lower, c.complete.ensures.call_states) (runs_by (section1 g (last g c)) (answer g c) (replies g c))
-
-pub returns-clause-under_way : goal.returns-clause-under_way
-returns-clause-under_way g c there =
-    rw (c.complete.ensures.calling, c.complete.ensures.lower, c.complete.ensures.call_states)
-    (under_way_by (section1 g (last g c)) (answer g c) (replies g c))
-
-pub returns-clause-moves : goal.returns-clause-moves
-returns-clause-moves g c =
+pub sections-init : goal.sections-init
+sections-init g c =
     let C = g.C.ThreadLayer in
     let m = c.args.m.now in
-    let one = c.poll_section-done in
-    let section_polled = one.ensures.section_polled in
-    rw one.ensures.framed.stays.opening (moves_grown (C.opening m) (λ d. C.ActsFor m d) _ (C.cpu_of c.args.self.now.lower) section_polled.mine
-    section_polled.others (C.seen m) (C.seen one.new.m) (λ d both. both.0) section_polled.foreign section_polled.own_events section_polled.is)
+    let p = c.args.self.now in
+    let first = first_may (homes_in (C.opening m)) (C.cpu_of p.lower) (inner (C.opening m)) (buffer_sections (C.seen m)) (C.own p.lower)
+    p.call_states.call_states (C.under_way p.lower) p.calling c.args.t c.args.call.now (home g (goal.at.sections-init g c).Start)
+    c.requires.fits.1.calls c.requires.runs c.requires.hand c.requires.same c.requires.goes_on in
+    record {
+      still = refl;
+      fits = c.requires.fits.0;
+      cpu = refl;
+      on = record {
+        may = first.0;
+        others = first.1;
+        sizes = c.requires.fits.1.sizes;
+        ended = refl;
+        effect = refl;
+        apart = λ u other. refl;
+      };
+      begins = refl {a = buffering (C.own p.lower) p.call_states.call_states};
+      follows = tt;
+    }
 
-pub returns-clause-framed : goal.returns-clause-framed
-returns-clause-framed g c =
+-- what one section did
+module _ (g : Over) (c : After-poll_section-done g) where
+  open g.C.ThreadLayer use {ActsFor, IsStepwise, acts, cpu_of, opening, own, seen, under_way}
+
+  abbrev states : List CallState
+  states = c.sections.self.call_states.call_states
+
+  abbrev states1 : List CallState
+  states1 = c.poll_section-done.new.self.call_states.call_states
+
+  -- the call state with which the call went on
+  abbrev goes : CallState
+  goes = going (call_state_of states c.args.t) c.args.call.now
+
+  polled : SectionPolled (homes_in (opening c.args.m.now)) (λ d. ActsFor c.args.m.now d) (inner (opening c.args.m.now)) (cpu_of c.args.self.now.lower)
+      c.args.t c.args.call.now goes (seen c.args.m.now) (seen c.poll_section-done.new.m) (own c.sections.self.lower)
+      (own c.poll_section-done.new.self.lower) (under_way c.poll_section-done.new.self.lower) c.poll_section-done.result (call_state_of states1 c.args.t)
+  polled = rw (c.sections.invariant.still, c.sections.invariant.cpu) at c.poll_section-done.ensures.section_polled
+
+  abbrev section : SectionPollTaken
+  section = taken polled
+
+  followed : IsStepwise → Follows (λ d. ActsFor c.args.m.now d) (table_of (queue_rules (lock_rules buffer_rules) (lock_moves buffer_rules)))
+      (opening c.args.m.now) (cpu_of c.args.self.now.lower)
+      (plan_of (homes_in (opening c.args.m.now)) (cpu_of c.args.self.now.lower) c.args.t c.args.call.now goes.stage goes
+      (buffering (own c.sections.self.lower) states)) (acts c.args.m.now) (acts c.poll_section-done.new.m)
+      (record {
+        own = buffering (own c.poll_section-done.new.self.lower) states1;
+        answer = if c.poll_section-done.result then replied c.args.call.now goes goes.stage else None;
+      })
+  followed stepwise = rw (c.sections.invariant.still, c.sections.invariant.cpu) at (c.poll_section-done.ensures.follows stepwise)
+
+  opening1 : opening c.poll_section-done.new.m ≡ opening c.args.m.now
+  opening1 = c.poll_section-done.ensures.framed.stays.opening ∙ ap opening c.sections.invariant.still
+
+  cpu1 : cpu_of c.poll_section-done.new.self.lower ≡ cpu_of c.args.self.now.lower
+  cpu1 = c.poll_section-done.ensures.framed.cpu ∙ c.sections.invariant.cpu
+
+  acts1 : (d : CpuId) → ActsFor c.args.m.now d → ActsFor c.poll_section-done.new.m d
+  acts1 d acts = c.poll_section-done.ensures.framed.stays.acts d (subst (λ x. ActsFor x d) (sym c.sections.invariant.still) acts)
+
+  home1 : home_of (homes_in (opening c.args.m.now)) c.args.t ≡ Some (cpu_of c.args.self.now.lower)
+  home1 = home g (goal.at.poll_section-done-requires-clause-buffer g c.before).Start
+
+  same1 : (u : Tid) → same_tid c.args.t u ≡ false → call_state_of states1 u ≡ call_state_of states u
+  same1 u other = other_call_state states states1 c.args.t u (call_state_of states1 c.args.t) c.poll_section-done.ensures.call_states other
+
+  apart1 : (u : Tid) → u.0 ≢ c.args.t.0 → call_state_of states1 u ≡ call_state_of c.args.self.now.call_states.call_states u
+  apart1 u other = apart_call_state states states1 c.args.t u (call_state_of states1 c.args.t) c.poll_section-done.ensures.call_states other
+      ∙ c.sections.invariant.on.apart u other
+
+  sizes1 : Sizes (own c.poll_section-done.new.self.lower) states1
+  sizes1 = sizes_of section states states1 c.poll_section-done.ensures.call_states c.sections.invariant.on.sizes
+
+  marks : MarksOf c.args.t goes.stage (own c.sections.self.lower)
+  marks = marks_of (inner (opening c.args.m.now)) (buffer_sections (seen c.args.m.now)) c.args.t c.args.call.now goes (own c.sections.self.lower)
+      (under_way c.sections.self.lower) c.sections.invariant.on.may.goes
+
+  is_at_once_at : is_at_once goes.stage c.at_once.result ≡ c.answers_at_once-at_once.result
+  is_at_once_at = ap (λ (s : Stage). is_at_once s c.at_once.result) (sym c.next_stage-stage.ensures) ∙ sym c.answers_at_once-at_once.ensures
+
+-- a section that was over without an action is followed by the next one
+pub sections-preserved : goal.sections-preserved
+sections-preserved g c =
+    let C = g.C.ThreadLayer in
+    let at = (goal.at.sections-preserved g c).After-poll_section-done in
+    let m = c.args.m.now in
+    let cpu = C.cpu_of c.args.self.now.lower in
+    let t = c.args.t in
+    let call = c.args.call.now in
+    let homes = homes_in (C.opening m) in
+    let O = inner (C.opening m) in
+    let before = c.sections.invariant in
+    let one = c.poll_section-done in
+    let p1 = one.new.self.lower in
+    let states1 = states1 g at in
+    let later = call_state_of states1 t in
+    let at_once = is_at_once_at g at ∙ c.if-at_once.true in
+    let called = before.on.may.called in
+    let next = next_going (section g at) c.at_once.result c.if-done.true at_once called in
+    let still : one.new.m ≡ m = elim (why (section g at) c.at_once.result c.if-done.true at_once called before.on.may.current c.at_once.ensures)
+    [ inl some ↦ one.ensures.woken some | inr some ↦ one.ensures.handed some ] ∙ before.still in
+    record {
+      still = still;
+      fits = one.ensures.framed.fits;
+      cpu = cpu1 g at;
+      on = record {
+        may = subst (λ x. MayPollSection O (buffer_sections (C.seen x)) t call (going later call) (C.own p1) (C.under_way p1)) still
+            (subst (λ (x : CallState). MayPollSection O (buffer_sections (C.seen one.new.m)) t call x (C.own p1) (C.under_way p1)) (sym next)
+            (next_may (section g at) c.at_once.result c.if-done.true at_once called));
+        others = subst (λ x. (u : Tid) → home_of homes u ≡ Some cpu → same_tid t u ≡ false
+            → FitsAt O (buffer_sections (C.seen x)) (C.own p1) states1 u) still
+            (others_after (section g at) (home1 g at) called (states g at) states1 refl (same1 g at) before.on.others);
+        sizes = sizes1 g at;
+        ended = (polled g at).ended ∙ before.on.ended;
+        effect = ap (λ (x : CallState). x.effect) next ∙ later_effect (section g at) c.at_once.result c.if-done.true at_once called ∙ before.on.effect;
+        apart = apart1 g at;
+      };
+      begins = tt;
+      follows = λ stepwise new got second.
+          let Acts0 : CpuId → Type 0 = λ d. C.ActsFor m d in
+          let table = table_of (queue_rules (lock_rules buffer_rules) (lock_moves buffer_rules)) in
+          let end = ended_of (section g at) c.if-done.true in
+          let own1 = buffering (C.own p1) states1 in
+          let second1 = subst (λ (x : CallState). Follows Acts0 table (C.opening m) cpu (plan_of homes cpu t call x.stage x own1) (C.acts m) new got) next
+          second in
+          subst (λ (o : Buffering). Follows Acts0 table (C.opening m) cpu (fifo_plan homes cpu t call o) (C.acts m) new got) (rw c.if-first.true at before.begins)
+          (two_follows Acts0 table (C.opening m) cpu homes t call (goes g at).stage (goes g at) (buffering (C.own c.sections.self.lower) (states g at))
+          (C.acts m) (C.acts one.new.m) new
+          (record { own = own1; answer = if one.result then replied call (goes g at) (goes g at).stage else None }) got c.at_once.result end.recorded_is.0
+          at_once end.recorded_is.1 (λ w. sym ((polled g at).over w) ∙ c.if-done.true)
+          (why_slept t (goes g at).stage (C.own c.sections.self.lower) c.at_once.result at_once (marks g at) before.on.may.current c.at_once.ensures)
+          end.free.0 end.free.1 (followed g at stepwise)
+          (subst (λ log. Follows Acts0 table (C.opening m) cpu (plan_of homes cpu t call later.stage later own1) log new got) (sym (ap C.acts still)) second1));
+    }
+
+-- the poll's last section
+module _ (g : Over) (c : After-complete g) where
+  abbrev last : After-poll_section-done g
+  last = (goal.at.returns-in-sections-clause-framed g c).After-poll_section-done
+
+  abbrev answer : Option Reply
+  answer = answer_in (states1 g last) c.args.t c.complete.result
+
+  replies : answer ≡ (if c.poll_section-done.result then replied c.args.call.now (goes g last) (goes g last).stage else None)
+  replies = completes_as (section g last) c.next_stage-stage.result c.next_stage-stage.ensures answer c.complete.ensures.answer
+
+pub returns-in-sections-clause-moves : goal.returns-in-sections-clause-moves
+returns-in-sections-clause-moves g c =
+    let C = g.C.ThreadLayer in
+    let m = c.args.m.now in
+    let polled = polled g (last g c) in
+    rw (opening1 g (last g c)) (moves_grown (C.opening m) (λ d. C.ActsFor m d) _ (C.cpu_of c.args.self.now.lower) polled.mine polled.others
+    (C.seen m) (C.seen c.poll_section-done.new.m) (λ d both. both.0) polled.foreign polled.own_events polled.is)
+
+pub returns-in-sections-clause-framed : goal.returns-in-sections-clause-framed
+returns-in-sections-clause-framed g c =
     let C = g.C.ThreadLayer in
     let law = g.met.C.ThreadLayer in
     let m = c.args.m.now in
-    let p = c.args.self.now in
-    let cpu = C.cpu_of p.lower in
-    let acts = law.own_cpu p.lower m c.requires.fits.0 in
+    let cpu = C.cpu_of c.args.self.now.lower in
     let at = last g c in
+    let before = c.sections.invariant in
     let one = c.poll_section-done in
-    let m1 = one.new.m in
-    let polled1 = one.ensures.section_polled in
-    let lawful = rw one.ensures.framed.stays.opening at (law.lawful m1 cpu (one.ensures.framed.stays.acts cpu acts)) in
+    let polled = polled g at in
+    let lawful = rw (opening1 g at) at (law.lawful one.new.m cpu (acts1 g at cpu (law.own_cpu c.args.self.now.lower m c.requires.fits.0))) in
     record {
       fits = (
         rw c.complete.ensures.lower one.ensures.framed.fits,
-        rw (c.complete.ensures.lower, c.complete.ensures.call_states, c.complete.ensures.calling, one.ensures.framed.stays.opening, one.ensures.framed.cpu)
+        rw (c.complete.ensures.lower, c.complete.ensures.call_states, c.complete.ensures.calling, (opening1 g at), (cpu1 g at))
             (record {
               boots = c.requires.fits.1.boots;
               sizes = sizes1 g at;
-              calls =
-                  finish (section1 g at) (home g (start g at)) (first g (start g at)).0.called p.call_states.call_states
-                  one.new.self.call_states.call_states refl (same1 g at) (first g (start g at)).1 (answer g c) (replies g c);
+              calls = finish (section g at) (home1 g at) before.on.may.called (states g at) (states1 g at) refl (same1 g at) before.on.others
+                  (answer g c) (replies g c);
             }),
       );
-      cpu = ap C.cpu_of c.complete.ensures.lower ∙ one.ensures.framed.cpu;
+      cpu = ap C.cpu_of c.complete.ensures.lower ∙ cpu1 g at;
       stays = record {
-        opening = one.ensures.framed.stays.opening;
-        site = one.ensures.framed.stays.site;
-        room = one.ensures.framed.stays.room;
-        acts = λ d both. (one.ensures.framed.stays.acts d both.0, rw one.ensures.framed.stays.opening both.1);
+        opening = opening1 g at;
+        site = one.ensures.framed.stays.site ∙ ap C.site before.still;
+        room = subst (λ x. C.room x ≤ C.room one.new.m + 1) before.still one.ensures.framed.stays.room;
+        acts = λ d both. (acts1 g at d both.0, rw (opening1 g at) both.1);
       };
       others = λ q other fits. (
-        one.ensures.framed.others q.lower other fits.0,
-        rw one.ensures.framed.stays.opening
-            (other_part (C.opening m) cpu (C.cpu_of q.lower) other polled1.mine polled1.others (C.seen m) (C.seen m1) polled1.own_events
-            (polled1.foreign (C.cpu_of q.lower) (law.own_cpu q.lower m fits.0)) polled1.is lawful (C.own q.lower) q.call_states.call_states
+        one.ensures.framed.others q.lower (rw before.cpu other) (subst (λ x. C.Fits q.lower x) (sym before.still) fits.0),
+        rw (opening1 g at)
+            (other_part (C.opening m) cpu (C.cpu_of q.lower) other polled.mine polled.others (C.seen m) (C.seen one.new.m) polled.own_events
+            (polled.foreign (C.cpu_of q.lower) (law.own_cpu q.lower m fits.0)) polled.is lawful (C.own q.lower) q.call_states.call_states
             (C.under_way q.lower) q.calling fits.1),
       );
-      holders = λ d other both held. one.ensures.framed.holders d other both.0 held;
+      holders = λ d other both held. subst (λ x. C.MayHold x d) before.still
+          (one.ensures.framed.holders d (rw before.cpu other) (subst (λ x. C.ActsFor x d) (sym before.still) both.0) held);
     }
 
-pub returns-clause-called : goal.returns-clause-called
-returns-clause-called g c there =
+pub returns-in-sections-clause-called : goal.returns-in-sections-clause-called
+returns-in-sections-clause-called g c there =
     let C = g.C.ThreadLayer in
     let m = c.args.m.now in
-    let p = c.args.self.now in
-    let t = c.args.t in
     let at = last g c in
-    let was = start g at in
-    let one = c.poll_section-done in
-    let states1 = one.new.self.call_states.call_states in
-    rw (one.ensures.framed.stays.opening, c.complete.ensures.call_states)
-    (called_by (section1 g at) (home g was) (first g was).0.called p.call_states.call_states states1 refl
-    (same1 g at) _ (λ d both. both.0) p.call_states.call_states
-    refl (λ u other. apart_call_state p.call_states.call_states states1 t u (call_state_of states1 t) one.ensures.call_states other)
-    (goes_called (inner (C.opening m)) (buffer_sections (C.seen m)) t c.args.call.now (begins g was) (C.own p.lower) (C.under_way p.lower)
-    (first g was).0.goes) (answer g c) (replies g c))
+    let before = c.sections.invariant in
+    rw (opening1 g at, c.complete.ensures.call_states)
+    (called_by (section g at) (home1 g at) before.on.may.called (states g at) (states1 g at) refl (same1 g at) _ (λ d both. both.0)
+    c.args.self.now.call_states.call_states before.on.effect (apart1 g at)
+    (goes_called (inner (C.opening m)) (buffer_sections (C.seen m)) c.args.t c.args.call.now (goes g at) (C.own c.sections.self.lower)
+    (C.under_way c.sections.self.lower) before.on.may.goes) (answer g c) (replies g c))
 
-pub returns-then-at_once-clause-runs : goal.returns-then-at_once-clause-runs
-returns-then-at_once-clause-runs g c there =
-    let run = runs_by (taken (polled2 g c)) (answer2 g c) c.poll_next.ensures.section_polled.2 in
-    record { current = run.current; hand = run.hand; ended = run.ended ∙ c.poll_section-done.ensures.section_polled.ended }
-
-pub returns-then-at_once-clause-under_way : goal.returns-then-at_once-clause-under_way
-returns-then-at_once-clause-under_way g c there =
-    rw c.poll_next.ensures.calling (under_way_by (taken (polled2 g c)) (answer2 g c) c.poll_next.ensures.section_polled.2)
-
-pub returns-then-at_once-clause-moves : goal.returns-then-at_once-clause-moves
-returns-then-at_once-clause-moves g c =
-    let C = g.C.ThreadLayer in
-    let m = c.args.m.now in
-    let one = c.poll_section-done in
-    let two = c.poll_next in
-    let polled2 = polled2 g c in
-    let is : C.seen two.new.m ≡ polled2.mine ++ (polled2.others ++ C.seen m) =
-    polled2.is ∙ ap (λ l. polled2.mine ++ (polled2.others ++ l)) (ap C.seen (still g c.before)) in
-    rw (two.ensures.framed.stays.opening, one.ensures.framed.stays.opening)
-    (moves_grown (C.opening m) (λ d. C.ActsFor one.new.m d) _ (C.cpu_of c.args.self.now.lower) polled2.mine polled2.others (C.seen m) (C.seen two.new.m)
-    (λ d both. one.ensures.framed.stays.acts d both.0) polled2.foreign polled2.own_events is)
-
-pub returns-then-at_once-clause-framed : goal.returns-then-at_once-clause-framed
-returns-then-at_once-clause-framed g c =
-    let C = g.C.ThreadLayer in
-    let law = g.met.C.ThreadLayer in
-    let m = c.args.m.now in
-    let p = c.args.self.now in
-    let cpu = C.cpu_of p.lower in
-    let acts = law.own_cpu p.lower m c.requires.fits.0 in
-    let at = polled g c.before in
-    let one = c.poll_section-done in
-    let m1 = one.new.m in
-    let two = c.poll_next in
-    let m2 = two.new.m in
-    let polled1 = one.ensures.section_polled in
-    let polled2 = polled2 g c in
-    let lawful1 = rw one.ensures.framed.stays.opening at (law.lawful m1 cpu (one.ensures.framed.stays.acts cpu acts)) in
-    let lawful2 = rw (two.ensures.framed.stays.opening, one.ensures.framed.stays.opening) at (law.lawful m2 cpu (two.ensures.framed.stays.acts cpu (one.ensures.framed.stays.acts cpu acts))) in
-    record {
-      fits = (
-        two.ensures.framed.fits,
-        rw (
-          two.ensures.calling,
-          two.ensures.framed.stays.opening,
-          two.ensures.framed.cpu,
-          one.ensures.framed.stays.opening,
-          one.ensures.framed.cpu,
-        )
-            (record {
-              boots = c.requires.fits.1.boots;
-              sizes = sizes_of (taken polled2) one.new.self.call_states.call_states (states2 g c) two.ensures.call_states (sizes1 g at);
-              calls =
-                  finish (taken polled2) (home g (start g at)) (called2 g c) one.new.self.call_states.call_states (states2 g c) refl (same2 g c)
-                  (others1 g at) (answer2 g c) two.ensures.section_polled.2;
-            }),
-      );
-      cpu = two.ensures.framed.cpu ∙ one.ensures.framed.cpu;
-      stays = record {
-        opening = two.ensures.framed.stays.opening ∙ one.ensures.framed.stays.opening;
-        site = two.ensures.framed.stays.site ∙ one.ensures.framed.stays.site;
-        room = subst (λ x. C.room x ≤ C.room m2 + 1) (still g c.before) two.ensures.framed.stays.room;
-        acts = λ d both. (two.ensures.framed.stays.acts d (one.ensures.framed.stays.acts d both.0), rw (two.ensures.framed.stays.opening, one.ensures.framed.stays.opening) both.1);
-      };
-      others = λ q other fits.
-          let far = one.ensures.framed.others q.lower other fits.0 in
-          let part1 = other_part (C.opening m) cpu (C.cpu_of q.lower) other polled1.mine polled1.others (C.seen m) (C.seen m1) polled1.own_events
-          (polled1.foreign (C.cpu_of q.lower) (law.own_cpu q.lower m fits.0)) polled1.is lawful1 (C.own q.lower) q.call_states.call_states
-          (C.under_way q.lower) q.calling fits.1 in (
-            two.ensures.framed.others q.lower (rw one.ensures.framed.cpu other) far,
-            rw (two.ensures.framed.stays.opening, one.ensures.framed.stays.opening)
-                (other_part (C.opening m) cpu (C.cpu_of q.lower) other polled2.mine polled2.others (C.seen m1) (C.seen m2) polled2.own_events
-                (polled2.foreign (C.cpu_of q.lower) (law.own_cpu q.lower m1 far)) polled2.is lawful2 (C.own q.lower) q.call_states.call_states
-                (C.under_way q.lower) q.calling part1),
-          );
-      holders = λ d other both held. one.ensures.framed.holders d other both.0 (two.ensures.framed.holders d (rw one.ensures.framed.cpu other) (one.ensures.framed.stays.acts d both.0) held);
-    }
-
-pub returns-then-at_once-clause-called : goal.returns-then-at_once-clause-called
-returns-then-at_once-clause-called g c there =
-    let C = g.C.ThreadLayer in
-    let m = c.args.m.now in
-    let p = c.args.self.now in
-    let t = c.args.t in
-    let call = c.args.call.now in
-    let call_states = p.call_states.call_states in
-    let b = c.before in
-    let at = polled g b in
-    let one = c.poll_section-done in
-    let own1 = C.own one.new.self.lower in
-    let states1 = one.new.self.call_states.call_states in
-    let later1 = later1 g b in
-    let two = c.poll_next in
-    let states2 = states2 g c in
-    let later2 = call_state_of states2 t in
-    let polled2m = subst (λ log. SectionPolled (homes_in (C.opening m)) (λ d. C.ActsFor one.new.m d) (inner (C.opening m)) (C.cpu_of p.lower) t call
-    (going later1 call) log (C.seen two.new.m) own1 (C.own two.new.self.lower) (C.under_way two.new.self.lower) two.ensures.section_polled.0 later2)
-    (ap C.seen (still g b)) (polled2 g c) in
-    let effect1 = later_effect (section1 g at) c.at_once.result c.if-done.true (at_once g b) (called g b) in
-    let in_call2 = goes_called (inner (C.opening m)) (buffer_sections (C.seen one.new.m)) t call later1 own1 (C.under_way one.new.self.lower)
-    (may2 g b).goes in
-    rw (two.ensures.framed.stays.opening, one.ensures.framed.stays.opening)
-    (called_by (taken polled2m) (home g (start g at)) (called2 g c) states1 states2 refl
-    (same2 g c) _ (λ d both. one.ensures.framed.stays.acts d both.0) call_states
-    (ap (λ (x : CallState). x.effect) (next_is g b) ∙ effect1)
-    (λ u other. apart_call_state states1 states2 t u later2 two.ensures.call_states other
-    ∙ apart_call_state call_states states1 t u later1 one.ensures.call_states other)
-    (subst (λ (x : CallState). called_at x.stage ≡ true) (sym (next_is g b)) in_call2) (answer2 g c) two.ensures.section_polled.2)
-
-pub returns-clause-follows : goal.returns-clause-follows
-returns-clause-follows g c stepwise =
-    let C = g.C.ThreadLayer in
-    let m = c.args.m.now in
-    let p = c.args.self.now in
-    let cpu = C.cpu_of p.lower in
-    let t = c.args.t in
-    let call = c.args.call.now in
-    let was = start g (last g c) in
-    let call_state = begins g was in
-    let goes = (first g was).0.goes in
-    let one = c.poll_section-done in
-    let Acts0 : CpuId → Type 0 = λ d. C.ActsFor m d in
-    let table = table_of (queue_rules (lock_rules buffer_rules) (lock_moves buffer_rules)) in
-    let own = buffering (C.own p.lower) p.call_states.call_states in
-    let in_call = goes_called (inner (C.opening m)) (buffer_sections (C.seen m)) t call call_state (C.own p.lower) (C.under_way p.lower) goes in
-    let marks = marks_of (inner (C.opening m)) (buffer_sections (C.seen m)) t call call_state (C.own p.lower) (C.under_way p.lower) goes in
-    let free = exit_free (section1 g (last g c)) c.at_once.result marks
-    (elim c.else-done.either [
-      | inl both ↦ inl
-          (both.0, (ap (λ (s : Stage). is_at_once s c.at_once.result) (sym c.next_stage-stage.ensures) ∙ sym c.answers_at_once-at_once.ensures) ∙ both.1)
-      | inr none ↦ inr none
-    ]) c.requires.runs c.at_once.ensures in
-    let done = one_follows Acts0 table (C.opening m) cpu (homes_in (C.opening m)) t call call_state.stage call_state own (C.acts m) (C.acts one.new.m) _
-    in_call free.0 free.1 (one.ensures.follows stepwise) in
-    rw (c.complete.ensures.lower, c.complete.ensures.call_states, (replies g c))
-    (follows_for Acts0 _ (λ d both. both.0) table (C.opening m) cpu (plan_at (homes_in (C.opening m)) cpu t call call_state.stage call_state own)
-    (C.acts m) (C.acts one.new.m) _ done)
-
-pub returns-then-at_once-clause-follows : goal.returns-then-at_once-clause-follows
-returns-then-at_once-clause-follows g c stepwise =
+pub returns-in-sections-clause-follows : goal.returns-in-sections-clause-follows
+returns-in-sections-clause-follows g c stepwise =
     let C = g.C.ThreadLayer in
     let m = c.args.m.now in
     let p = c.args.self.now in
@@ -389,37 +255,31 @@ returns-then-at_once-clause-follows g c stepwise =
     let t = c.args.t in
     let call = c.args.call.now in
     let homes = homes_in (C.opening m) in
-    let b = c.before in
-    let at = polled g b in
-    let was = start g at in
-    let call_state = begins g was in
-    let one = c.poll_section-done in
-    let m1 = one.new.m in
-    let later1 = later1 g b in
+    let at = last g c in
+    let before = c.sections.invariant in
+    let m1 = c.poll_section-done.new.m in
     let Acts0 : CpuId → Type 0 = λ d. C.ActsFor m d in
     let table = table_of (queue_rules (lock_rules buffer_rules) (lock_moves buffer_rules)) in
-    let marks = marks_of (inner (C.opening m)) (buffer_sections (C.seen m)) t call call_state (C.own p.lower) (C.under_way p.lower) (first g was).0.goes in
-    let two = c.poll_next in
-    let m2 = two.new.m in
-    let end = ended_of (section1 g at) c.if-done.true in
-    let own0 = buffering (C.own p.lower) p.call_states.call_states in
-    let own1 = buffering (C.own one.new.self.lower) one.new.self.call_states.call_states in
-    let got1 : Left Buffering Reply = record { own = own1; answer = if one.result then replied call call_state call_state.stage else None } in
-    let next = going later1 call in
-    let cpu1 = C.cpu_of one.new.self.lower in
-    let got2n : Left Buffering Reply = record { own = buffering (C.own two.new.self.lower) (states2 g c); answer = answer2 g c } in
-    let second = follows_for (λ d. C.ActsFor m1 d) Acts0 (λ d a. one.ensures.framed.stays.acts d a) table (C.opening m1) cpu1
-    (plan_of (homes_in (C.opening m1)) cpu1 t call next.stage next own1) (C.acts m1) (C.acts m2) got2n (two.ensures.follows stepwise) in
-    let second1 = subst (λ (x : CallState). Follows Acts0 table (C.opening m1) cpu1
-    (plan_of (homes_in (C.opening m1)) cpu1 t call x.stage x own1) (C.acts m1) (C.acts m2) got2n) (next_is g b) second in
-    let second0 = subst (λ o. Follows Acts0 table o cpu (plan_of (homes_in o) cpu t call later1.stage later1 own1) (C.acts m1)
-    (C.acts m2) got2n) one.ensures.framed.stays.opening
-    (subst (λ d. Follows Acts0 table (C.opening m1) d (plan_of (homes_in (C.opening m1)) d t call later1.stage later1 own1)
-    (C.acts m1) (C.acts m2) got2n) one.ensures.framed.cpu second1) in
-    let both = two_follows Acts0 table (C.opening m) cpu homes t call call_state.stage call_state own0 (C.acts m) (C.acts m1)
-    (C.acts m2) got1 got2n c.at_once.result end.recorded_is.0
-    (at_once g b) end.recorded_is.1 (λ w. sym (one.ensures.section_polled.over w) ∙ c.if-done.true)
-    (why_slept t call_state.stage (C.own p.lower) c.at_once.result (at_once g b) marks c.requires.runs c.at_once.ensures)
-    end.free.0 end.free.1 (one.ensures.follows stepwise) second0 in
-    follows_for Acts0 _ (λ d both. both.0) table (C.opening m) cpu (plan_at homes cpu t call call_state.stage call_state own0) (C.acts m)
-    (C.acts m2) got2n both
+    let got : Left Buffering Reply = record {
+      own = buffering (C.own c.poll_section-done.new.self.lower) (states1 g at);
+      answer = if c.poll_section-done.result then replied call (goes g at) (goes g at).stage else None;
+    } in
+    let in_call = goes_called (inner (C.opening m)) (buffer_sections (C.seen m)) t call (goes g at) (C.own c.sections.self.lower)
+    (C.under_way c.sections.self.lower) before.on.may.goes in
+    let alone : c.sections.first ≡ true
+    → ((c.poll_section-done.result ≡ true) × (is_at_once (goes g at).stage c.at_once.result ≡ false)) ⊎ (c.poll_section-done.result ≡ false)
+    → Follows Acts0 table (C.opening m) cpu (fifo_plan homes cpu t call (buffering (C.own p.lower) p.call_states.call_states)) (C.acts m) (C.acts m1) got
+    = λ is exits.
+    let free = exit_free (section g at) c.at_once.result (marks g at) exits before.on.may.current c.at_once.ensures in
+    subst (λ (o : Buffering). Follows Acts0 table (C.opening m) cpu (fifo_plan homes cpu t call o) (C.acts m) (C.acts m1) got) (rw is at before.begins)
+    (one_follows Acts0 table (C.opening m) cpu homes t call (goes g at).stage (goes g at)
+    (buffering (C.own c.sections.self.lower) (states g at)) (C.acts m) (C.acts m1) got in_call free.0 free.1 (followed g at stepwise)) in
+    let done : Follows Acts0 table (C.opening m) cpu (fifo_plan homes cpu t call (buffering (C.own p.lower) p.call_states.call_states)) (C.acts m)
+    (C.acts m1) got = elim c.else-first.branch [
+      | else-first-via-then-first+then-done+else-at_once w ↦ alone w.if-first.true (inl (w.if-done.true, is_at_once_at g at ∙ w.if-at_once.false))
+      | else-first-via-then-first+else-done w ↦ alone w.if-first.true (inr w.if-done.false)
+      | else-first-via-else-first w ↦ (rw w.if-first.false at before.follows) stepwise (C.acts m1) got (followed g at stepwise)
+    ] in
+    rw (c.complete.ensures.lower, c.complete.ensures.call_states, (replies g c))
+    (follows_for Acts0 _ (λ d both. both.0) table (C.opening m) cpu
+    (fifo_plan homes cpu t call (buffering (C.own p.lower) p.call_states.call_states)) (C.acts m) (C.acts m1) got done)

@@ -1,0 +1,35 @@
+use Rattle.std.proofs.Common.{◌≡◌, List, if◌then◌else◌}
+use Rattle.event_log.specs.Actions.{Action}
+use Rattle.layer_traits.specs.BufferLaw.{Buffering, buffering, call_state_of, fifo_plan, going, plan_of}
+use Rattle.layer_traits.specs.{BufferProtocol.buffer_rules, Conditions.CvCall, declared.buffer_edits.BufferEdit.BufferEdit, declared.calls.Reply.Reply}
+use Rattle.layer_traits.specs.{declared.queue_edits.QueueEdit.QueueEdit, Plans.Follows, Plans.Left, Plans.table_of, QLocking.lock_moves, QLocking.lock_rules}
+use Rattle.layer_traits.specs.{QueueBlocks.homes_in, QueueBlocks.inner, QueueRules.queue_rules, Queues.buffer_sections}
+use Rattle.fifo_buffer.proofs.Goings.{AfterFirst, AtFirst, IsGoing}
+use Rattle.fifo_buffer.proofs.fifo.FifoCallLayerBufferLaw.poll_kind.Given as goal
+
+-- a section after which the poll goes on does nothing to the machine, and what the next section follows of its own plan is the poll's plan
+abbrev pub invariant-sections : goal.invariant-sections
+invariant-sections g l = record {
+  still : l.m ≡ l.initial.m;
+  fits : g.C.ThreadLayer.Fits l.self.lower l.m;
+  cpu : g.C.ThreadLayer.cpu_of l.self.lower ≡ g.C.ThreadLayer.cpu_of l.initial.self.lower;
+  on : IsGoing (homes_in (g.C.ThreadLayer.opening l.initial.m)) (inner (g.C.ThreadLayer.opening l.initial.m))
+      (buffer_sections (g.C.ThreadLayer.seen l.initial.m)) (g.C.ThreadLayer.cpu_of l.initial.self.lower) l.t l.call
+      (g.C.ThreadLayer.own l.initial.self.lower) (g.C.ThreadLayer.own l.self.lower) l.initial.self.call_states.call_states l.self.call_states.call_states
+      (g.C.ThreadLayer.under_way l.self.lower);
+  begins : AtFirst l.first (buffering (g.C.ThreadLayer.own l.self.lower) l.self.call_states.call_states
+      ≡ buffering (g.C.ThreadLayer.own l.initial.self.lower) l.initial.self.call_states.call_states);
+  follows : AfterFirst l.first (g.C.ThreadLayer.IsStepwise → (new : List (Action (QueueEdit (CvCall BufferEdit)))) (got : Left Buffering Reply)
+      → Follows (g.C.ThreadLayer.ActsFor l.initial.m) (table_of (queue_rules (lock_rules buffer_rules) (lock_moves buffer_rules)))
+      (g.C.ThreadLayer.opening l.initial.m) (g.C.ThreadLayer.cpu_of l.initial.self.lower)
+      (plan_of (homes_in (g.C.ThreadLayer.opening l.initial.m)) (g.C.ThreadLayer.cpu_of l.initial.self.lower) l.t l.call
+      (going (call_state_of l.self.call_states.call_states l.t) l.call).stage (going (call_state_of l.self.call_states.call_states l.t) l.call)
+      (buffering (g.C.ThreadLayer.own l.self.lower) l.self.call_states.call_states)) (g.C.ThreadLayer.acts l.initial.m) new got
+      → Follows (g.C.ThreadLayer.ActsFor l.initial.m) (table_of (queue_rules (lock_rules buffer_rules) (lock_moves buffer_rules)))
+      (g.C.ThreadLayer.opening l.initial.m) (g.C.ThreadLayer.cpu_of l.initial.self.lower)
+      (fifo_plan (homes_in (g.C.ThreadLayer.opening l.initial.m)) (g.C.ThreadLayer.cpu_of l.initial.self.lower) l.t l.call
+      (buffering (g.C.ThreadLayer.own l.initial.self.lower) l.initial.self.call_states.call_states)) (g.C.ThreadLayer.acts l.initial.m) new got);
+}
+
+abbrev pub decreases-sections : goal.decreases-sections
+decreases-sections g l = if l.first then 1 else 0

@@ -1,0 +1,50 @@
+use Rattle.std.proofs.Common.{◌≡◌, [], ◌-◌, ◌<◌, IsSome}
+use Rattle.event_log.specs.declared.ids.LockId.TheVariants.{Buffer, Pending}
+use Rattle.layer_traits.specs.{declared.call_layers.CallLayer.Ghosts, BufferEffects.effects_in, BufferEffects.opening_locks, BufferLaw.buffering, BufferLaw.fifo_plan}
+use Rattle.layer_traits.specs.{BufferProtocol.buffer_monitor_rules, Conditions.cv_rules, QLockLaw.lock_kernel, QLocking.lock_after, QLocking.wait_list_in}
+use Rattle.layer_traits.specs.{QueueBlocks.homes_in, QueueBlocks.inner, Queues.buffer_sections, Queues.moves_in}
+use Rattle.layer_traits.proofs.PollRunLemmas.{SoFar}
+use Rattle.fifo_buffer.specs.{declared.fifo.Fifo.Fifo, FifoFits.BootsSo, FifoFits.PartFits, FifoFits.caps_in, SectionPolls.under_way_at}
+use Rattle.fifo_buffer.proofs.fifo.FifoCallLayerBufferLaw.poll_on.Given.{Over}
+use Rattle.fifo_buffer.proofs.fifo.FifoCallLayerBufferLaw.poll_on.Given as goal
+
+-- what a part of buffers tells as a layer of calls
+abbrev pub tells : (g : Over) → Ghosts (Fifo g.row.C.Denot) (Unit {0}) g.row.C-Machine.Denot
+tells g = let C = g.C.ThreadLayer in record {
+  caps = λ m. caps_in (C.opening m);
+  homes_of = λ m. homes_in (C.opening m);
+  seen = λ m. effects_in (inner (C.opening m)) (buffer_sections (C.seen m));
+  moves = λ m. moves_in (lock_kernel (cv_rules buffer_monitor_rules) (C.opening m)) (C.seen m);
+  wait_lists = λ m b line. wait_list_in line (lock_after (cv_rules buffer_monitor_rules) (inner (C.opening m)) (Buffer b) (buffer_sections (C.seen m)));
+  ActsFor = λ m c. C.ActsFor m c × BootsSo (C.opening m);
+  room = λ m. C.room m;
+  site = λ m. C.site m;
+  IsFresh = λ m homes c. (C.ActsFor m c × BootsSo (C.opening m)) × C.IsOutside m c
+      × (effects_in (inner (C.opening m)) (buffer_sections (C.seen m)) ≡ [])
+      × (moves_in (lock_kernel (cv_rules buffer_monitor_rules) (C.opening m)) (C.seen m) ≡ [])
+      × (homes_in (C.opening m) ≡ homes) × IsSome (C.opening m (Pending c))
+      × (inner (C.opening m) ≡ opening_locks (caps_in (C.opening m)));
+  MayHold = λ m c. C.MayHold m c;
+  cpu_of = λ p. C.cpu_of p.lower;
+  threads = λ p. (C.own p.lower).lock.sleep.threads;
+  call_states = λ p. p.call_states.call_states;
+  is_inside = λ p. C.is_inside p.lower;
+  under_way = λ p. under_way_at p.calling (C.under_way p.lower);
+  Fits = λ p m. C.Fits p.lower m
+      × PartFits (C.opening m) (C.cpu_of p.lower) (C.seen m) (C.own p.lower) p.call_states.call_states (C.under_way p.lower) p.calling;
+  IsWhole = ⊥;
+  IsStepwise = C.IsStepwise;
+  opening = λ m. C.opening m;
+  acts = λ m. C.acts m;
+  own = λ p. buffering (C.own p.lower) p.call_states.call_states;
+}
+
+-- fewer actions were done than may be, and the call was quiet so far
+abbrev pub invariant-loop-actions : goal.invariant-loop-actions
+invariant-loop-actions g l = record {
+  few : l.actions < l.most;
+  so_far : SoFar (tells g) (λ buffers. fifo_plan) l.t l.call l.initial.self l.initial.m l.actions l.self l.m;
+}
+
+abbrev pub decreases-loop-actions : goal.decreases-loop-actions
+decreases-loop-actions g l = l.most - l.actions

@@ -1,0 +1,18 @@
+use Rattle.std.proofs.Common.{refl}
+use Rattle.fifo_buffer.proofs.fifo.FifoCallLayerBufferLaw.spin.Goals as goal
+
+pub returns-clause-spun : goal.returns-clause-spun
+returns-clause-spun g c =
+    let spun = c.spin.ensures.spun in
+    record {
+      opening = spun.opening;
+      site = spun.site;
+      seen = rw (spun.opening, spun.seen) refl;
+      room = spun.room;
+      acts = λ d both. (spun.acts d both.0, rw spun.opening both.1);
+      fits = λ p fits. (spun.fits p.lower fits.0, rw (spun.opening, spun.seen) fits.1);
+      holders = spun.holders;
+    }
+
+pub returns-clause-moves : goal.returns-clause-moves
+returns-clause-moves g c = rw (c.spin.ensures.spun.opening, c.spin.ensures.spun.seen) refl

@@ -1,0 +1,32 @@
+use Rattle.std.proofs.Common.{subst, sym}
+use Rattle.std.proofs.Math.Path.{transport}
+use Rattle.event_log.specs.declared.ids.CpuId.{CpuId}
+use Rattle.layer_traits.specs.Spins.{BeginWith, Misses}
+use Rattle.scheduler.specs.Parts.{PartFits}
+use Rattle.scheduler.proofs.sched.SchedLayerSchedLaw.spin.Goals as goal
+
+pub returns-clause-few : goal.returns-clause-few
+returns-clause-few g c = subst (λ (d : CpuId). BeginWith d c.spin.result c.args.steps.now) c.requires.fits.1.cpu c.spin.ensures.few
+
+pub returns-clause-spun : goal.returns-clause-spun
+returns-clause-spun g c =
+    let Q = g.Q.Layer in
+    let spun = c.spin.ensures.spun in
+    record {
+      opening = spun.opening;
+      site = spun.site;
+      seen = spun.seen;
+      room = spun.room;
+      acts = spun.acts;
+      fits = λ p fits. (
+        spun.fits p.lower fits.0,
+        transport (λ i. PartFits g.E.SplitEdit.rules g.E.Moves.moves (sym spun.opening i) p.cpu (Q.cpu_of p.lower) p.homes.items (Q.under_way p.lower)
+            (sym spun.seen i) p.own) fits.1,
+      );
+      holders = spun.holders;
+    }
+
+pub returns-clause-tries : goal.returns-clause-tries
+returns-clause-tries g c = λ step.
+    let Q = g.Q.Layer in
+    subst (λ (d : CpuId). Misses d c.spin.result (Q.acts c.args.m.now) (Q.acts c.spin.new.m)) c.requires.fits.1.cpu (c.spin.ensures.tries step)

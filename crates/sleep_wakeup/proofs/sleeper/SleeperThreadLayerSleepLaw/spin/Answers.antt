@@ -1,0 +1,24 @@
+use Rattle.std.proofs.Common.{ap, subst, sym}
+use Rattle.layer_traits.specs.{QueueBlocks.inner, Renaming.renamed_edit, Renaming.renamed_events, Renaming.viewed, Sleeping.NobodySleeps}
+use Rattle.layer_traits.proofs.SpinLemmas.{misses_renamed}
+use Rattle.sleep_wakeup.specs.Nested.{edit_in, state_of, states}
+use Rattle.sleep_wakeup.proofs.sleeper.SleeperThreadLayerSleepLaw.spin.Goals as goal
+
+pub returns-clause-spun : goal.returns-clause-spun
+returns-clause-spun g c =
+    let spun = c.spin.ensures.spun in
+    record {
+      opening = ap (viewed state_of) spun.opening;
+      site = spun.site;
+      seen = ap (renamed_events edit_in) spun.seen;
+      room = spun.room;
+      acts = spun.acts;
+      fits = λ p fits. (spun.fits p.lower fits.0, subst (λ o. NobodySleeps (states (inner o))) (sym spun.opening) fits.1, fits.2);
+      holders = spun.holders;
+    }
+
+pub returns-clause-tries : goal.returns-clause-tries
+returns-clause-tries g c = λ step.
+    let S = g.S.Layer in
+    misses_renamed (renamed_edit edit_in) (S.cpu_of c.args.self.now.lower) c.spin.result (S.acts c.args.m.now) (S.acts c.spin.new.m)
+    (c.spin.ensures.tries step)
