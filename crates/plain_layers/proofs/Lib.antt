@@ -9,3 +9,5 @@ pub mod PlainOpenings
 pub mod QueueSectionLemmas
 pub mod TextLemmas
 pub mod StreamLemmas
+mod Rows
+mod CallStates

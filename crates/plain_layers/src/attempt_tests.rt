@@ -103,25 +103,27 @@ fn rows_go(rt: &HostRuntime, rows: &str) -> Result<(), Fail> {
     Ok(())
 }
 
+/// Cases, each at a buffer of its own.
+///
 /// Three receivers wait at an empty buffer. A close wakes the first, the first the second and the
 /// second the third, who wakes nobody.
-const THREE_RECEIVERS: &str = "\
+///
+/// Two senders wait at a full buffer. A close lets them go, and they put nothing. What was there is
+/// taken after the close, and then a receiver is told that the buffer is closed.
+///
+/// One receiver and one sender wait, and another receiver was woken and has not called again. A close
+/// wakes the receiver, who takes what is there and wakes the sender; and then nobody waits.
+///
+/// A message of two words comes out whole.
+const CASES: &str = "\
 0 receive; waits with the receivers; open
 1 receive; waits with the receivers; open
 2 receive; waits with the receivers; open
 3 close; Close [0] 0 0 receiver Some(0); closed
 0 receive; RecvClosed [0] 1 0 receiver Some(1); closed
 1 receive; RecvClosed [0] 2 1 receiver Some(2); closed
-2 receive; RecvClosed [0] 3 2 nobody None; closed";
-
-#[test]
-fn a_close_lets_three_receivers_go(rt: HostRuntime) -> Result<(), Fail> {
-    rows_go(&rt, THREE_RECEIVERS)
-}
-
-/// Two senders wait at a full buffer. A close lets them go, and they put nothing. What was there is
-/// taken after the close, and then a receiver is told that the buffer is closed.
-const TWO_SENDERS: &str = "\
+2 receive; RecvClosed [0] 3 2 nobody None; closed
+==
 0 7; Send [7] 0 0 nobody None; open with [7]
 1 8; waits with the senders; open with [7]
 2 9; waits with the senders; open with [7]
@@ -130,16 +132,8 @@ const TWO_SENDERS: &str = "\
 2 9; SendClosed [9] 3 2 nobody None; closed with [7]
 0 receive; Recv [7] 4 0 nobody None; closed
 0 receive; RecvClosed [0] 5 1 nobody None; closed
-0 close; Close [0] 6 1 nobody None; closed";
-
-#[test]
-fn a_close_lets_two_senders_go(rt: HostRuntime) -> Result<(), Fail> {
-    rows_go(&rt, TWO_SENDERS)
-}
-
-/// One receiver and one sender wait, and another receiver was woken and has not called again. A close
-/// wakes the receiver, who takes what is there and wakes the sender; and then nobody waits.
-const BOTH_SIDES: &str = "\
+0 close; Close [0] 6 1 nobody None; closed
+==
 0 receive; waits with the receivers; open
 1 receive; waits with the receivers; open
 2 7; Send [7] 0 0 receiver Some(0); open with [7]
@@ -147,19 +141,15 @@ const BOTH_SIDES: &str = "\
 2 close; Close [0] 1 0 receiver Some(1); closed with [7]
 1 receive; Recv [7] 2 0 sender Some(3); closed
 3 8; SendClosed [8] 3 1 nobody None; closed
-0 receive; RecvClosed [0] 4 1 nobody None; closed";
-
-#[test]
-fn a_close_lets_both_sides_go(rt: HostRuntime) -> Result<(), Fail> {
-    rows_go(&rt, BOTH_SIDES)
-}
-
-/// A message of two words comes out whole.
-const TWO_WORDS: &str = "\
+0 receive; RecvClosed [0] 4 1 nobody None; closed
+==
 0 7,8; Send [7, 8] 0 0 nobody None; open with [7, 8]
 1 receive; Recv [7, 8] 1 0 nobody None; open";
 
 #[test]
-fn a_message_of_two_words_comes_out_whole(rt: HostRuntime) -> Result<(), Fail> {
-    rows_go(&rt, TWO_WORDS)
+fn a_close_lets_all_go_and_messages_come_out_whole(rt: HostRuntime) -> Result<(), Fail> {
+    for rows in CASES.split("\n==\n") {
+        rows_go(&rt, rows)?;
+    }
+    Ok(())
 }

@@ -2,19 +2,10 @@
 //! buffers, though no poll of the lock is one action or one call.
 
 use crate::backoff::Backoff;
-use crate::system_tests::{goes, parts};
-use condvar::Cond;
+use crate::ipc_tests::{Row, sections_go};
 use event_log::NoMemory;
-use fifo_buffer::Fifo;
-use ipc_calls::{
-    Ipc, LockEdit, OpensBuffers, OpensLocks, OpensQueues, OpensScheds, TowerEdit, TowerLaws,
-};
-use layer_traits::{Owned, OwnedLocks};
+use ipc_calls::{TowerEdit, TowerLaws};
 use plain_machine::Plain;
-use queuing_lock::QLock;
-use scheduler::Sched;
-use shared_queue::SharedQueues;
-use sleep_wakeup::Sleeper;
 use spinlock::Ticket;
 use std::alloc::Global;
 use std::marker::PhantomData;
@@ -23,7 +14,8 @@ use std::test::Fail;
 
 /// Plans in the form of those of one-step systems: the plan, which CPU takes each step, the text of
 /// the trace, and where all stands then.
-const ROWS: &str = r#"# A thread that sends 7: more polls than over a ticket lock, and the same end.
+pub(crate) const ROWS: &str =
+    r#"# A thread that sends 7: more polls than over a ticket lock, and the same end.
 cpus = 1
 trace = 4
 buffers = [1]
@@ -83,71 +75,10 @@ all ended; ended None
 quiet true, closed false, busy None
 "#;
 
-/// Runs the rows over message calls.
-fn rows_go<I: Owned + Drop>(rt: &impl Abort, alloc: Global) -> Result<(), NoMemory>
-where
-    I::Machine: Drop,
-{
-    for row in ROWS.split("==\n") {
-        match parts(row) {
-            Some((plan, steps, text, stands)) => {
-                goes::<I>(rt, alloc, plan, steps, (text, stands))?;
-            }
-            None => assert!(rt; false),
-        }
-    }
-    Ok(())
-}
-
-/// Runs them over message calls on these buffers.
-fn calls_go<B: OpensBuffers + Drop>(rt: &impl Abort, alloc: Global) -> Result<(), NoMemory>
-where
-    B::Machine: Drop,
-{
-    rows_go::<Ipc<B>>(rt, alloc)
-}
-
-/// And over these sections that put threads to sleep.
-fn buffers_go<S: OpensLocks + Drop>(rt: &impl Abort, alloc: Global) -> Result<(), NoMemory>
-where
-    S::Machine: Drop,
-{
-    calls_go::<Fifo<Cond<QLock<S>>>>(rt, alloc)
-}
-
-/// And over these schedulers.
-fn scheds_go<S: OpensScheds + Drop>(rt: &impl Abort, alloc: Global) -> Result<(), NoMemory>
-where
-    S::Machine: Drop,
-{
-    buffers_go::<Sleeper<LockEdit, S>>(rt, alloc)
-}
-
-/// And over these shared queues.
-fn queues_go<Q: OpensQueues + Drop>(rt: &impl Abort, alloc: Global) -> Result<(), NoMemory>
-where
-    Q::Machine: Drop,
-{
-    scheds_go::<Sched<Q>>(rt, alloc)
-}
-
-/// And over these critical sections.
-fn sections_go<L: OwnedLocks<TowerEdit> + Drop>(
-    rt: &impl Abort,
-    alloc: Global,
-) -> Result<(), NoMemory>
-where
-    L::Machine: Drop,
-{
-    let _laws: TowerLaws = PhantomData;
-    queues_go::<SharedQueues<L>>(rt, alloc)
-}
-
-/// And over these, with backoff. No function names the whole nest of types, since the proof of one
-/// that does takes minutes.
+/// Runs the rows over the tower on locks with backoff.
 fn backoff_goes(rt: &impl Abort, alloc: Global) -> Result<(), NoMemory> {
     let _laws: TowerLaws = PhantomData;
-    sections_go::<Backoff<Ticket<Plain<TowerEdit>>>>(rt, alloc)
+    sections_go::<Backoff<Ticket<Plain<TowerEdit>>>>(rt, alloc, Row::Systems)
 }
 
 #[test]

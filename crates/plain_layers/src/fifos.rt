@@ -10,8 +10,8 @@ use crate::wholes::whole;
 use arrayvec::ArrayVec;
 use event_log::{BufId, CAPACITY, CpuId, Kind, Msg, THREADS, Tid};
 use layer_traits::{
-    BufferLaw, Call, CallLayer, CallState, Effect, Outcome, OwnThreads, OwnedBuffers,
-    OwnedThreadLayer, Pass, Payload, ReplyKind, SleepLaw, Stage, ThreadLayer, WaitList,
+    BufferLaw, Call, CallLayer, CallState, Effect, Ghost, Outcome, OwnThreads, OwnedBuffers,
+    OwnedThreadLayer, Pass, Payload, ReplyKind, SleepLaw, Stage, ThreadLayer, WaitList, no_calls,
 };
 
 /// One CPU's part of first-in first-out blocking buffers as they are meant, over a part `S` of sleep
@@ -52,13 +52,13 @@ fn next(call: &Call, effect: &Option<Effect>) -> CallState
     match effect {
         Some(_) => CallState {
             stage: Stage::Idle,
-            call: None,
+            call: Ghost::of(&None),
             position: 0,
             effect: *effect,
         },
         None => CallState {
             stage: Stage::Waits,
-            call: Some(*call),
+            call: Ghost::of(&Some(*call)),
             position: 0,
             effect: None,
         },
@@ -152,12 +152,7 @@ impl<S: ThreadLayer<SleepLaw<Attempt>>> CallLayer<BufferLaw> for PlainFifo<S> {
     fn part(cpu: CpuId, homes: &[CpuId], buffers: u8) -> Self {
         PlainFifo {
             lower: S::part(cpu, homes, buffers),
-            call_states: [CallState {
-                stage: Stage::Idle,
-                call: None,
-                position: 0,
-                effect: None,
-            }; THREADS],
+            call_states: no_calls(),
         }
     }
 

@@ -46,11 +46,15 @@ mod backoff_tests;
 #[cfg(test)]
 mod beneath_tests;
 #[cfg(test)]
+mod buffer_tests;
+#[cfg(test)]
 mod cond_sections;
 #[cfg(test)]
 mod cond_tests;
 #[cfg(test)]
 mod count_tests;
+#[cfg(test)]
+mod ipc_tests;
 #[cfg(test)]
 mod lock_sections;
 #[cfg(test)]

@@ -465,76 +465,59 @@ where
     Ok(())
 }
 
-/// What a machine that does a whole call in one poll does of all this: CPU 1's push and CPU 0's taking
-/// of one queue are each over at once.
-fn in_one_poll<S: Opens<Nap> + Drop>(rt: &impl Abort, alloc: Global) -> Result<(), NoMemory>
+/// What a machine does of all this where a call of the shared queues takes so many polls. Where it takes
+/// one, a push and the taking of one queue are each over at once, and cannot meet.
+fn in_polls<S: Opens<Nap> + Drop>(rt: &impl Abort, alloc: Global, polls: u8) -> Result<(), NoMemory>
 where
     S::Machine: Drop,
 {
-    turns_are_taken::<S>(rt, alloc, 1)?;
-    a_thread_goes_home::<S>(rt, alloc, 1)
-}
-
-/// What a machine does of all this where a call of the shared queues takes three polls.
-fn in_three_polls<S: Opens<Nap> + Drop>(rt: &impl Abort, alloc: Global) -> Result<(), NoMemory>
-where
-    S::Machine: Drop,
-{
-    turns_are_taken::<S>(rt, alloc, 3)?;
-    a_thread_goes_home::<S>(rt, alloc, 3)?;
+    turns_are_taken::<S>(rt, alloc, polls)?;
+    a_thread_goes_home::<S>(rt, alloc, polls)?;
+    if polls == 1 {
+        return Ok(());
+    }
     cpus_meet::<S>(rt, alloc)?;
     a_look_is_a_poll::<S>(rt, alloc)
 }
 
-/// Schedulers over critical sections of three polls. A test names the sections alone: the proof of a
+/// Schedulers over critical sections of so many polls. A test names the sections alone: the proof of a
 /// function that names a whole nest of types takes longer than that of all rows.
 fn sections_go<L: OwnedLocks<QueueEdit<Nap>> + Drop>(
     rt: &impl Abort,
     alloc: Global,
+    polls: u8,
 ) -> Result<(), NoMemory>
 where
     L::Machine: Drop,
 {
     let _laws: SchedLaws<Nap> = PhantomData;
-    in_three_polls::<Sched<SharedQueues<L>>>(rt, alloc)
-}
-
-/// Schedulers over critical sections of one poll.
-fn whole_sections_go<L: OwnedLocks<QueueEdit<Nap>> + Drop>(
-    rt: &impl Abort,
-    alloc: Global,
-) -> Result<(), NoMemory>
-where
-    L::Machine: Drop,
-{
-    let _laws: SchedLaws<Nap> = PhantomData;
-    in_one_poll::<Sched<SharedQueues<L>>>(rt, alloc)
+    in_polls::<Sched<SharedQueues<L>>>(rt, alloc, polls)
 }
 
 #[test]
 fn schedulers_run_over_ticket_locks(rt: HostRuntime) -> Result<(), Fail> {
     let _laws: SchedLaws<Nap> = PhantomData;
-    sections_go::<Ticket<Plain<QueueEdit<Nap>>>>(&rt, rt.alloc())?;
+    sections_go::<Ticket<Plain<QueueEdit<Nap>>>>(&rt, rt.alloc(), 3)?;
     Ok(())
 }
 
 #[test]
 fn one_step_sections_do_a_call_in_one_poll(rt: HostRuntime) -> Result<(), Fail> {
     let _laws: SchedLaws<Nap> = PhantomData;
-    whole_sections_go::<PlainLock<QueueEdit<Nap>>>(&rt, rt.alloc())?;
+    sections_go::<PlainLock<QueueEdit<Nap>>>(&rt, rt.alloc(), 1)?;
     Ok(())
 }
 
 #[test]
 fn one_step_queues_do_a_call_in_one_poll(rt: HostRuntime) -> Result<(), Fail> {
     let _laws: NapLaws = PhantomData;
-    in_one_poll::<Sched<PlainQueues<Nap>>>(&rt, rt.alloc())?;
+    in_polls::<Sched<PlainQueues<Nap>>>(&rt, rt.alloc(), 1)?;
     Ok(())
 }
 
 #[test]
 fn one_step_schedulers_do_a_call_in_one_poll(rt: HostRuntime) -> Result<(), Fail> {
-    in_one_poll::<PlainSched<Nap>>(&rt, rt.alloc())?;
+    in_polls::<PlainSched<Nap>>(&rt, rt.alloc(), 1)?;
     Ok(())
 }
 

@@ -358,7 +358,7 @@ where
 }
 
 /// Runs a row: the system's text and where it stands are the row's.
-pub fn goes<I: Owned + Drop>(
+fn goes<I: Owned + Drop>(
     rt: &impl Abort,
     alloc: Global,
     plan: &str,
@@ -383,11 +383,27 @@ where
 }
 
 /// The parts of a row: the plan, the steps, the text of the trace, and where all stands then.
-pub fn parts(row: &str) -> Option<(&str, &str, &str, &str)> {
+fn parts(row: &str) -> Option<(&str, &str, &str, &str)> {
     let (plan, rest) = row.split_once("-- ")?;
     let (steps, rest) = rest.split_once('\n')?;
     let (text, stands) = rest.split_once("--\n")?;
     Some((plan, steps, text, stands))
+}
+
+/// Runs these rows over message calls.
+pub fn rows_go<I: Owned + Drop>(rt: &impl Abort, alloc: Global, rows: &str) -> Result<(), NoMemory>
+where
+    I::Machine: Drop,
+{
+    for row in rows.split("==\n") {
+        match parts(row) {
+            Some((plan, steps, text, stands)) => {
+                goes::<I>(rt, alloc, plan, steps, (text, stands))?;
+            }
+            None => assert!(rt; false),
+        }
+    }
+    Ok(())
 }
 
 /// The worked plans over a top layer of which each poll is a whole call: a step for each instruction,
@@ -397,15 +413,7 @@ where
     I::Machine: Drop,
 {
     calls_are_whole::<I>();
-    for row in ROWS.split("==\n") {
-        match parts(row) {
-            Some((plan, steps, text, stands)) => {
-                goes::<I>(rt, alloc, plan, steps, (text, stands))?;
-            }
-            None => assert!(rt; false),
-        }
-    }
-    Ok(())
+    rows_go::<I>(rt, alloc, ROWS)
 }
 
 /// More room than there can be, from the most polls whose events can be counted on.

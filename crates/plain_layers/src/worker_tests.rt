@@ -100,7 +100,7 @@ struct Door {
 }
 
 impl Gate for Door {
-    ghost use Rattle.cpu_workers.specs.declared.gates.Go.TheVariants.{Limit};
+    ghost use Rattle.cpu_workers.specs.declared.workers.gates.Go.TheVariants.{Limit};
 
     ghost MayAnswer = { λ gate cpu go turn. go ≡ Limit → turn ≡ 0 };
 
@@ -323,7 +323,7 @@ impl Counting {
 }
 
 impl Gate for Counting {
-    ghost use Rattle.cpu_workers.specs.declared.gates.Go.TheVariants.{Limit};
+    ghost use Rattle.cpu_workers.specs.declared.workers.gates.Go.TheVariants.{Limit};
 
     ghost MayAnswer = { λ gate cpu go turn. go ≡ Limit → turn ≡ gate.limit_at };
 

@@ -62,6 +62,21 @@ pub fn look<K: LineWords, B>(
     }
 }
 
+/// Whether a look at `lock` with `ticket` would hit.
+///
+/// Requires: the lock is there.
+#[inline(always)]
+pub fn serves<K: LineWords, B>(cells: &Vec<Option<Cell<K, B>>>, lock: LockId, ticket: u64) -> bool
+    requires { IsSome (cell_at cells.now.items lock) }
+    ensures { IfSome (cell_at cells.now.items lock) (λ cell. (taken given spot : ℕ) → K.Fit taken given cell.words → given ≤ spot → spot < given + CPUS
+        → ticket ≡ spot % 2 ^ 64 → result ≡ (given == spot)) }
+{
+    match &cells[lock.number()] {
+        Some(cell) => cell.words.serves(ticket),
+        None => unreachable!(),
+    }
+}
+
 /// Gives `lock` on, and `block` is home.
 ///
 /// Requires: the lock is there.

@@ -1,7 +1,7 @@
 //! The stored log: which CPU did what at which lock. Only `Notes::with_room` takes memory. No call
 //! waits.
 
-ghost use Rattle.std.specs.Prelude.{◌≡◌, ◌+◌, ◌%◌, ◌^◌, ◌≤◌, ◌<◌, ◌++◌, ◌∷◌, [], length, IfOk};
+ghost use Rattle.std.specs.Prelude.{◌≡◌, ◌+◌, ◌%◌, ◌^◌, ◌≤◌, ◌<◌, ◌++◌, ◌∷◌, [], length, replicate, IfOk};
 ghost use Rattle.event_log.specs.Log.{events_in, room_of};
 
 use event_log::{CpuId, EventLog, LockId, NoMemory};
@@ -91,6 +91,25 @@ impl<M> Notes<M> {
             lock,
             atom: Atom::Look,
         });
+    }
+
+    /// Notes so many looks of a CPU that waits, with its ticket.
+    ///
+    /// Requires: there is room for as many events.
+    #[inline(never)]
+    pub fn looks(&mut self, cpu: CpuId, lock: LockId, looks: usize)
+        requires { looks ≤ room_left self.old }
+        ensures history { history self.new
+            ≡ replicate looks (event.Look cpu lock (ticket_in (lock_phase cpu (history self.old))) (frees lock (history self.old) % 2 ^ 64))
+            ++ history self.old }
+        ensures room { room_left self.old ≡ room_left self.new + looks }
+        ensures still { looks ≡ 0 → self.new ≡ self.old }
+    {
+        if looks == 0 {
+            return;
+        }
+        let atom = Atom::Look;
+        self.notes.push_copies(Note { cpu, lock, atom }, looks);
     }
 
     /// Notes a free with its mark.

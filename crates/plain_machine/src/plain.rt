@@ -7,7 +7,7 @@ use crate::line_words::{GrantLockWords, Granting, LineWords, LockWords};
 use crate::meant::Meant;
 use crate::notes::Notes;
 use event_log::{CPUS, CpuId, LockId, NoMemory};
-use layer_traits::{GrantWords, Mark, OwnedWords, SplitEdit, UsesGrantWords, Words};
+use layer_traits::{GrantWords, Mark, OwnedWords, SplitEdit, UsesGrantWords, Words, steps_of};
 use std::alloc::Global;
 use std::snapshot::Snapshot;
 
@@ -148,6 +148,16 @@ impl<E: SplitEdit, K: LineWords> Words for Plain<E, K> {
     fn look(&mut self, cpu: CpuId, lock: LockId, ticket: u64) -> Option<E::Block> {
         self.log.look(cpu, lock);
         cells::look(&mut self.cells, lock, ticket)
+    }
+
+    #[inline(always)]
+    fn spin(&mut self, cpu: CpuId, lock: LockId, ticket: u64, steps: &[CpuId]) -> usize {
+        if cells::serves(&self.cells, lock, ticket) {
+            return 0;
+        }
+        let looks = steps_of(cpu, steps);
+        self.log.looks(cpu, lock, looks);
+        looks
     }
 
     #[inline(always)]

@@ -28,15 +28,23 @@ given_on (Some number) was = number
 
 -- the words do what the counts say
 pub record IsWordKind (kind : WordKind) : Type 0 where
+  -- a waiter reads one of the words that a lock has
   pub looks_within : (ticket : ℕ) → kind.looks_at ticket ≤ CPUS
+  -- a holder writes one of them
   pub gives_within : (ticket : ℕ) → kind.gives_at ticket ≤ CPUS
+  -- the words at the start fit no spot taken and none given on
   pub begins : (w : ℕ → ℕ) → ((i : ℕ) → i ≤ CPUS → w i ≡ first_words kind.opens i) → kind.Fit 0 0 w
+  -- words that are equal fit alike
   pub same : (taken given : ℕ) (w v : ℕ → ℕ) → ((i : ℕ) → i ≤ CPUS → v i ≡ w i) → kind.Fit taken given w → kind.Fit taken given v
+  -- word 0 is the next ticket
   pub next_is : (taken given : ℕ) (w : ℕ → ℕ) → kind.Fit taken given w → w 0 ≡ taken % 2 ^ 64
+  -- after word 0 alone moved on by 1, one spot more is taken
   pub took : (taken given : ℕ) (w v : ℕ → ℕ) → kind.Fit taken given w → v 0 ≡ (w 0 + 1) % 2 ^ 64
       → ((i : ℕ) → i ≤ CPUS → i ≢ 0 → v i ≡ w i) → kind.Fit (taken + 1) given v
+  -- the word of a waiter fewer than CPUS spots behind serves its ticket exactly if its spot is next
   pub hits : (taken given : ℕ) (w : ℕ → ℕ) → kind.Fit taken given w → (ticket spot : ℕ) → given ≤ spot → spot < given + CPUS → ticket ≡ spot % 2 ^ 64
       → kind.serves ticket (w (kind.looks_at ticket)) ≡ (given == spot)
+  -- after the write of the holder alone, the lock is given on once more
   pub gave : (taken given : ℕ) (w v : ℕ → ℕ) → kind.Fit taken given w → (ticket : ℕ) → ticket ≡ given % 2 ^ 64
       → v (kind.gives_at ticket) ≡ given_on (kind.stores ticket) (w (kind.gives_at ticket))
       → ((i : ℕ) → i ≤ CPUS → i ≢ kind.gives_at ticket → v i ≡ w i) → kind.Fit taken (given + 1) v

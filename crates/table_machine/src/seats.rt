@@ -100,6 +100,11 @@ impl<'a, E: SplitEdit, K: TableWords> Words for Seat<'a, E, K> {
         self.key.look(self.shared, lock, ticket)
     }
 
+    // Other threads free the lock meanwhile, so each look loads its word again.
+    fn spin(&mut self, _cpu: CpuId, _lock: LockId, _ticket: u64, _steps: &[CpuId]) -> usize {
+        0
+    }
+
     fn free(&mut self, _cpu: CpuId, lock: LockId, block: E::Block, mark: Mark<E>) {
         self.key.free(self.shared, lock, block, mark.edit)
     }

@@ -1,7 +1,8 @@
-use Rattle.std.proofs.Common.{ap}
+use Rattle.std.proofs.Common.{◌≡◌, ◌≢◌, ◌∙◌, List, None, ap, length, subst, sym}
 use Rattle.std.proofs.lemmas.List.{length-replicate}
-use Rattle.event_log.specs.declared.ids.TheConstants.{THREADS}
-use Rattle.layer_traits.specs.{BufferLaw.no_call, SleepLaw.Sleeping, SleepLaw.sleep_kernel}
+use Rattle.event_log.specs.declared.ids.{Tid.Tid, TheConstants.THREADS}
+use Rattle.layer_traits.specs.declared.call_states.{CallState.CallState, Stage.TheVariants.Idle}
+use Rattle.layer_traits.specs.{BufferLaw.call_state_of, BufferLaw.no_call, SleepLaw.Sleeping, SleepLaw.sleep_kernel}
 use Rattle.plain_layers.specs.{declared.attempts.Tried.Tried, Attempts.attempts}
 use Rattle.plain_layers.proofs.FifoLemmas.{no_events, nobody_waits, no_call_waits}
 use Rattle.plain_layers.proofs.fifos.PlainFifoCallLayerBufferLaw.part.Goals as goal
@@ -16,7 +17,8 @@ returns-clause-fits g c m fresh count =
       record {
         none = c.part.ensures.call;
         deferred = ap (λ (s : Sleeping Tried). s.deferred) c.part.ensures.own;
-        waits = no_call_waits;
-        slots = length-replicate THREADS no_call;
+        waits = subst (λ (l : List CallState). (t : Tid) → (call_state_of l t).stage ≢ Idle → (call_state_of l t).effect ≡ None) (sym c.no_calls.ensures)
+            no_call_waits;
+        slots = ap (λ (l : List CallState). length l) c.no_calls.ensures ∙ length-replicate THREADS no_call;
       },
     )

@@ -8,6 +8,7 @@ use Rattle.plain_layers.specs.{Attempts.attempts, Attempts.effect_in, Fifos.IsOw
 use Rattle.plain_layers.specs.{Fifos.shown}
 use Rattle.plain_layers.proofs.FifoLemmas.{buffer_there, done_called, done_deferred, done_moves, done_refused, done_sleeps, owned_after, reply_left, reply_none}
 use Rattle.plain_layers.proofs.FifoLemmas.{runs_small, set_waits}
+use Rattle.plain_layers.proofs.fifos.PlainFifoCallLayerBufferLaw.poll_kind.{Given.Over, Goals.After-from}
 use Rattle.plain_layers.proofs.fifos.PlainFifoCallLayerBufferLaw.poll_kind.Goals as goal
 
 half_of_two : (n k : ℕ) → n ≤ k + 2 → n / 2 ≤ k / 2 + 1
@@ -21,21 +22,24 @@ whole-outcome-requires-clause-buffer g c =
     buffer_there (S.opening m) c.buffer.result fits.2.fresh
     (subst (λ b. b.0 < length (caps_in (inner (S.opening m)))) (sym c.buffer.ensures) c.requires.there)
 
-pub bounds-self-from : goal.bounds-self-from
-bounds-self-from g c =
-    let S = g.S.ThreadLayer in
-    let m = c.args.m.now in
-    let n = c.whole-outcome.new.m in
-    let lower = c.args.self.now.lower in
-    let fits = c.requires.fits in
-    let said = c.whole-outcome.ensures in
-    let small = runs_small (homes_in (S.opening m)) (S.cpu_of lower) (moves_in (sleep_kernel attempts (S.opening m)) (S.seen m)) (S.own lower).threads
-    (g.met.S.ThreadLayer.moves_legal m (S.cpu_of lower) (g.met.S.ThreadLayer.own_cpu lower m fits.0)) (g.met.S.ThreadLayer.stands lower m fits.0).stands
-    (g.met.S.ThreadLayer.opens m (S.cpu_of lower) (g.met.S.ThreadLayer.own_cpu lower m fits.0)).room c.args.t c.requires.runs in
-    subst (λ k. k < THREADS) (sym c.from.ensures) small
+-- the thread that runs is one of the table
+module _ (g : Over) (c : After-from g) where
+  small : c.from.result < THREADS
+  small =
+      let S = g.S.ThreadLayer in
+      let m = c.args.m.now in
+      let lower = c.args.self.now.lower in
+      let fits = c.requires.fits in
+      let runs = runs_small (homes_in (S.opening m)) (S.cpu_of lower) (moves_in (sleep_kernel attempts (S.opening m)) (S.seen m)) (S.own lower).threads
+      (g.met.S.ThreadLayer.moves_legal m (S.cpu_of lower) (g.met.S.ThreadLayer.own_cpu lower m fits.0)) (g.met.S.ThreadLayer.stands lower m fits.0).stands
+      (g.met.S.ThreadLayer.opens m (S.cpu_of lower) (g.met.S.ThreadLayer.own_cpu lower m fits.0)).room c.args.t c.requires.runs in
+      subst (λ k. k < THREADS) (sym c.from.ensures) runs
+
+pub offset_bounds-self-from : goal.offset_bounds-self-from
+offset_bounds-self-from g c = let few = small g (goal.at.offset_bounds-self-from g c).After-from in omega (arith, few)
 
 pub listed : goal.listed
-listed g c = subst (λ n. c.from.result < n) (sym c.requires.fits.3.slots) (bounds-self-from g c)
+listed g c = subst (λ n. c.from.result < n) (sym c.requires.fits.3.slots) (small g (goal.at.listed g c).After-from)
 
 -- the buffer is there
 pub returns-clause-nothing : goal.returns-clause-nothing
