@@ -8,7 +8,7 @@ use Rattle.thread_blocks.specs.Queues.{is_in}
 use Rattle.guest.specs.{declared.instructions.Instruction.Instruction, Instructions.names_below, State.State, State.next_of}
 use Rattle.layer_traits.specs.declared.calls.{Call.Call, Call.TheVariants.Send, Call.TheVariants.Recv, Call.TheVariants.Close, Effect.Effect, Reply.Reply}
 use Rattle.layer_traits.specs.{declared.call_states.CallState.CallState, Places.Threads, Places.home_of, Places.one_if}
-use Rattle.layer_traits.specs.BufferLaw.{Called, Calling, UnderWay, MayPollCall, RunsOn, begun_of, buffer_of, entry_of, still_calling, call_state_of}
+use Rattle.layer_traits.specs.BufferLaw.{Called, Calling, UnderWay, MayPollCall, RunsOn, begun_of, buffer_of, still_calling, call_state_of}
 use Rattle.cpu.specs.{declared.cpus.Choice.TheVariants.Polls, declared.guests.Guest.Guest, declared.guests.GuestStage.GuestStage, declared.guests.Todo.Todo}
 use Rattle.cpu.specs.{declared.guests.Todo.TheVariants.Finish, declared.guests.Todo.TheVariants.Calls, Cpus.AllFollow, Cpus.AreOver, Cpus.IsCpu, Cpus.IsOfHome}
 use Rattle.cpu.specs.{Cpus.NamesBelow, Cpus.begins_at, Cpus.begun_count, Cpus.is_begun_guest, Cpus.chosen, Cpus.chosen_at, Cpus.chosen_by, Cpus.chosen_for}
@@ -346,13 +346,3 @@ module _ (cpu : ValidCpu) (t : Tid) (c : Call) (chose : chosen cpu.own cpu.guest
       room = room_new;
       reserved = let reserved = is.reserved in omega (arith, reserved, capacity_is);
     }
-
-    -- a new effect finds room for its entry
-    pub poll_room : (f : Effect) → fresh_at (guest_at guests t.0) left ≡ Some f → length trace < capacity
-    poll_room f some =
-        let long : length trace2 ≡ length trace + 1 =
-        ap (λ (l : List Entry). length l) (trace_is ∙ ap (λ (x : Option Effect). trace ++ entries_of number t (buffer_of c) x) some)
-        ∙ length-append trace (entry_of number t (buffer_of c) f ∷ []) in
-        let room = room_new in
-        let reserved = is.reserved in
-        omega (arith, long, room, reserved)

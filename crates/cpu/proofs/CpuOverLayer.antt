@@ -3,6 +3,7 @@ use Rattle.std.proofs.Common.{◌≡◌, false, Some, None, ap, ◌∙◌, subst
 use Rattle.event_log.specs.{declared.ids.CpuId.CpuId, declared.ids.Tid.Tid, Actions.phase}
 use Rattle.layer_traits.specs.{contracts.call_layers.CallLayer.TheBound.Met, declared.call_layers.CallLaw.Ghosts as LawGhosts}
 use Rattle.layer_traits.specs.{declared.call_layers.CallLayer.Ghosts, BufferLaw.MovesGrow, Framed.Framed, Places.AreMoves, Places.Stands, Places.home_of, Plans.is_in_section}
+use Rattle.layer_traits.specs.QueueBlocks.{homes_in}
 use Rattle.layer_traits.proofs.PlaceLemmas.{current_at}
 use Rattle.cpu.specs.{declared.cpus.Cpu.Cpu, Cpus.ActsGrow, Cpus.SeenGrows, Cpus.programs_of, CpuSteps.IsCpuAt, CpuSteps.IsTabledAt, CpuSteps.Leaves, Tower.Privates.threads_in}
 use Rattle.cpu.proofs.{CpuStates.valid_cpu, StepsBesideGuests.none_grow, StepsBesideGuests.none_moved, StepsBesideGuests.none_seen, TableCalls.ObservedCpu, TableCalls.ObservedOutset}
@@ -31,6 +32,7 @@ pub record PartLaws {P L M : Type 0} (I : Ghosts P L M) : Type 0 where
   pub idle : (p : P) (m : M) → I.Fits p m → I.under_way p ≡ None → I.is_inside p ≡ false
   pub busy : (p : P) (m : M) → I.Fits p m → I.IsStepwise → I.is_inside p ≡ is_in_section (phase (I.cpu_of p) (I.acts m))
   pub reads_own : I.IsStepwise → (p : P) → (threads_in (I.own p) ≡ I.threads p) × ((I.own p).call_states ≡ I.call_states p)
+  pub reads_homes : I.IsStepwise → (m : M) → homes_in (I.opening m) ≡ I.homes_of m
 
 -- from all that a bound by the layer's trait gives
 pub laws_of : {world : World} {Part Law Machine : RattleType} {I : Ghosts Part.Denot Law.Denot Machine.Denot} {dict : Dict}
@@ -43,6 +45,7 @@ laws_of law = record {
   idle = law.idle;
   busy = law.busy;
   reads_own = λ step. law.reads_own;
+  reads_homes = λ step. law.reads_homes;
 }
 
 -- a CPU whose part fits the machine

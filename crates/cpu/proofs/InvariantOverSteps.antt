@@ -1,16 +1,16 @@
 -- One step of one CPU of a system keeps what always holds of the system.
-use Rattle.std.proofs.Common.{◌≡◌, ◌≢◌, ◌⊎◌, inl, inr, ℕ, ◌+◌, ◌<◌, ◌≤◌, ◌==◌, Bool, true, false, List, [], ◌∷◌, ◌++◌, length, Option, Some, None, refl, ap}
+use Rattle.std.proofs.Common.{◌≡◌, ◌≢◌, ◌⊎◌, inl, inr, ℕ, ◌+◌, ◌<◌, ◌≤◌, ◌==◌, true, false, List, [], ◌∷◌, ◌++◌, length, Option, Some, None, refl, ap}
 use Rattle.std.proofs.Common.{sym, ◌∙◌, subst, arith, slice_set}
-use Rattle.std.specs.Prelude.{slice_get, if◌then◌else◌}
+use Rattle.std.specs.Prelude.{slice_get}
 use Rattle.std.specs.List.{AllByRecursion}
-use Rattle.std.proofs.lemmas.{Bool.cases_eq, Bool.eqb-false, Bool.ne_eqb, List.length-append, List.length-set, Option.slice_get_within}
+use Rattle.std.proofs.lemmas.{Bool.cases_eq, Bool.ne_eqb, List.length-append, List.length-set, Option.slice_get_within}
 use Rattle.event_log.specs.{declared.entries.Entry.Entry, declared.ids.CpuId.CpuId, declared.ids.TheConstants.CPUS, declared.ids.TheConstants.THREADS}
 use Rattle.event_log.specs.{Actions.Action, Actions.cpu_of_action, Actions.phase, History.AreForeign, History.AreOthers, History.same_cpu}
 use Rattle.event_log.proofs.{Foreign.phase_others, Same.same_cpu_self}
 use Rattle.layer_traits.specs.{BufferLaw.UnderWay, BufferLaw.cpu_of_entry, OnePlace.cpu_at, Places.Threads, declared.steps.Reason.Reason}
-use Rattle.layer_traits.specs.{declared.steps.Reason.TheVariants.StepsUsed, declared.call_states.CallState.CallState}
+use Rattle.layer_traits.specs.{declared.call_states.CallState.CallState}
 use Rattle.cpu.specs.{declared.guests.Guest.Guest, Cpus.ActsGrow, Cpus.IsCpu, Cpus.SeenGrows, Cpus.of_cpu, Claims.CpuShown, Claims.Shown, Systems.IsAt}
-use Rattle.cpu.specs.{Systems.IsSystem, Systems.halted_in, Systems.own_reason, Systems.own_reason_in, Systems.reason_of, Systems.reason_or}
+use Rattle.cpu.specs.{Systems.IsSystem, Systems.own_reason, Systems.own_reason_in, Systems.reason_of, Systems.reason_or}
 use Rattle.cpu.proofs.{CpuStates.valid_cpu, GuestLists.cpu_same, ListReads.all_both, ListReads.all_by, ListReads.all_left, ListReads.all_right}
 use Rattle.cpu.proofs.{ListReads.set_again, ListReads.set_else, ListReads.set_there, PassSteps.seen_stays, ReachedSystems.Observed}
 
@@ -219,15 +219,3 @@ pub live_of : (s : Shown) (c : CpuId) (p : CpuShown) → slice_get s.cpus c.0 �
 live_of s c p at none room =
     let full : (s.taken == s.room) ≡ false = ne_eqb s.taken s.room room in
     ap (λ (o : Option CpuShown). reason_or (own_reason_in o) s) at ∙ ap (λ (r : Option Reason). reason_or r s) none ∙ (rw full refl)
-
--- a CPU that takes a step has room for it
-pub live_room : (s : Shown) (c : CpuId) → reason_of c s ≡ None → s.taken ≤ s.room → s.taken < s.room
-live_room s c live used = go (halted_in c s) live
-  where
-    room : (b : Bool) → (s.taken == s.room) ≡ b → (if b then Some StepsUsed else None) ≡ None → s.taken < s.room
-    room true is none = absurd (cc none)
-    room false is none = let other = eqb-false s.taken s.room is in grind (arith, other, used)
-
-    go : (r : Option Reason) → reason_or r s ≡ None → s.taken < s.room
-    go None none = room (s.taken == s.room) refl none
-    go (Some reason) none = absurd (cc none)

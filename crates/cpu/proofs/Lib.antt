@@ -22,9 +22,14 @@ pub mod TableCalls
 pub mod CpuOverLayer
 pub mod TableHalts
 pub mod ReachedSystems
+pub mod Schedules
+pub mod MissedLooks
 pub mod SystemsAtBoot
 pub mod NobodyPending
 pub mod PartsOfTable
 pub mod PlacesTold
 pub mod TableQuiet
 pub mod SystemOverLayer
+pub mod SpinsOverLayer
+pub mod CallRuns
+pub mod RunsOverLayer

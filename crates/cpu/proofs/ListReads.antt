@@ -13,6 +13,12 @@ set_again [] i x at = refl
 set_again (z ∷ zs) zero x at = let same : z ≡ x = cc in ap (λ v. v ∷ zs) (sym same)
 set_again (z ∷ zs) (suc i) x at = ap (λ v. z ∷ v) (set_again zs i x at)
 
+-- of two writes at one place the second stays
+pub set_twice : {X : Type 0} (xs : List X) (i : ℕ) (x y : X) → slice_set (slice_set xs i x) i y ≡ slice_set xs i y
+set_twice [] i x y = refl
+set_twice (z ∷ zs) zero x y = refl
+set_twice (z ∷ zs) (suc i) x y = ap (λ v. z ∷ v) (set_twice zs i x y)
+
 -- a write of an element that shows the same leaves what the list shows
 pub shows_same : {X Z : Type 0} (f : X → Z) (xs : List X) (i : ℕ) (x y : X) → slice_get xs i ≡ Some x → f y ≡ f x → map f (slice_set xs i y) ≡ map f xs
 shows_same f [] i x y at same = refl

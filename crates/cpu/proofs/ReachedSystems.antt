@@ -1,12 +1,12 @@
 -- A system that is reached by the step table: at boot, after a step, and after a schedule.
-use Rattle.std.proofs.Common.{◌≡◌, ℕ, zero, suc, ◌+◌, ◌<◌, ◌≤◌, List, [], ◌∷◌, ◌++◌, length, map, replicate, take, Option, Some, None, option_map, refl}
+use Rattle.std.proofs.Common.{◌≡◌, ℕ, zero, suc, ◌<◌, ◌≤◌, List, [], ◌∷◌, ◌++◌, length, map, replicate, Option, Some, None, option_map, refl}
 use Rattle.std.proofs.Common.{ap, sym, ◌∙◌, subst, arith}
 use Rattle.std.specs.Prelude.{slice_get, slice_index_or}
-use Rattle.std.proofs.lemmas.{List.take_more, Option.slice_get_within, Option.same_Some}
+use Rattle.std.proofs.lemmas.{Option.slice_get_within, Option.same_Some}
 use Rattle.event_log.specs.{declared.entries.Entry.Entry, declared.ids.BufId.BufId, declared.ids.CpuId.CpuId}
 use Rattle.event_log.specs.{declared.ids.TheConstants.THREADS, declared.ids.Tid.Tid, Actions.Action}
-use Rattle.layer_traits.specs.{declared.moves.WaitList.WaitList, declared.steps.Reason.Reason, declared.steps.Step.Step}
-use Rattle.layer_traits.specs.{declared.steps.Step.TheVariants.Stepped, declared.steps.Step.TheVariants.Halted, Places.Step as Moving}
+use Rattle.layer_traits.specs.{declared.moves.WaitList.WaitList, declared.steps.Step.Step}
+use Rattle.layer_traits.specs.{Places.Step as Moving}
 use Rattle.cpu.specs.{declared.guests.Guest.Guest, Claims.CpuShown, Claims.Shown, Claims.shown_of, Cpus.guest_at, Cpus.programs_of, Sound.IsReachedByTable}
 use Rattle.cpu.specs.{Sound.IsSetupFor, Sound.RanByTable, Sound.ReturnsAlone, Sound.SoundByTable, Sound.after_steps, Systems.GoesBy, Systems.SamePlan}
 use Rattle.cpu.specs.{Systems.SteppedByTable, Systems.whole_of, Table.Setups.Setup, Table.Steps.IsReached, Table.Steps.Whole}
@@ -99,21 +99,6 @@ pub after_more : (setup : Setup) (cs : List CpuId) (c : CpuId) (s : Whole)
     → after_steps setup (cs ++ c ∷ []) s ≡ (system_step setup c (after_steps setup cs s)).next
 after_more setup [] c s = refl
 after_more setup (d ∷ cs) c s = after_more setup cs c (system_step setup d s).next
-
--- a step more of a schedule, taken or not
-pub ran_on : (start s r : Shown) (all : List CpuId) (i : ℕ) (d : CpuId) (answer : Step) → i < length all → SamePlan start s → RanByTable start (take i all) s
-    → SteppedByTable (slice_index_or all i d) s r answer → RanByTable start (take (i + 1) all) r
-ran_on start s r all i d answer within same ran went setup goes =
-    sym (ap (λ x. x.next) (sym (went setup (goes_on setup same goes))))
-    ∙ ap (λ (w : Whole). (system_step setup (slice_index_or all i d) w).next) (ran setup goes)
-    ∙ sym (after_more setup (take i all) (slice_index_or all i d) (whole_of start))
-    ∙ ap (λ (l : List CpuId). after_steps setup l (whole_of start)) (sym (take_more all i d within))
-
--- what a step went by, whatever it answered
-pub went_by : (IsStepwise : Type 0) (c : CpuId) (s r : Shown) (answer : Step) → IsStepwise → (IsStepwise → answer ≡ Stepped → SteppedByTable c s r Stepped)
-    → (IsStepwise → (reason : Reason) → answer ≡ Halted reason → SteppedByTable c s r (Halted reason)) → SteppedByTable c s r answer
-went_by IsStepwise c s r Stepped step goes halts = goes step refl
-went_by IsStepwise c s r (Halted reason) step goes halts = halts step reason refl
 
 -- so many steps of one CPU
 pub steps_alone : (setup : Setup) (c : CpuId) (n : ℕ) (s : Whole) → after_steps setup (replicate n c) s ≡ steps_by setup c n s

@@ -1,18 +1,18 @@
 -- A step of a system that is taken is the step table's.
-use Rattle.std.proofs.Common.{◌≡◌, ◌≢◌, ℕ, ◌+◌, ◌<◌, Bool, true, List, [], ◌∷◌, ◌++◌, length, map, take, Option, Some, None, refl, ap, sym, ◌∙◌, subst}
+use Rattle.std.proofs.Common.{◌≡◌, ◌≢◌, ℕ, ◌+◌, ◌<◌, Bool, true, List, [], ◌∷◌, ◌++◌, map, Option, Some, None, refl, ap, sym, ◌∙◌, subst}
 use Rattle.std.proofs.Common.{slice_set}
-use Rattle.std.specs.Prelude.{slice_get, slice_index_or}
+use Rattle.std.specs.Prelude.{slice_get}
 use Rattle.std.specs.List.{AllByRecursion}
-use Rattle.std.proofs.lemmas.{Bool.ne_eqb, List.map-set, List.take_more}
+use Rattle.std.proofs.lemmas.{Bool.ne_eqb, List.map-set}
 use Rattle.event_log.specs.{declared.ids.CpuId.CpuId, declared.ids.TheConstants.CPUS, Actions.Action, Actions.Take, Actions.Try, Actions.Give, Actions.AreLegal}
 use Rattle.event_log.specs.{Actions.cpu_of_action, History.AreForeign, History.IsLawful, History.same_cpu}
 use Rattle.event_log.proofs.{Foreign.cpus_of_actions_known, Same.same_cpu_self}
 use Rattle.layer_traits.specs.{declared.steps.Reason.Reason, declared.steps.Step.Step, declared.steps.Step.TheVariants.Stepped}
-use Rattle.layer_traits.specs.{declared.steps.Step.TheVariants.Halted, Along.IsStep}
+use Rattle.layer_traits.specs.{Along.IsStep}
 use Rattle.cpu.specs.{Table.Blocks.Name, Table.Setups.Setup, Table.Setups.Private, Table.Steps.Stepping, Table.Steps.Whole, Table.Steps.answered_by}
 use Rattle.cpu.specs.{Table.Steps.cpu_step, Table.Steps.roomy, Table.Steps.step_at, Table.Steps.system_step, Tower.Composed.named, Tower.Views.TowerName}
-use Rattle.cpu.specs.{Claims.CpuShown, Claims.Shown, Cpus.step_answer, Systems.Ran, Systems.SamePlan, Systems.SteppedByTable, Systems.WentOn, Systems.goes}
-use Rattle.cpu.specs.{Systems.reason_of, Systems.reason_or, Systems.stayed, Systems.took}
+use Rattle.cpu.specs.{Claims.CpuShown, Claims.Shown, Systems.SamePlan}
+use Rattle.cpu.specs.{Systems.reason_or}
 use Rattle.cpu.proofs.ListReads.{all_left, all_right, shows_at}
 
 -- where the holder acts for each CPU that there may be, no action is foreign
@@ -99,22 +99,6 @@ shown_step shown ActsFor setup c xs k x y acts acts2 room taken at same step all
 pub own_live : (r : Option Reason) (s : Shown) → reason_or r s ≡ None → r ≡ None
 own_live None s live = refl
 own_live (Some reason) s live = absurd (cc live)
-
--- what a step does, by what it answers
-pub went_on : (IsStepwise : Type 0) (c : CpuId) (old new : Shown) (answer : Step) → answer ≡ step_answer (reason_of c old)
-    → ((r : Reason) → answer ≡ Halted r → new ≡ old) → (answer ≡ Stepped → new.taken ≡ old.taken + 1)
-    → (IsStepwise → answer ≡ Stepped → SteppedByTable c old new Stepped) → WentOn IsStepwise c old new
-went_on IsStepwise c old new answer answered still counted steps = go (reason_of c old) refl
-  where
-    go : (r : Option Reason) → reason_of c old ≡ r → WentOn IsStepwise c old new
-    go None is = let stepped = answered ∙ ap step_answer is in took is (counted stepped) (λ step. steps step stepped)
-    go (Some reason) is = stayed reason is (still reason (answered ∙ ap step_answer is))
-
--- one step more has run
-pub ran_more : (IsStepwise : Type 0) (start s r : Shown) (all : List CpuId) (i : ℕ) (d : CpuId) → i < length all → Ran IsStepwise start (take i all) s
-    → WentOn IsStepwise (slice_index_or all i d) s r → Ran IsStepwise start (take (i + 1) all) r
-ran_more IsStepwise start s r all i d within ran went =
-    subst (λ (l : List CpuId). Ran IsStepwise start l r) (sym (take_more all i d within)) (goes (slice_index_or all i d) r ran went)
 
 -- what two steps leave as it was
 pub same_plans : {s r t : Shown} → SamePlan s r → SamePlan r t → SamePlan s t

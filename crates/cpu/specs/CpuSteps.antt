@@ -1,7 +1,8 @@
 -- One CPU over a layer of message calls and its machine: what always holds of it, and what each of its steps leaves.
-use Rattle.std.specs.Prelude.{◌≡◌, ◌≢◌, ◌+◌, ◌≤◌, length, Option, vec_capacity}
+use Rattle.std.specs.Prelude.{◌≡◌, ◌≢◌, ℕ, ◌+◌, ◌≤◌, length, Option, None, vec_capacity}
 use Rattle.event_log.specs.declared.ids.CpuId.{CpuId}
 use Rattle.layer_traits.specs.{declared.call_layers.CallLayer.Ghosts, declared.steps.Reason.Reason, declared.steps.Step.Step, BufferLaw.MovesGrow}
+use Rattle.layer_traits.specs.declared.steps.Step.TheVariants.{Stepped}
 use Rattle.cpu.specs.{declared.cpus.Cpu.Cpu, Cpus.ActsGrow, Cpus.IsCpu, Cpus.SeenGrows, Cpus.halted_at, Cpus.programs_of, Cpus.reason_in, Tables.IsTabled}
 use Rattle.cpu.specs.{Tables.WentByTable}
 
@@ -41,3 +42,17 @@ pub record Leaves {P L M : Type 0} (I : Ghosts P L M) (m : M) (p : Cpu P M) (n :
   pub acts : (c : CpuId) → I.ActsFor m c → I.ActsFor n c
   pub others : (part : P) → I.cpu_of part ≢ p.number → I.Fits part m → I.Fits part n
   pub holders : (c : CpuId) → c ≢ p.number → I.ActsFor m c → I.MayHold n c → I.MayHold m c
+
+-- the CPU and its machine, which agreed, took one step: they agree again, and what always holds of the CPU does so
+pub record SteppedAt {P L M : Type 0} (I : Ghosts P L M) (m : M) (p : Cpu P M) (n : M) (q : Cpu P M) : Type 0 where
+  pub live : stops_at I p ≡ None
+  pub fits : I.Fits q.part n
+  pub is : IsCpuAt I n q
+  pub leaves : Leaves I m p n q
+  pub table : I.IsStepwise → IsTabledAt I n q
+  pub steps : I.IsStepwise → WentAt I m p n q Stepped
+
+-- they took so many steps, one behind the other
+pub data RunsAt {P L M : Type 0} (I : Ghosts P L M) (m : M) (p : Cpu P M) : (steps : ℕ) → M → Cpu P M → Type 0 where
+  one : {n : M} {q : Cpu P M} → SteppedAt I m p n q → RunsAt I m p 1 n q
+  more : {k : ℕ} {n o : M} {q r : Cpu P M} → RunsAt I m p k n q → SteppedAt I n q o r → RunsAt I m p (k + 1) o r

@@ -39,8 +39,8 @@ pub struct Cpu<I: CallLayer<IpcLaw>> {
 impl<I: CallLayer<IpcLaw>> Cpu<I> {
     ghost use Rattle.layer_traits.specs.declared.steps.{Reason.Reason, Step.TheVariants.Halted, Step.TheVariants.Stepped};
     ghost use Rattle.cpu.specs.{declared.cpus.Choice.TheVariants.Polls, declared.cpus.Choice.TheVariants.Passes, declared.cpus.Choice.TheVariants.Computes};
-    ghost use Rattle.cpu.specs.{CpuSteps.IsCpuAt, CpuSteps.IsTabledAt, CpuSteps.Leaves, CpuSteps.WentAt, CpuSteps.stops_at, Cpus.chosen, Cpus.halted_at};
-    ghost use Rattle.cpu.specs.{Cpus.step_answer};
+    ghost use Rattle.cpu.specs.{CpuSteps.IsCpuAt, CpuSteps.IsTabledAt, CpuSteps.Leaves, CpuSteps.RunsAt, CpuSteps.WentAt, CpuSteps.stops_at, Cpus.chosen};
+    ghost use Rattle.cpu.specs.{Cpus.halted_at, Cpus.step_answer};
 
     /// What the CPU does next, where it is not halted.
     #[inline(always)]
@@ -112,11 +112,17 @@ impl<I: CallLayer<IpcLaw>> Cpu<I> {
         self.trace.as_slice()
     }
 
-    /// Polls the message call at which the thread that runs stands, which is the one asked for.
+    /// Goes on with the message call at which the thread that runs stands, which is the one asked for:
+    /// up to `most` steps of it, at most until it ends, has its effect, or leaves the thread not
+    /// running. Returns how many it took.
+    ///
+    /// Requires: as `go`. The thread runs and its guest stands at that call. If the call is about to
+    /// begin, the trace has room for its entry.
     #[inline(always)]
-    fn call(&mut self, m: &mut I::Machine, thread: Tid, asked: Ghost<Call>)
+    fn call(&mut self, m: &mut I::Machine, thread: Tid, asked: Ghost<Call>, most: usize) -> usize
         requires fits { I.Fits self.old.part m.old }
-        requires room { 0 < I.room m.old }
+        requires some { 0 < most }
+        requires room { most ≤ I.room m.old }
         requires number { I.cpu_of self.old.part ≡ self.old.number }
         requires is { IsCpuAt ⟦<I as CallLayer<IpcLaw>>⟧ m.old self.old }
         requires live { stops_at ⟦<I as CallLayer<IpcLaw>>⟧ self.old ≡ None }
@@ -124,18 +130,16 @@ impl<I: CallLayer<IpcLaw>> Cpu<I> {
         requires not_full { begins_at (guest_at self.old.guests.items thread.0) ≡ true
             → length self.old.trace.items + begun_count self.old.guests.items < self.old.limit }
         requires table { I.IsStepwise → IsTabledAt ⟦<I as CallLayer<IpcLaw>>⟧ m.old self.old }
-        ensures fits { I.Fits self.new.part m.new }
-        ensures is { IsCpuAt ⟦<I as CallLayer<IpcLaw>>⟧ m.new self.new }
-        ensures leaves { Leaves ⟦<I as CallLayer<IpcLaw>>⟧ m.old self.old m.new self.new }
-        ensures table { I.IsStepwise → IsTabledAt ⟦<I as CallLayer<IpcLaw>>⟧ m.new self.new }
-        ensures steps { I.IsStepwise → WentAt ⟦<I as CallLayer<IpcLaw>>⟧ m.old self.old m.new self.new Stepped }
+        ensures few { result ≤ most }
+        ensures ran { RunsAt ⟦<I as CallLayer<IpcLaw>>⟧ m.old self.old result m.new self.new }
     {
         let call = self.guests.call_of(thread, asked);
         let buffer = call.buffer();
-        let answer = self.part.poll_kind(m, thread, call);
+        let run = self.part.poll_on(m, thread, call, most);
         let effect = self.part.effect_here(thread);
-        let fresh = self.guests.note_poll(thread, effect, answer);
+        let fresh = self.guests.note_poll(thread, effect, run.reply);
         note_effect(&mut self.trace, self.number, thread, buffer, fresh, effect);
+        run.actions
     }
 
     /// Polls this pass from thread to thread. It stands out of line, since most steps are calls'.
@@ -181,31 +185,36 @@ impl<I: CallLayer<IpcLaw>> Cpu<I> {
         let _ = m;
     }
 
-    /// The step of a CPU that is not halted and asks for no further look at a lock: one local action
-    /// or one atomic action.
+    /// The steps of a CPU that is not halted and asks for no further look at a lock: each one local
+    /// action or one atomic action. Where it stands at a message call these are up to `most` steps of
+    /// it, and else the step is one. Returns how many it took.
     ///
-    /// Requires: the part and the machine agree. The machine has room for one more event. The part
-    /// is the one of the CPU's number. The CPU's threads, guests and trace agree with what was done
-    /// in the machine. If each poll is one action, the CPU also stands as the step table says. The
-    /// CPU is not halted.
+    /// Requires: the part and the machine agree. The machine has room for as many events as `most`
+    /// tells, which is not 0. The part is the one of the CPU's number. The CPU's threads, guests and
+    /// trace agree with what was done in the machine. If each poll is one action, the CPU also stands as
+    /// the step table says. The CPU is not halted.
     #[inline(always)]
-    pub(crate) fn go(&mut self, m: &mut I::Machine)
+    pub(crate) fn go(&mut self, m: &mut I::Machine, most: usize) -> usize
         requires fits { I.Fits self.old.part m.old }
-        requires room { 0 < I.room m.old }
+        requires some { 0 < most }
+        requires room { most ≤ I.room m.old }
         requires number { I.cpu_of self.old.part ≡ self.old.number }
         requires is { IsCpuAt ⟦<I as CallLayer<IpcLaw>>⟧ m.old self.old }
         requires live { stops_at ⟦<I as CallLayer<IpcLaw>>⟧ self.old ≡ None }
         requires table { I.IsStepwise → IsTabledAt ⟦<I as CallLayer<IpcLaw>>⟧ m.old self.old }
-        ensures fits { I.Fits self.new.part m.new }
-        ensures is { IsCpuAt ⟦<I as CallLayer<IpcLaw>>⟧ m.new self.new }
-        ensures leaves { Leaves ⟦<I as CallLayer<IpcLaw>>⟧ m.old self.old m.new self.new }
-        ensures table { I.IsStepwise → IsTabledAt ⟦<I as CallLayer<IpcLaw>>⟧ m.new self.new }
-        ensures steps { I.IsStepwise → WentAt ⟦<I as CallLayer<IpcLaw>>⟧ m.old self.old m.new self.new Stepped }
+        ensures few { result ≤ most }
+        ensures ran { RunsAt ⟦<I as CallLayer<IpcLaw>>⟧ m.old self.old result m.new self.new }
     {
         match self.choice() {
-            Choice::Polls(thread, asked) => self.call(m, thread, asked),
-            Choice::Passes(pass) => self.pass(m, pass),
-            Choice::Computes(thread) => self.compute(m, thread),
+            Choice::Polls(thread, asked) => self.call(m, thread, asked, most),
+            Choice::Passes(pass) => {
+                self.pass(m, pass);
+                1
+            }
+            Choice::Computes(thread) => {
+                self.compute(m, thread);
+                1
+            }
         }
     }
 
@@ -235,7 +244,7 @@ impl<I: CallLayer<IpcLaw>> Cpu<I> {
         if let Some(reason) = self.reason() {
             return Step::Halted(reason);
         }
-        self.go(m);
+        self.go(m, 1);
         Step::Stepped
     }
 

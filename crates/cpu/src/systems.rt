@@ -7,11 +7,13 @@ mod plans;
 mod quiet;
 
 ghost use Rattle.std.specs.Prelude.{◌≡◌, ◌+◌, ◌<◌, ◌≤◌, ◌↔◌, true, false, All, IsOk, OnErr, OnOk, Some, None, [], length, map, slice_index_or};
+ghost use Rattle.std.specs.Prelude.{replicate, take};
+ghost use Rattle.layer_traits.specs.Spins.{BeginWith};
 
 use crate::cpus::Cpu;
 use arrayvec::ArrayVec;
 use event_log::{BufId, CAPACITY, CpuId, Entry, Msg, Tid};
-use layer_traits::{Owned, Place, Reason, Step};
+use layer_traits::{Owned, Place, Reason, Step, steps_of};
 pub use plans::{guests_of, homes_of};
 use std::marker::Model;
 use thiserror::Error;
@@ -108,7 +110,7 @@ where
             self.holds();
             return Step::Halted(reason);
         }
-        self.advance(cpu);
+        self.advance(cpu, 1);
         self.holds();
         Step::Stepped
     }
@@ -139,6 +141,7 @@ where
     fn reason(&self, cpu: CpuId) -> Option<Reason>
         requires { cpu.0 < length self.now.cpus }
         ensures is { result ≡ reason_of cpu self.now }
+        ensures room { result ≡ None → self.now.taken < self.now.room }
         ensures table { I.IsStepwise → HaltsByTable cpu self.now (halted_in cpu self.now) }
     {
         if let Some(reason) = self.halted(cpu) {
@@ -164,18 +167,26 @@ where
         at.reason()
     }
 
-    /// Takes one step of `cpu`, which is not halted, where it did not look again.
+    /// Takes steps of `cpu`, which is not halted, where it did not look again: up to `most`, as far as
+    /// they are steps of one message call. Returns how many it took.
     #[inline(always)]
-    fn advance(&mut self, cpu: CpuId)
+    fn advance(&mut self, cpu: CpuId, most: usize) -> usize
         requires exists { cpu.0 < length self.old.cpus }
         requires live { reason_of cpu self.old ≡ None }
-        ensures counted { self.new.taken ≡ self.old.taken + 1 }
+        requires some { 0 < most }
+        requires room { self.old.taken + most ≤ self.old.room }
+        ensures some { 0 < result }
+        ensures few { result ≤ most }
+        ensures counted { self.new.taken ≡ self.old.taken + result }
         ensures plan { SamePlan self.old self.new }
-        ensures steps { I.IsStepwise → SteppedByTable cpu self.old self.new Stepped }
+        ensures one { I.IsStepwise → result ≡ 1 → SteppedByTable cpu self.old self.new Stepped }
+        ensures ran { Ran I.IsStepwise self.old (replicate result cpu) self.new }
+        ensures table { I.IsStepwise → RanByTable self.old (replicate result cpu) self.new }
     {
-        self.taken += 1;
         let at = &mut self.cpus[usize::from(cpu.0)];
-        at.go(&mut self.machine);
+        let steps = at.go(&mut self.machine, most);
+        self.taken += steps as u64;
+        steps
     }
 
     /// Takes one step of each CPU in `steps`, in their order. The steps of halted CPUs do nothing.
@@ -203,11 +214,103 @@ where
             self.holds();
             return Err(BadCpu);
         }
-        for cpu in steps {
-            let _ = self.step(*cpu);
+        let mut at = 0;
+        while at < steps.len() {
+            at += self.turn(&steps[at..]);
         }
         self.holds();
         Ok(())
+    }
+
+    /// Takes the turn at the front of `steps`: the first step, and those behind it of the same CPU.
+    /// Returns how many they are.
+    ///
+    /// Requires: there is a step, and the system has a CPU of each number.
+    #[inline(always)]
+    fn turn(&mut self, steps: &[CpuId]) -> usize
+        requires some { 0 < length steps.now }
+        requires known { All (λ c. c.0 < length self.old.cpus) steps.now }
+        ensures some { 0 < result }
+        ensures few { result ≤ length steps.now }
+        ensures plan { SamePlan self.old self.new }
+        ensures ran { Ran I.IsStepwise self.old (take result steps.now) self.new }
+        ensures table { I.IsStepwise → RanByTable self.old (take result steps.now) self.new }
+    {
+        let cpu = steps[0];
+        let own = steps_of(cpu, &steps[1..]) + 1;
+        let mut taken = 0;
+        while taken < own {
+            taken += self.stretch(cpu, &steps[taken..own]);
+        }
+        own
+    }
+
+    /// Takes the first of `steps`, which are steps of `cpu`, and with it those behind it that go on with
+    /// what it does: where it is a look at a lock, those that are looks and miss, and where it is a poll of
+    /// a message call, those of the same call. Returns how many it took.
+    ///
+    /// Requires: there is a step, and the system has a CPU of this number.
+    #[inline(always)]
+    fn stretch(&mut self, cpu: CpuId, steps: &[CpuId]) -> usize
+        requires some { 0 < length steps.now }
+        requires exists { cpu.0 < length self.old.cpus }
+        ensures some { 0 < result }
+        ensures few { result ≤ length steps.now }
+        ensures plan { SamePlan self.old self.new }
+        ensures ran { Ran I.IsStepwise self.old (replicate result cpu) self.new }
+        ensures table { I.IsStepwise → RanByTable self.old (replicate result cpu) self.new }
+    {
+        if self.looks(cpu) {
+            return self.spins(cpu, &steps[1..]) + 1;
+        }
+        if self.reason(cpu).is_some() {
+            return 1;
+        }
+        let most = self.in_room(steps.len());
+        self.advance(cpu, most)
+    }
+
+    /// How many of so many steps the system has room for.
+    #[inline(always)]
+    fn in_room(&self, steps: usize) -> usize
+        requires { 0 < steps }
+        ensures some { self.now.taken < self.now.room → 0 < result }
+        ensures few { result ≤ steps }
+        ensures room { self.now.taken + result ≤ self.now.room }
+    {
+        let room = self.room - self.taken;
+        if room < steps as u64 {
+            room as usize
+        } else {
+            steps
+        }
+    }
+
+    /// Takes at once the steps at the front of `steps` that are of `cpu`, where it waits at a lock,
+    /// as far as each is a look that misses. Returns how many it took.
+    ///
+    /// Requires: the system has a CPU of this number.
+    #[inline(always)]
+    fn spins(&mut self, cpu: CpuId, steps: &[CpuId]) -> usize
+        requires { cpu.0 < length self.old.cpus }
+        ensures few { BeginWith cpu result steps.now }
+        ensures plan { SamePlan self.old self.new }
+        ensures ran { Ran I.IsStepwise self.old (replicate result cpu) self.new }
+        ensures table { I.IsStepwise → RanByTable self.old (replicate result cpu) self.new }
+    {
+        if steps.is_empty() {
+            return 0;
+        }
+        if self.room - self.taken < steps.len() as u64 {
+            return 0;
+        }
+        let at = &self.cpus[usize::from(cpu.0)];
+        if !at.part.is_busy() {
+            return 0;
+        }
+        let looks = at.part.spin(&mut self.machine, steps);
+        self.taken += looks as u64;
+        looks
     }
 
     /// What `buffer` holds, front first. A block that a CPU has in its hands counts as it was when

@@ -79,8 +79,11 @@ fn cpus_at_boot<I: CallLayer<IpcLaw> + Drop>(
     let mut cpus = Vec::with_capacity(alloc, count)?;
     for number in 0..count {
         let guests = tables.remove(0);
-        let cpu = Cpu::at_boot(alloc, CpuId(number as u8), homes, buffers, guests, limit)?;
-        put_cpu(&mut cpus, cpu);
+        // A match and no `?`, which would move the CPU's many bytes three times more.
+        match Cpu::at_boot(alloc, CpuId(number as u8), homes, buffers, guests, limit) {
+            Ok(cpu) => put_cpu(&mut cpus, cpu),
+            Err(error) => return Err(error),
+        }
     }
     Ok(cpus)
 }

@@ -1,6 +1,6 @@
 use Rattle.std.proofs.Common.{refl, ◌∙◌, sym}
-use Rattle.cpu.proofs.{PassSteps.current_within, TableCalls.stopped_steps, CpuStates.valid_cpu, CpuOverLayer.laws_of, CpuOverLayer.layered, CpuOverLayer.runs_home}
-use Rattle.cpu.proofs.{CpuOverLayer.observed_cpu, CpuOverLayer.observed_outset, CpuOverLayer.left_alone}
+use Rattle.cpu.proofs.{PassSteps.current_within, TableCalls.stopped_steps, CallRuns.one_step, CpuStates.valid_cpu, CpuOverLayer.laws_of, CpuOverLayer.layered}
+use Rattle.cpu.proofs.{CpuOverLayer.observed_cpu, CpuOverLayer.observed_outset, CpuOverLayer.left_alone, CpuOverLayer.runs_home}
 use Rattle.cpu.proofs.cpus.Cpu.act.Goals as goal
 
 pub reason-requires : goal.reason-requires
@@ -19,3 +19,18 @@ returns-in-Some-clause-steps g c = λ step.
     let p = c.args.self.now in
     let cpu = layered (laws_of g.met.I.CallLayer) m p c.requires.fits c.requires.number c.requires.is c.requires.table in
     stopped_steps (observed_cpu cpu step) _ _ (observed_outset cpu step) c.in-Some.reason (sym (sym c.in-Some.is ∙ c.reason.ensures))
+
+pub returns-clause-fits : goal.returns-clause-fits
+returns-clause-fits g c = (one_step c.go.ensures.ran c.go.ensures.few).fits
+
+pub returns-clause-is : goal.returns-clause-is
+returns-clause-is g c = (one_step c.go.ensures.ran c.go.ensures.few).is
+
+pub returns-clause-leaves : goal.returns-clause-leaves
+returns-clause-leaves g c = (one_step c.go.ensures.ran c.go.ensures.few).leaves
+
+pub returns-clause-table : goal.returns-clause-table
+returns-clause-table g c = (one_step c.go.ensures.ran c.go.ensures.few).table
+
+pub returns-clause-steps : goal.returns-clause-steps
+returns-clause-steps g c = (one_step c.go.ensures.ran c.go.ensures.few).steps

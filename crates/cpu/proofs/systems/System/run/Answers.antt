@@ -1,27 +1,24 @@
-use Rattle.std.proofs.Common.{refl}
-use Rattle.cpu.specs.Systems.{starts}
-use Rattle.cpu.proofs.{ReachedSystems.ran_on, ReachedSystems.went_by, TableSystems.ran_more, TableSystems.same_plans, TableSystems.went_on}
+use Rattle.std.proofs.Common.{List, length, ap, ◌∙◌, subst, arith, length-drop}
+use Rattle.std.proofs.lemmas.List.{take_rest}
+use Rattle.event_log.specs.declared.ids.CpuId.{CpuId}
+use Rattle.cpu.proofs.Schedules.{Leads, leads_nowhere, leads_on, taken_on}
 use Rattle.cpu.proofs.systems.System.run.Goals as goal
 
-pub loop-cpu-init : goal.loop-cpu-init
-loop-cpu-init g c = record {
-  plan = record { caps = refl; homes = refl; programs = refl; count = refl; limits = refl; room = refl };
-  ran = starts;
-  table = λ step setup goes. refl;
-}
+pub loop-at-init : goal.loop-at-init
+loop-at-init g c = record { within = omega arith; leads = leads_nowhere g.I.CallLayer.IsStepwise c.args.self.now }
 
-pub loop-cpu-preserved : goal.loop-cpu-preserved
-loop-cpu-preserved g c =
-    let before = c.loop-cpu.invariant.plan in
-    let more = c.step.ensures.plan in
+pub loop-at-preserved : goal.loop-at-preserved
+loop-at-preserved g c =
+    let S = g.I.CallLayer.IsStepwise in
+    let all = c.args.steps.now in
+    let at = c.loop-at.at in
+    let e = c.turn-at.ensures in
+    let within = c.loop-at.invariant.within in
+    let few = e.few in
+    let left = ap (λ (l : List CpuId). length l) (take_rest all at) ∙ length-drop at all in
     record {
-      plan = same_plans before more;
-      ran = ran_more g.I.CallLayer.IsStepwise c.args.self.now c.loop-cpu.self c.step.new.self c.args.steps.now c.loop-cpu.cpu-index _ c.loop-cpu-test.true
-          c.loop-cpu.invariant.ran
-          (went_on g.I.CallLayer.IsStepwise _ c.loop-cpu.self c.step.new.self c.step.result c.step.ensures.answer c.step.ensures.still c.step.ensures.counted
-          c.step.ensures.steps);
-      table = λ step.
-          ran_on c.args.self.now c.loop-cpu.self c.step.new.self c.args.steps.now c.loop-cpu.cpu-index _ c.step.result c.loop-cpu-test.true before
-          (c.loop-cpu.invariant.table step)
-          (went_by g.I.CallLayer.IsStepwise _ c.loop-cpu.self c.step.new.self c.step.result step c.step.ensures.steps c.step.ensures.halts);
+      within = omega (arith, within, few, left);
+      leads = subst (λ (l : List CpuId). Leads S c.args.self.now l c.turn-at.new.self) (taken_on all at c.turn-at.result)
+          (leads_on S c.args.self.now c.loop-at.self c.turn-at.new.self _ _ c.loop-at.invariant.leads
+          (record { plan = e.plan; ran = e.ran; table = e.table }));
     }

@@ -1,10 +1,9 @@
-use Rattle.std.proofs.Common.{take}
-use Rattle.cpu.specs.{Sound.RanByTable, Systems.Ran, Systems.SamePlan}
+use Rattle.std.proofs.Common.{◌≤◌, ◌-◌, length, take}
+use Rattle.cpu.proofs.Schedules.{Leads}
 use Rattle.cpu.proofs.systems.System.run.Given as goal
 
-abbrev pub invariant-loop-cpu : goal.invariant-loop-cpu
-invariant-loop-cpu g l = record {
-  plan : SamePlan l.fn.self l.self;
-  ran : Ran g.I.CallLayer.IsStepwise l.fn.self (take l.cpu-index l.steps) l.self;
-  table : g.I.CallLayer.IsStepwise → RanByTable l.fn.self (take l.cpu-index l.steps) l.self;
-}
+abbrev pub invariant-loop-at : goal.invariant-loop-at
+invariant-loop-at g l = record { within : l.at ≤ length l.steps; leads : Leads g.I.CallLayer.IsStepwise l.fn.self (take l.at l.steps) l.self }
+
+abbrev pub decreases-loop-at : goal.decreases-loop-at
+decreases-loop-at g l = length l.steps - l.at
