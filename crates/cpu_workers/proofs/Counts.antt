@@ -1,9 +1,9 @@
 -- Facts on what workers that count did.
 use Rattle.std.proofs.Common.{◌≡◌, ◌≢◌, ℕ, zero, suc, ◌+◌, ◌*◌, ◌%◌, ◌^◌, ◌<◌, ◌≤◌, Bool, true, false, if◌then◌else◌, Option, None, Some, option_map, List, []}
-use Rattle.std.proofs.Common.{◌∷◌, ◌++◌, length, get_or, slice_get, All, refl, ap, sym, ◌∙◌, subst, length-append, ne_eqb, zero-add, mul-le-mul}
+use Rattle.std.proofs.Common.{◌∷◌, ◌++◌, length, get_or, slice_get, All, refl, ap, sym, ◌∙◌, subst, ne_eqb, zero-add, mul-le-mul}
 use Rattle.std.proofs.Common.{mod-eq_of_lt, lt_of_not-le, arith}
 use Rattle.std.proofs.lemmas.{Option.get_or_from_slice_get}
-use Rattle.table_machine.proofs.{Elements.last_got, Elements.longer_got, Fresh.length_new}
+use Rattle.table_machine.proofs.Fresh.{length_new}
 use Rattle.event_log.proofs.{Foreign.own_others, Same.same_cpu_self, Same.same_lock_self}
 use Rattle.event_log.specs.{declared.ids.TheConstants.CPUS, declared.ids.CpuId.CpuId, declared.ids.LockId.LockId, History.own_events, History.same_cpu}
 use Rattle.event_log.specs.{History.same_lock, History.AreOthers, declared.events.Event.Event, declared.events.Event.TheVariants.Draw}
@@ -12,11 +12,10 @@ use Rattle.event_log.specs.{WordsLog.frees, WordsLog.lock_phase, Sections.Sectio
 use Rattle.layer_traits.specs.{declared.edits.Mark.Mark, OneLock.opened, Protocol.section, WordsProtocol.edit_of, WordsProtocol.sections, BufferLaw.MayGoOn}
 use Rattle.table_machine.specs.SeatViews.{TableView, SeatView, site_of, new_seat_view, new_seat_views, Covers, IsOver, Closes}
 use Rattle.cpu_workers.specs.{declared.counting.AddOne.AddOne, declared.counting.TheConstants.NUMBER, Counts.counting, Counts.sections_at, Counts.made}
-use Rattle.cpu_workers.specs.{Counts.HasMade, Counts.AllHaveMade, Counts.IsFresh, Counts.IsNumberOfFrees, Reports.Both}
+use Rattle.cpu_workers.specs.{Counts.HasMade, Counts.AllHaveMade, Counts.IsNumberOfFrees}
 use mathlib.Core.Logic.{dite}
 use native.Mathlib.Decide.{ℕ_discrete, dec_le}
-use lib.ListN.{get_or-append}
-pub use Rattle.cpu_workers.proofs.Joining.{both_more, both_length, both_then, room_for}
+use Rattle.cpu_workers.proofs.{Joining.both_more, Joining.both_length, TableKeys.came_at}
 
 -- as many sections as Frees
 pub frees_are_sections : {M E : Type 0} (edit : M → E) (lock : LockId) (log : List (Event M)) → sections_at lock (sections_of edit log) ≡ frees lock log
@@ -180,29 +179,6 @@ own_sections c (Free d lock mark ∷ log) = go (same_cpu d c) (own_sections c lo
     go true same = ap (λ l. section d lock mark.edit ∷ l) same
     go false same = same
 
--- a list with one more, element by element
-both_last : {A B : Type 0} (Fits : A → B → Type 0) (xs : List A) (x : A) (ys : List B) → Both Fits (xs ++ x ∷ []) ys
-    → (front : List B) × (y : B) × (ys ≡ front ++ y ∷ []) × Both Fits xs front × Fits x y
-both_last Fits [] x [] all = absurd all
-both_last Fits [] x (y ∷ []) all = ([], y, refl, tt, all.0)
-both_last Fits [] x (y ∷ z ∷ ys) all = absurd all.1
-both_last Fits (w ∷ xs) x [] all = absurd all
-both_last Fits (w ∷ xs) x (y ∷ ys) all = let more = both_last Fits xs x ys all.1 in (y ∷ more.0, more.1, ap (λ l. y ∷ l) more.2, (all.0, more.3), more.4)
-
--- what came back for each key of a new table
-came_at : {E B : Type 0} (table_view : TableView B) (Fits : SeatView E B → SeatView E B → Type 0) (n : ℕ) (came : List (SeatView E B)) → Both Fits (new_seat_views table_view n) came
-    → (k : ℕ) → k < n → (e : SeatView E B) × (slice_get came k ≡ Some e) × Fits (new_seat_view table_view k) e
-came_at table_view Fits zero came all k below = absurd (omega arith)
-came_at {E = E} table_view Fits (suc n) came all k below =
-    let split = both_last Fits (new_seat_views table_view n) (new_seat_view table_view n) came all in
-    let long : length split.0 ≡ n = both_length Fits (new_seat_views table_view n) split.0 split.3 ∙ length_new E table_view n in
-    dite (ℕ_discrete k n)
-    (λ (e : k ≡ n). subst (λ (m : ℕ). (e : SeatView _ _) × (slice_get came m ≡ Some e) × Fits (new_seat_view table_view m) e) (sym e)
-    (split.1, ap (λ l. slice_get l n) split.2 ∙ last_got split.0 split.1 n long, split.4))
-    (λ (ne : k ≢ n). (
-    let old = came_at table_view Fits n split.0 split.3 k (omega arith) in
-    (old.0, ap (λ l. slice_get l k) split.2 ∙ longer_got split.0 (split.1 ∷ []) k old.0 old.1, old.2)))
-
 module _ {B : Type 0} {E : Type 0} (lock : LockId) (times : ℕ) (table_view : TableView B) (came : List (SeatView E B))
     (all : AllHaveMade lock (new_seat_views table_view table_view.cpus) came times) where
   -- each CPU has its key among those that came back
@@ -263,23 +239,6 @@ module _ (times : ℕ) (table_view : TableView ℕ) (came : List (SeatView AddOn
 
 pub number_read : (blocks : List (LockId × ℕ)) (n : ℕ) (o : LockId × ℕ) → slice_get blocks 0 ≡ Some (NUMBER, n) → o ≡ get_or blocks 0 o → o.1 ≡ n
 number_read blocks n o at is = ap (λ (p : LockId × ℕ). p.1) (is ∙ get_or_from_slice_get blocks 0 (NUMBER, n) o at)
-
--- the keys of a new table are fresh
-pub new_fresh : {E B : Type 0} (table_view : TableView B) (n : ℕ) → All (IsFresh {E = E} table_view) (new_seat_views table_view n)
-new_fresh table_view zero k d below = absurd (omega arith)
-new_fresh {E = E} table_view (suc n) k d below = dite (ℕ_discrete k n)
-    (λ (e : k ≡ n).
-    let last : slice_get (new_seat_views {E = E} table_view n ++ new_seat_view table_view n ∷ []) k ≡ Some (new_seat_view table_view n)
-    = ap (λ m. slice_get (new_seat_views {E = E} table_view n ++ new_seat_view table_view n ∷ []) m) e
-    ∙ last_got (new_seat_views table_view n) (new_seat_view table_view n) n (length_new E table_view n) in
-    subst (λ (x : SeatView _ _). IsFresh table_view x)
-    (sym (get_or_from_slice_get (new_seat_views table_view n ++ new_seat_view table_view n ∷ []) k (new_seat_view table_view n) d last)) refl)
-    (λ (ne : k ≢ n).
-    let long : length (new_seat_views {E = E} table_view n ++ new_seat_view table_view n ∷ []) ≡ n + 1
-    = length-append (new_seat_views {E = E} table_view n) (new_seat_view table_view n ∷ []) ∙ ap (λ m. m + 1) (length_new E table_view n) in
-    let under : k < n = omega arith in
-    let there : k < length (new_seat_views {E = E} table_view n) = subst (λ m. k < m) (sym (length_new E table_view n)) under in
-    subst (λ (x : SeatView _ _). IsFresh table_view x) (sym (get_or-append (new_seat_views table_view n) (new_seat_view table_view n ∷ []) d k there)) (new_fresh table_view n k d there))
 
 -- the keys of a new table have made no section
 pub new_have_made_none : (E : Type 0) {B : Type 0} (lock : LockId) (table_view : TableView B) (n : ℕ)

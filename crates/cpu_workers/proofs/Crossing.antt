@@ -4,7 +4,7 @@ use denote.Enum.Declared.{shape}
 use denote.Ref.{NamedLft}
 use denote.Hole.{as_row}
 use denote.Param.SendFields.{declared_send}
-use denote.Param.Send.{IsSend, IsSync, sendable, enum_send, enum_sync, recorded_send, recorded_sync, view_send}
+use denote.Param.Send.{IsSend, IsSync, sendable, array_send, enum_send, enum_sync, recorded_send, recorded_sync, view_send}
 use Rattle.std.proofs.Crossing.{crosses}
 use Rattle.layer_traits.specs.Payloads.{buffer_meant, buffer_told, cv_meant, cv_told, lock_told, queue_meant, queue_told}
 use Rattle.queuing_lock.specs.Nested.{section_meant}
@@ -19,7 +19,13 @@ use Rattle.layer_traits.proofs.locked.QOut.TheSendSync as lock_out_crosses
 use Rattle.layer_traits.proofs.sleeps.Outcome.TheSendSync as outcome_crosses
 use Rattle.layer_traits.proofs.payloads.Parcel.TheSendSync as parcel_crosses
 use Rattle.layer_traits.proofs.payloads.Payload.TheSendSync as payload_crosses
-use Rattle.fifo_buffer.proofs.call_state_table.CallStates.TheSendSync as call_states_crosses
+use Rattle.std.specs.contracts.option.Option as option
+use Rattle.event_log.specs.declared.ids.TheConstants.{THREADS}
+use Rattle.layer_traits.specs.contracts.calls.Call as call
+use Rattle.layer_traits.specs.contracts.call_states.CallState as call_state
+use Rattle.layer_traits.proofs.call_states.Stage.TheSendSync as stage_crosses
+use Rattle.layer_traits.proofs.calls.Effect.TheSendSync as effect_crosses
+use Rattle.fifo_buffer.specs.contracts.call_state_table.CallStates as call_states
 use Rattle.layer_traits.specs.contracts.payloads.Ghost as ghost_of
 use Rattle.sleep_wakeup.proofs.edits.SleepBlock.TheSendSync as sleep_block
 use Rattle.queuing_lock.proofs.edits.QBlock.TheSendSync as lock_block
@@ -49,8 +55,8 @@ use Rattle.layer_traits.specs.contracts.buffer_edits.BareBufferOut as bare_out
 use Rattle.sleep_wakeup.specs.contracts.deferred.DeferredOutcome as deferred
 use Rattle.sleep_wakeup.specs.contracts.sleeper.Sleeper as sleeper
 use Rattle.fifo_buffer.specs.contracts.fifo.Fifo as fifo
-use Rattle.cpu_workers.specs.contracts.seats.TowerSeat as seat
-use Rattle.cpu_workers.specs.contracts.seats.TowerSeat.TheInside as inside
+use Rattle.cpu_workers.specs.contracts.workers.seats.TowerSeat as seat
+use Rattle.cpu_workers.specs.contracts.workers.seats.TowerSeat.TheInside as inside
 
 deferred_send : (E A : RattleType) → IsSend A → IsSend (deferred.the_row E A)
 deferred_send E A s = declared_send (deferred.the_type E A)
@@ -74,10 +80,20 @@ tower_sleeper_send S s = sleeper_send (lock_edit_of buffer_edit_row.the_row) S (
     (lock_out_of buffer_out.the_row) (lock_edit_of bare_edit_row.the_row) (lock_out_of bare_out.the_row) s
     (lock_out_crosses.the_send _ (cv_out_crosses.the_send _ bare_out_crosses.the_send))
 
+-- a thread's call is meant, and has no bytes: so its state goes from thread to thread, and so does the table of them
+call_state_send : IsSend call_state.the_row
+call_state_send = declared_send call_state.the_type (
+  stage_crosses.the_send,
+  (ghost_send (option.the_row call.the_row), (search (sendable, crosses), (search (sendable, crosses, effect_crosses.the_send) depth 9, tt))),
+)
+
+call_states_send : IsSend call_states.the_row
+call_states_send = declared_send call_states.the_type (array_send call_state.the_row THREADS call_state_send, tt)
+
 -- and so does a part of the buffers, over conditions that do: whose call is under way is meant, and has no bytes
 pub fifo_send : (C : RattleType) → IsSend C → IsSend (fifo.the_row C)
 fifo_send C s = declared_send (fifo.the_type C)
-    (search (sendable, crosses), (call_states_crosses.the_send, (search (sendable, crosses, ghost_send) depth 9, (payload_crosses.the_send, tt))))
+    (search (sendable, crosses), (call_states_send, (search (sendable, crosses, ghost_send) depth 9, (payload_crosses.the_send, tt))))
 
 field_send : (B : RattleType) → IsSend B → IsSend (block.the_field B).row
 field_send B s = enum_send (shape (block.the_type B))

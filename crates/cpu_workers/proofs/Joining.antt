@@ -1,6 +1,8 @@
 -- Lists whose elements belong together, and loops over them.
 use Rattle.std.proofs.Common.{◌≡◌, ℕ, zero, suc, ◌+◌, ◌<◌, ◌≤◌, List, [], ◌∷◌, ◌++◌, length, map, All, refl, ap, sym, ◌∙◌, subst, length-append, arith}
-use Rattle.std.specs.Prelude.{Result, Err, MatchResult}
+use Rattle.std.specs.Prelude.{Result, Err, MatchResult, Some, slice_get}
+use Rattle.std.proofs.lemmas.Option.{get_or_from_slice_get}
+use Rattle.event_log.proofs.ListLemmas.{there_is}
 use Rattle.cpu_workers.specs.Reports.{Both}
 pub use Rattle.table_machine.proofs.Returning.{all_tail, no_more, yield_more}
 
@@ -22,12 +24,7 @@ module _ {A B : Type 0} (f : A → B) where
   map_more [] x = refl
   map_more (w ∷ xs) x = ap (λ l. f w ∷ l) (map_more xs x)
 
-  -- one more of what such a list is of
-  pub mapped_more : (ys ys' : List B) (xs : List A) (x : A) (y : B) → ys ≡ map f xs → ys' ≡ ys ++ y ∷ [] → y ≡ f x → ys' ≡ map f (xs ++ x ∷ [])
-  mapped_more ys ys' xs x y is more same =
-      more ∙ (ap (λ (l : List B). l ++ y ∷ []) is ∙ (ap (λ (z : B). map f xs ++ z ∷ []) same ∙ sym (map_more xs x)))
-
-  -- and of what a list is to such a one
+  -- one more of a list that is to be such a one
   pub map_grows : (xs xs' : List A) (ys : List B) (x : A) (y : B) → map f xs ≡ ys → xs' ≡ xs ++ x ∷ [] → f x ≡ y → map f xs' ≡ ys ++ y ∷ []
   map_grows xs xs' ys x y is more same =
       ap (λ (l : List A). map f l) more ∙ (map_more xs x ∙ (ap (λ (l : List B). l ++ f x ∷ []) is ∙ ap (λ (z : B). ys ++ z ∷ []) same))
@@ -68,6 +65,27 @@ module _ {A : Type 0} where
   all_more : (P : A → Type 0) (x : A) (xs : List A) → P x → All P xs → All P (x ∷ xs)
   all_more P x xs one all zero d below = one
   all_more P x xs one all (suc k) d below = all k d (omega arith)
+
+-- what belongs to the element at this number
+pub both_back : {A B : Type 0} (Fits : A → B → Type 0) (xs : List A) (ys : List B) → Both Fits xs ys → (k : ℕ) (y : B) → slice_get ys k ≡ Some y
+    → (x : A) × (slice_get xs k ≡ Some x) × Fits x y
+both_back Fits [] [] all k y at = absurd (cc at)
+both_back Fits [] (z ∷ ys) all k y at = absurd all
+both_back Fits (x ∷ xs) [] all k y at = absurd all
+both_back Fits (x ∷ xs) (z ∷ ys) all zero y at = let same : z ≡ y = cc at in (x, refl, subst (λ w. Fits x w) same all.0)
+both_back Fits (x ∷ xs) (z ∷ ys) all (suc k) y at = both_back Fits xs ys all.1 k y at
+
+-- what is found in a list stands within it
+pub found_within : {X : Type 0} (xs : List X) (k : ℕ) (x : X) → slice_get xs k ≡ Some x → k < length xs
+found_within [] k x at = absurd (cc at)
+found_within (y ∷ xs) zero x at = omega arith
+found_within (y ∷ xs) (suc k) x at = let before = found_within xs k x at in omega (arith, before)
+
+-- what holds of each by its number holds of all
+pub all_by_number : {X : Type 0} (P : X → Type 0) (xs : List X) → ((k : ℕ) (x : X) → slice_get xs k ≡ Some x → P x) → All P xs
+all_by_number P xs each k d below =
+    let there = there_is xs k below in
+    subst P (sym (get_or_from_slice_get xs k there.0 d there.1)) (each k there.0 there.1)
 
 -- what holds of each of a list, and goes over to what belongs to it, holds of each of those
 pub both_all : {A B : Type 0} (Fits : A → B → Type 0) (P : A → Type 0) (Q : B → Type 0) → ((a : A) (b : B) → Fits a b → P a → Q b) → (xs : List A) (ys : List B)

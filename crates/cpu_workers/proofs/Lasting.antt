@@ -7,8 +7,8 @@ use Rattle.cpu.specs.{Table.Setups.home_threads, Table.Setups.stands_at, Table.S
 use Rattle.cpu.specs.{Table.Choice.at_current, Table.Choice.at_hand, Table.Choice.at_instruction, Table.Choice.at_ready, Table.Steps.AlongTable}
 use Rattle.cpu.specs.{Table.Steps.cpu_step, Table.Steps.halted_at, Table.Steps.halted_by, Wakeups.Lost.Ran}
 use Rattle.cpu.proofs.Wakeups.CpusByTable.{cpus_lose_no_wake_up}
-use Rattle.cpu_workers.specs.{declared.stops.Stop.TheVariants.AllEnded, declared.stops.Stop.TheVariants.TurnsUsed, declared.stops.Stop.TheVariants.TraceFull}
-use Rattle.cpu_workers.specs.{declared.stops.Stop.TheVariants.Held, Laws.HasWorked, Laws.StopsAreTrue, Laws.WorkersLoseNoWakeUp}
+use Rattle.cpu_workers.specs.declared.workers.stops.Stop.TheVariants.{AllEnded, TurnsUsed, TraceFull, Held}
+use Rattle.cpu_workers.specs.Laws.{HasWorked, StopsAreTrue, WorkersLoseNoWakeUp}
 use Rattle.cpu_workers.proofs.Turning.{along_others}
 use Rattle.guest.specs.declared.instructions.Instruction.TheVariants as ins
 use Rattle.layer_traits.specs.declared.steps.Reason.TheVariants as reason

@@ -1,6 +1,8 @@
 pub mod Turning
 pub mod Planning
 pub mod Joining
+pub mod Filling
+pub mod TableKeys
 pub mod Lasting
 pub mod OneOrder
 pub mod ClosedLog

@@ -7,10 +7,10 @@ use Rattle.event_log.specs.{declared.ids.CpuId.CpuId, declared.ids.TheConstants.
 use Rattle.event_log.specs.{Buffers.IsCapacity}
 use Rattle.layer_traits.specs.{OnePlace.cpu_at, Openings.AreOpenable, Plans.is_in_section}
 use Rattle.cpu.specs.{Claims.listed, Tower.Views.TowerName}
-use Rattle.cpu.proofs.{ListReads.listed_length, ListReads.there_is, PlanGuests.listed_more}
+use Rattle.cpu.proofs.{ListReads.listed_length, PlanGuests.listed_more}
 use Rattle.cpu_workers.specs.{Callers.CallerView, Natives.HasKept, Natives.HasLeftCalls, Natives.HasLeftMachine, Natives.IsNewCaller, Natives.own_homes}
 use Rattle.cpu_workers.specs.{Orders.IsTraceOf}
-use Rattle.cpu_workers.proofs.Seated.{found_within}
+use Rattle.cpu_workers.proofs.{Joining.all_by_number, Joining.found_within}
 
 -- what holds of all holds of the one at this place
 pub all_at : {X : Type 0} (P : X → Type 0) (xs : List X) (k : ℕ) (x : X) → All P xs → slice_get xs k ≡ Some x → P x
@@ -21,12 +21,10 @@ pub all_ready : {N T : Type 0} (Needs : N → List ℕ → Type 0) (caller : T �
     → All (λ n. Needs n caps) natives
     → ((k : ℕ) (t : T) → slice_get tasks k ≡ Some t → IsNewCaller caps (cpu_at k) (caller t) × (slice_get natives k ≡ Some (native t)))
     → All (λ t. ((caller t).calls ≡ []) × Needs (native t) (caller t).caps) tasks
-all_ready Needs caller native caps natives tasks needs each k d within =
-    let there = there_is tasks k within in
-    let t = there.0 in
-    let new = each k t there.1 in
-    subst (λ x. ((caller x).calls ≡ []) × Needs (native x) (caller x).caps) (sym (get_or_from_slice_get tasks k t d there.1))
-    (new.0.fresh, subst (λ (l : List ℕ). Needs (native t) l) (sym new.0.caps_are) (all_at (λ n. Needs n caps) natives k (native t) needs new.1))
+all_ready Needs caller native caps natives tasks needs each = all_by_number (λ t. ((caller t).calls ≡ []) × Needs (native t) (caller t).caps) tasks
+    (λ k t at.
+    let new = each k t at in
+    (new.0.fresh, subst (λ (l : List ℕ). Needs (native t) l) (sym new.0.caps_are) (all_at (λ n. Needs n caps) natives k (native t) needs new.1)))
 
 -- a native that ran from a new caller leaves its calls
 pub calls_so : {N : Type 0} (Kept : N → N → CallerView → Type 0) (caps : List ℕ) (c : CpuId) (n first last after : N) (new done : CallerView)

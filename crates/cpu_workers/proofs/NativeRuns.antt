@@ -7,9 +7,9 @@ use Rattle.layer_traits.specs.{OneLock.opened, OnePlace.cpu_at}
 use Rattle.table_machine.specs.SeatViews.{Closes, TableView}
 use Rattle.cpu.specs.Table.Setups.{Setup}
 use Rattle.cpu.proofs.ListReads.{shows_at, there_is}
-use Rattle.cpu_workers.specs.{declared.callers.TheConstants.MOST_CALLS, Callers.CallerView, Closing.Key, Closing.StartsSo, Closing.acts_in, Closing.tower_rules}
-use Rattle.cpu_workers.specs.{Natives.HasLeftKey, Natives.HaveLeftKeys, Natives.HaveRun, Natives.OpensWith, Natives.left_of, Natives.own_homes}
-use Rattle.cpu_workers.specs.{Orders.IsTraceOf, Seating.Block}
+use Rattle.cpu_workers.specs.{declared.workers.callers.TheConstants.MOST_CALLS, Callers.CallerView, Closing.Key, Closing.StartsSo, Closing.acts_in}
+use Rattle.cpu_workers.specs.{Closing.tower_rules, Natives.HasLeftKey, Natives.HaveLeftKeys, Natives.HaveRun, Natives.OpensWith, Natives.left_of}
+use Rattle.cpu_workers.specs.{Natives.own_homes, Orders.IsTraceOf, Seating.Block}
 use Rattle.cpu_workers.proofs.NativeOrder.{HasCome, calls_ordered}
 
 -- One of each.

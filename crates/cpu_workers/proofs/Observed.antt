@@ -6,7 +6,7 @@ use Rattle.event_log.specs.{declared.entries.Entry.Entry, declared.ids.CpuId.Cpu
 use Rattle.event_log.specs.{declared.ids.TheConstants.ENTRIES, declared.ids.TheConstants.TRACE, Actions.Action}
 use Rattle.layer_traits.specs.OneLock.{opened}
 use Rattle.cpu.specs.{Sound.setup_for, Tower.Views.TowerName}
-use Rattle.cpu_workers.specs.{declared.gates.Go.Go, declared.stops.Stop.Stop, Closing.HasSeen, Closing.acts_in, Closing.shown}
+use Rattle.cpu_workers.specs.{declared.workers.gates.Go.Go, declared.workers.stops.Stop.Stop, Closing.HasSeen, Closing.acts_in, Closing.shown}
 use Rattle.cpu_workers.specs.{Lawful.CpuReport, Logs.HasWords, Seating.Block, Seating.HasLeft, Seating.IsReportOf}
 use Rattle.cpu_workers.proofs.Reporting.{has_seen, of_words}
 

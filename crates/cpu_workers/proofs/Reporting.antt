@@ -16,12 +16,13 @@ use Rattle.cpu.specs.{Claims.buffer_at, Claims.listed, Cpus.IsOfHome, Cpus.of_th
 use Rattle.cpu.specs.{Table.Setups.at_boot, Table.Setups.program_of, Table.Setups.thread_at, Table.Steps.cpu_step, Table.Steps.halted_at, Tower.Composed.named}
 use Rattle.cpu.specs.{Tower.Views.TowerName, Tower.Views.name_of, Wakeups.Lost.IsWorked}
 use Rattle.cpu.proofs.{TableQuiet.ended_at, Wakeups.CpusByTable.cpus_lose_no_wake_up}
-use Rattle.cpu_workers.specs.{declared.gates.Go.Go, declared.gates.Go.TheVariants.Limit, declared.gates.Go.TheVariants.Pass, declared.stops.Stop.Stop}
-use Rattle.cpu_workers.specs.{Lawful.AreLeft, Lawful.HasGone, Lawful.IsLawfulReport, Lawful.IsCpuReportOf, Lawful.IsReport, Lawful.CpuReport, Lawful.Shown}
-use Rattle.cpu_workers.specs.{Lawful.ReportsTrue, Lawful.left_in, Lawful.messages_in, Logs.IsReportOfWords, Orders.FollowsProgram, Orders.HasFollowed, Orders.IsTraceOf}
-use Rattle.cpu_workers.specs.{Orders.effects_of, Reports.HasRun, Reports.IsTrueStop, Reports.MayTake, Reports.Took, Reports.TookWithin, Reports.WasHeld}
-use Rattle.cpu_workers.specs.{Reports.PassedAtEach, Reports.AskedAtEach, Reports.WentBy, Reports.Within, Reports.below, Working.Charge, Working.IsPlanned, Working.Working}
-use Rattle.cpu_workers.specs.Closing.{HasSeen, HaveCome, IsReported, Key, LockBlock, ReportsAreLawful, StartsSo, WordsOfTower, acts_in, tower_rules}
+use Rattle.cpu_workers.specs.{declared.workers.gates.Go.Go, declared.workers.gates.Go.TheVariants.Limit, declared.workers.gates.Go.TheVariants.Pass}
+use Rattle.cpu_workers.specs.{declared.workers.stops.Stop.Stop, Lawful.AreLeft, Lawful.HasGone, Lawful.IsLawfulReport, Lawful.IsCpuReportOf, Lawful.IsReport}
+use Rattle.cpu_workers.specs.{Lawful.CpuReport, Lawful.Shown, Lawful.ReportsTrue, Lawful.left_in, Lawful.messages_in, Logs.IsReportOfWords}
+use Rattle.cpu_workers.specs.{Orders.FollowsProgram, Orders.HasFollowed, Orders.IsTraceOf, Orders.effects_of, Working.Charge, Working.IsPlanned}
+use Rattle.cpu_workers.specs.{Working.Working, Closing.HasSeen, Closing.HaveCome, Closing.IsReported, Closing.Key, Closing.LockBlock, Closing.ReportsAreLawful}
+use Rattle.cpu_workers.specs.{Closing.StartsSo, Closing.WordsOfTower, Closing.acts_in, Closing.tower_rules}
+use Rattle.cpu_workers.specs.Reports.{HasRun, IsTrueStop, MayTake, Took, TookWithin, WasHeld, PassedAtEach, AskedAtEach, WentBy, Within, below}
 use Rattle.cpu_workers.proofs.{ClosedLog.acts_legal, ClosedLog.buffers_left, ClosedLog.effects_may, ClosedLog.messages_left, ClosedLog.queues_left}
 use Rattle.cpu_workers.proofs.{Lasting.all_ended, OneOrder.HasOrder, OneOrder.one_order, OneOrder.trace_in, Turning.along_others, Turning.within_others}
 use Rattle.layer_traits.specs.declared.steps.Reason.TheVariants as reason

@@ -1,5 +1,5 @@
 -- The workers of a plan at one table of words: what each leaves there, and that the table may be closed.
-use Rattle.std.proofs.Common.{◌≡◌, ℕ, zero, suc, ◌+◌, ◌<◌, ◌≤◌, true, false, All, List, [], length, map, drop, get_or, Some, None, refl, ap, sym, ◌∙◌, subst}
+use Rattle.std.proofs.Common.{◌≡◌, ℕ, ◌+◌, ◌<◌, ◌≤◌, true, false, All, List, [], length, map, drop, get_or, Option, Some, None, refl, ap, sym, ◌∙◌, subst}
 use Rattle.std.specs.Prelude.{IfOk, Result, Ok, Err, slice_get, if◌then◌else◌}
 use Rattle.std.proofs.lemmas.{List.length-map, List.drop_all, Option.get_or_from_slice_get}
 use Rattle.atomic_table.specs.Seated.{TableId}
@@ -12,36 +12,23 @@ use Rattle.layer_traits.specs.{OneLock.opened, OnePlace.cpu_at, Plans.is_in_sect
 use Rattle.queuing_lock.specs.Nested.{edit_in as lock_call}
 use Rattle.sleep_wakeup.specs.Nested.{edit_in as slept_edit}
 use Rattle.spinlock.specs.Laws.LineLaws.{rests_outside}
-use Rattle.table_machine.specs.SeatViews.{TableView, Covers, SeatView, IsOf, IsOver, new_seat_view, new_seat_views, site_of}
-use Rattle.table_machine.proofs.Fresh.{length_new}
+use Rattle.table_machine.specs.SeatViews.{TableView, Covers, IsOver, new_seat_view, new_seat_views, site_of}
 use Rattle.cpu.specs.Tower.{Composed.named, Views.TowerName, Views.name_of}
-use Rattle.cpu.proofs.{InvariantAtBoot.at_end, ListReads.shows_at, ListReads.there_is}
-use Rattle.cpu_workers.specs.{declared.seating.Left.Left, declared.gates.Go.Go, declared.stops.Stop.Stop, Closing.Key, Closing.tower_rules, Seating.Block}
-use Rattle.cpu_workers.specs.{Seating.Edit, Seating.HasLeft, Seating.HaveLeft, Seating.IsReady, Seating.OpensPlan, Seating.tower_acts}
+use Rattle.cpu.proofs.ListReads.{shows_at, there_is}
+use Rattle.cpu_workers.specs.{declared.workers.seating.Left.Left, declared.workers.gates.Go.Go, declared.workers.stops.Stop.Stop, Closing.Key}
+use Rattle.cpu_workers.specs.{Closing.tower_rules, Seating.Block, Seating.Edit, Seating.HasLeft, Seating.HaveLeft, Seating.IsReady, Seating.tower_acts}
+use Rattle.cpu_workers.proofs.TableKeys.{as_many, seat_views_at}
 
--- The keys of a new table.
-
-pub seat_views_at : {E B : Type 0} (table_view : TableView B) (n k : ℕ) (d : SeatView E B) → slice_get (new_seat_views table_view n) k ≡ Some d → d ≡ new_seat_view table_view k
-seat_views_at table_view zero k d at = absurd (cc at)
-seat_views_at {E} table_view (suc n) k d at =
-    at_end (λ j (e : SeatView _ _). e ≡ new_seat_view table_view j) (new_seat_views table_view n) (new_seat_view table_view n) (seat_views_at table_view n)
-    (ap (λ j. new_seat_view table_view j) (sym (length_new E table_view n))) k d at
-
-pub seat_views_are_of : {E B : Type 0} (table_view : TableView B) (n : ℕ) → All (IsOf {E = E} table_view) (new_seat_views table_view n)
-seat_views_are_of {E} table_view n k d within =
-    let there = there_is (new_seat_views {E = E} table_view n) k within in
-    let is = seat_views_at table_view n k there.0 there.1 in
-    subst (λ (x : SeatView _ _). IsOf table_view x) (sym (get_or_from_slice_get (new_seat_views table_view n) k there.0 d there.1))
-    (subst (λ (x : SeatView _ _). IsOf table_view x) (sym is) (refl, refl))
-
--- such a key is one for a worker before its first turn, however the machine tells its actions and that a CPU is outside
-pub ready_at : (plan : BootPlan) (table_view : TableView Block) (k : ℕ) (key : Key) (IsOutside : Key → Type 0) (acts : Key → List (Action Edit))
-    → IsOutside (new_seat_view table_view k) → acts (new_seat_view table_view k) ≡ [] → key ≡ new_seat_view table_view k → OpensPlan plan (opened table_view.start)
+-- a new key is one for a CPU before its first action, however the machine tells its actions and that a CPU is outside
+pub ready_at : (Opens : (LockId → Option Block) → Type 0) (table_view : TableView Block) (n : ℕ) (IsOutside : Key → Type 0) (acts : Key → List (Action Edit))
+    {seats : List Key} → seats ≡ new_seat_views table_view n → (k : ℕ) (key : Key) → slice_get seats k ≡ Some key → IsOutside (new_seat_view table_view k)
+    → acts (new_seat_view table_view k) ≡ [] → Opens (opened table_view.start)
     → IsReady ((cpu_at k ≡ key.cpu) × IsLawful (MayCome (tower_rules.allowed (opened key.start))) key.seen) (IsOutside key)
-    (sections_in (acts key) ≡ []) (acts key ≡ []) (OpensPlan plan (opened key.start))
-ready_at plan table_view k key IsOutside acts outside none is opens =
+    (sections_in (acts key) ≡ []) (acts key ≡ []) (Opens (opened key.start))
+ready_at Opens table_view n IsOutside acts new k key at outside none opens =
     subst (λ (x : Key). IsReady ((cpu_at k ≡ x.cpu) × IsLawful (MayCome (tower_rules.allowed (opened x.start))) x.seen) (IsOutside x)
-    (sections_in (acts x) ≡ []) (acts x ≡ []) (OpensPlan plan (opened x.start))) (sym is)
+    (sections_in (acts x) ≡ []) (acts x ≡ []) (Opens (opened x.start)))
+    (sym (seat_views_at table_view n k key (subst (λ (l : List Key). slice_get l k ≡ Some key) new at)))
     (record { acts = (refl, tt); rests = outside; unseen = ap sections_in none; idle = none; opens = opens })
 
 -- What is left.
@@ -62,21 +49,50 @@ rests_so Rests none = refl
 rests_so (Waits lock) none = absurd (cc none)
 rests_so (Holds lock) none = absurd (cc none)
 
--- a worker that has stopped is outside all locks
-stopped : (plan : BootPlan) (May : CpuId → Go → ℕ → Type 0) (turns : ℕ) (c : CpuId) (acts : List (Action Edit)) (site : List ℕ) (trace : List Entry)
-    (taken : ℕ) (stop : Stop) → HasLeft plan May turns c (tower_acts acts) site trace taken stop → phase c acts ≡ Rests
-stopped plan May turns c acts site trace taken stop left =
+-- a CPU whose sections are over, as the tower tells them, is outside all locks
+pub outside_now : (c : CpuId) (key : Key) → is_in_section (phase c (tower_acts (acts_of edit_of key.seen))) ≡ false → lock_phase c key.seen ≡ Idle
+outside_now c key over =
+    let acts = acts_of edit_of key.seen in
     let once = map (renamed (renamed_edit slept_edit)) acts in
-    rests_so (phase c acts)
-    (ap is_in_section
-    (sym (phase_renamed name_of c (tower_acts acts) ∙ (phase_renamed (renamed_edit lock_call) c once ∙ phase_renamed (renamed_edit slept_edit) c acts)))
-    ∙ ap (λ (l : List (Action TowerName)). is_in_section (phase c (named l))) left.apart.acts_are
-    ∙ ap (λ (d : CpuId). is_in_section (phase d (named left.last.acts))) (sym (left.ran.same.cpu ∙ left.at_boot.cpu_is))
-    ∙ left.ran.rests)
+    (rests_outside key.seen c).1 (rests_so (phase c acts)
+    (ap is_in_section (sym (phase_renamed (renamed_edit lock_call) c once ∙ phase_renamed (renamed_edit slept_edit) c acts)) ∙ over))
+
+-- so is a worker that has stopped
+stopped : (plan : BootPlan) (May : CpuId → Go → ℕ → Type 0) (turns : ℕ) (c : CpuId) (acts : List (Action TowerName)) (site : List ℕ) (trace : List Entry)
+    (taken : ℕ) (stop : Stop) → HasLeft plan May turns c acts site trace taken stop → is_in_section (phase c acts) ≡ false
+stopped plan May turns c acts site trace taken stop left =
+    ap is_in_section (sym (phase_renamed name_of c acts)) ∙ ap (λ (l : List (Action TowerName)). is_in_section (phase c (named l))) left.apart.acts_are
+    ∙ ap (λ (d : CpuId). is_in_section (phase d (named left.last.acts))) (sym (left.ran.same.cpu ∙ left.at_boot.cpu_is)) ∙ left.ran.rests
 
 -- what a seat has seen is lawful, and so its actions are those of the words log, whatever words it tells
 abbrev pub SameActs : (Key → List (Action Edit)) → Type 0
 SameActs acts = (key : Key) → IsLawful (MayCome (tower_rules.allowed (opened key.start))) key.seen → acts key ≡ acts_of edit_of key.seen
+
+module _ {X : Type 0} (table_view : TableView Block) (left : List X) (machine : X → Key) (acts : Key → List (Action Edit)) (same : SameActs acts) where
+  -- what was left at this seat of a new table: its key is the CPU's, and it is over where the CPU's sections are
+  pub left_at : (n : ℕ) (seats : List Key) → seats ≡ new_seat_views table_view n → length left ≡ length seats
+      → ((k : ℕ) (x : X) (m : Key) → slice_get left k ≡ Some x → slice_get seats k ≡ Some m → site_of (machine x).table ≡ site_of m.table)
+      → ((k : ℕ) (x : X) → slice_get left k ≡ Some x
+      → (cpu_at k ≡ (machine x).cpu) × IsLawful (MayCome (tower_rules.allowed (opened (machine x).start))) (machine x).seen)
+      → (k : ℕ) → k < n → (x : X) × (slice_get left k ≡ Some x) × ((machine x).cpu ≡ cpu_at k)
+      × (acts (machine x) ≡ acts_of edit_of (machine x).seen)
+      × (is_in_section (phase (cpu_at k) (tower_acts (acts_of edit_of (machine x).seen))) ≡ false → IsOver table_view (machine x))
+  left_at n seats new count site owns k below =
+      let there = there_is left k (subst (λ m. k < m) (sym (count ∙ as_many table_view n new)) below) in
+      let x = there.0 in
+      let seat = there_is seats k (subst (λ m. k < m) (sym (as_many table_view n new)) below) in
+      let is : seat.0 ≡ new_seat_view table_view k = seat_views_at table_view n k seat.0 (subst (λ (l : List Key). slice_get l k ≡ Some seat.0) new seat.1) in
+      let own = owns k x there.1 in
+      let cpu : (machine x).cpu ≡ cpu_at k = sym own.0 in (
+        x,
+        there.1,
+        cpu,
+        same (machine x) own.1,
+        λ over. record {
+          table = one_site (machine x).table table_view.table (site k x seat.0 there.1 seat.1 ∙ ap (λ (d : Key). site_of d.table) is);
+          outside = subst (λ (d : CpuId). lock_phase d (machine x).seen ≡ Idle) (sym cpu) (outside_now (cpu_at k) (machine x) over);
+        },
+      )
 
 module _ (plan : BootPlan) (May : CpuId → Go → ℕ → Type 0) (turns : ℕ) (table_view : TableView Block) (left : List (Left Key)) (acts : Key → List (Action Edit))
     (same : SameActs acts) where
@@ -89,40 +105,27 @@ module _ (plan : BootPlan) (May : CpuId → Go → ℕ → Type 0) (turns : ℕ)
       → HasLeft plan May turns (cpu_at k) (tower_acts (acts x.machine)) (site_of x.machine.table) x.trace.items x.did.taken x.did.stop)
       → HaveLeft plan May turns table_view (map (λ x. x.machine) left) (map (λ x. x.trace.items) left) (map (λ x. x.did.taken) left) (map (λ x. x.did.stop) left)
   have_left seats new count site owns has =
-      let many : length left ≡ plan.cpus = count ∙ ap length new ∙ length_new Edit table_view plan.cpus in
+      let many : length left ≡ plan.cpus = count ∙ as_many table_view plan.cpus new in
       record {
         count = length-map left _ ∙ many;
         traces_count = length-map left _ ∙ many;
         taken_count = length-map left _ ∙ many;
         stops_count = length-map left _ ∙ many;
         each = λ c below.
-            let there = there_is left c.0 (subst (λ n. c.0 < n) (sym many) below) in
-            let x = there.0 in
-            let seat = there_is seats c.0 (subst (λ n. c.0 < n) (sym (sym count ∙ many)) below) in
-            let is : seat.0 ≡ new_seat_view table_view c.0 = seat_views_at table_view plan.cpus c.0 seat.0 (subst (λ (l : List Key). slice_get l c.0 ≡ Some seat.0) new seat.1) in
-            let own = owns c.0 x there.1 in
-            let cpu : x.machine.cpu ≡ c = sym own.0 in
+            let one = left_at table_view left (λ y. y.machine) acts same plan.cpus seats new count site owns c.0 below in
+            let x = one.0 in
             let gone = subst
             (λ (l : List (Action Edit)). HasLeft plan May turns c (tower_acts l) (site_of x.machine.table) x.trace.items x.did.taken x.did.stop)
-            (same x.machine own.1) (has c.0 x there.1) in
-            let outside : lock_phase c x.machine.seen ≡ Idle =
-            (rests_outside x.machine.seen c).1 (stopped plan May turns c (acts_of edit_of x.machine.seen) _ _ _ _ gone) in (
+            one.3 (has c.0 x one.1) in (
               x.machine,
               x.trace.items,
               x.did.taken,
               x.did.stop,
-              shows_at (λ y. y.machine) left c.0 x there.1,
-              shows_at (λ y. y.trace.items) left c.0 x there.1,
-              shows_at (λ y. y.did.taken) left c.0 x there.1,
-              shows_at (λ y. y.did.stop) left c.0 x there.1,
-              record {
-                cpu_is = cpu;
-                over = record {
-                  table = one_site x.machine.table table_view.table (site c.0 x seat.0 there.1 seat.1 ∙ ap (λ (d : Key). site_of d.table) is);
-                  outside = subst (λ (d : CpuId). lock_phase d x.machine.seen ≡ Idle) (sym cpu) outside;
-                };
-                left = gone;
-              },
+              shows_at (λ y. y.machine) left c.0 x one.1,
+              shows_at (λ y. y.trace.items) left c.0 x one.1,
+              shows_at (λ y. y.did.taken) left c.0 x one.1,
+              shows_at (λ y. y.did.stop) left c.0 x one.1,
+              record { cpu_is = one.2; over = one.4 (stopped plan May turns c _ _ _ _ _ gone); left = gone },
             );
       }
 

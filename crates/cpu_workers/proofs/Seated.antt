@@ -1,7 +1,6 @@
 -- A CPU that was made with its guests is one before its first step, over a machine in which nothing was done.
-use Rattle.std.proofs.Common.{◌≡◌, ℕ, zero, suc, ◌<◌, ◌≤◌, List, [], ◌∷◌, length, replicate, drop, Option, Some, None, refl, ap, sym, ◌∙◌, subst, arith}
-use Rattle.std.specs.Prelude.{All, IfOk, Result, Ok, Err, slice_get, slice_index_or}
-use Rattle.std.proofs.lemmas.{List.length-drop, Option.get_or_from_slice_get}
+use Rattle.std.proofs.Common.{◌≡◌, ℕ, ◌≤◌, List, [], length, replicate, Option, None, ap, sym, ◌∙◌, subst}
+use Rattle.std.specs.Prelude.{IfOk, Result, Ok, Err}
 use Rattle.boot.specs.Plan.{BootPlan, IsPlan, Task}
 use Rattle.event_log.specs.{declared.entries.Entry.Entry, declared.ids.CpuId.CpuId, declared.ids.LockId.LockId, declared.ids.TheConstants.THREADS}
 use Rattle.event_log.specs.{Actions.Action}
@@ -10,9 +9,9 @@ use Rattle.layer_traits.specs.{BufferLaw.no_call, IpcLaw.OpensSo, Places.Threads
 use Rattle.cpu.specs.{declared.guests.Guest.Guest, Boots.AreGuests, Boots.IsBooted, Boots.guests_for, Boots.homes_for, Cpus.IsCpu, Cpus.guest_at}
 use Rattle.cpu.specs.{Cpus.programs_of, Sound.setup_for, Table.Setups.Setup, Table.Setups.Private, Table.Setups.at_boot as boot_of, Table.Setups.program_or}
 use Rattle.cpu.specs.{Tables.IsTabled, Tables.private, Tower.Views.TowerBlock, Tower.Views.TowerName}
-use Rattle.cpu.proofs.{InvariantAtBoot.boots, ListReads.shows_at, ListReads.there_is, PlanGuests.by_task, SystemsAtBoot.private_boots, TableCalls.boots_tabled}
+use Rattle.cpu.proofs.{InvariantAtBoot.boots, ListReads.shows_at, PlanGuests.by_task, SystemsAtBoot.private_boots, TableCalls.boots_tabled}
 use Rattle.cpu.proofs.{GuestLists.guest_with}
-use Rattle.cpu_workers.specs.{declared.gates.Go.Go, declared.turns.Did.Did, Reports.Both, Reports.HasRun, Seating.HasLeft, Seating.IsApart, Seating.IsAtBoot}
+use Rattle.cpu_workers.specs.{declared.workers.gates.Go.Go, declared.workers.turns.Did.Did, Reports.HasRun, Seating.HasLeft, Seating.IsApart, Seating.IsAtBoot}
 use Rattle.cpu_workers.specs.{Working.Charge, Working.IsPlanned, Working.Working}
 
 -- what a CPU was made with, and what it is
@@ -93,25 +92,6 @@ at_boot_if plan number homes charge acts (Ok w) planned homes_are none cpu plan_
 }
 at_boot_if plan number homes charge acts (Err e) planned homes_are none cpu plan_is boots acts_are = tt
 
--- what stands at this number of a list stands in front of the rest
-pub left_at : {X : Type 0} (xs : List X) (n : ℕ) (r : X) → n < length xs → r ≡ slice_index_or (drop n xs) 0 r → slice_get xs n ≡ Some r
-left_at [] n r within is = absurd (omega (arith, within))
-left_at (x ∷ xs) zero r within is = ap Some (sym is)
-left_at (x ∷ xs) (suc n) r within is = left_at xs n r (omega (arith, within)) is
-
--- while not all of a list was taken from its front, something is left
-pub some_left : {X : Type 0} (all left : List X) (n : ℕ) → n < length all → left ≡ drop n all → 0 < length left
-some_left all left n within is = let long = ap (λ l. length l) is ∙ length-drop n all in omega (arith, within, long)
-
--- what belongs to the element at this number
-pub both_back : {A B : Type 0} (Fits : A → B → Type 0) (xs : List A) (ys : List B) → Both Fits xs ys → (k : ℕ) (y : B) → slice_get ys k ≡ Some y
-    → (x : A) × (slice_get xs k ≡ Some x) × Fits x y
-both_back Fits [] [] all k y at = absurd (cc at)
-both_back Fits [] (z ∷ ys) all k y at = absurd all
-both_back Fits (x ∷ xs) [] all k y at = absurd all
-both_back Fits (x ∷ xs) (z ∷ ys) all zero y at = let same : z ≡ y = cc at in (x, refl, subst (λ w. Fits x w) same all.0)
-both_back Fits (x ∷ xs) (z ∷ ys) all (suc k) y at = both_back Fits xs ys all.1 k y at
-
 -- a worker that ran from boot leaves this
 pub left_so : (plan : BootPlan) (May : CpuId → Go → ℕ → Type 0) (turns : ℕ) (c : CpuId) (first last : Working) (acts : List (Action TowerName)) (site : List ℕ)
     (trace : List Entry) (did its : Did) → IsAtBoot plan c first → HasRun May turns first last did.taken did.stop → IsApart last acts site trace → its ≡ did
@@ -123,16 +103,3 @@ left_so plan May turns c first last acts site trace did its boot ran apart same 
   ran = subst (λ (d : Did). HasRun May turns first last d.taken d.stop) (sym same) ran;
   apart = apart;
 }
-
--- workers that have each seen nothing
-pub all_fresh : {X : Type 0} (acts : X → List (Action TowerName)) (ws : List X) → ((k : ℕ) (w : X) → slice_get ws k ≡ Some w → acts w ≡ [])
-    → All (λ w. acts w ≡ []) ws
-all_fresh acts ws each k d within =
-    let there = there_is ws k within in
-    subst (λ w. acts w ≡ []) (sym (get_or_from_slice_get ws k there.0 d there.1)) (each k there.0 there.1)
-
--- what is found in a list stands within it
-pub found_within : {X : Type 0} (xs : List X) (k : ℕ) (x : X) → slice_get xs k ≡ Some x → k < length xs
-found_within [] k x at = absurd (cc at)
-found_within (y ∷ xs) zero x at = omega arith
-found_within (y ∷ xs) (suc k) x at = let before = found_within xs k x at in omega (arith, before)

@@ -8,11 +8,12 @@ use Rattle.layer_traits.specs.{declared.steps.Reason.Reason, declared.steps.Step
 use Rattle.layer_traits.specs.{Along.starts, Along.others, Along.steps, Along.IsStep, Plans.is_in_section}
 use Rattle.cpu.specs.{Table.Blocks.Name, Table.Setups.Setup, Table.Setups.Private, Table.Steps.cpu_step, Table.Steps.halted_at, Tower.Composed.answer_of}
 use Rattle.cpu.proofs.Tower.Polls.{halts_exactly}
-use Rattle.cpu_workers.specs.{declared.gates.Go.Go, declared.gates.Go.TheVariants.Limit, declared.gates.Go.TheVariants.Pass, Working.IsPlanned, Working.IsSame}
-use Rattle.cpu_workers.specs.{Working.MayStep, Working.Charge, Working.Turned, Working.Working, Working.is_inside, Working.log, Reports.Counts, Reports.HasRun}
-use Rattle.cpu_workers.specs.{Reports.IsTrueStop, Reports.MayHold, Reports.Took, Reports.TookWithin, Reports.Within, Reports.another, Reports.below}
-use Rattle.cpu_workers.specs.{Reports.counted_on, Reports.most, Reports.MayTake, Reports.none_taken, Reports.one_taken, Reports.PassedAtEach, Reports.AskedAtEach}
-use Rattle.cpu_workers.specs.declared.stops.Stop.{Stop, TheVariants.AllEnded, TheVariants.TurnsUsed, TheVariants.TraceFull, TheVariants.Held}
+use Rattle.cpu_workers.specs.{declared.workers.gates.Go.Go, declared.workers.gates.Go.TheVariants.Limit, declared.workers.gates.Go.TheVariants.Pass}
+use Rattle.cpu_workers.specs.{Working.IsPlanned, Working.IsSame, Working.MayStep, Working.Charge, Working.Turned, Working.Working, Working.is_inside}
+use Rattle.cpu_workers.specs.{Working.log, Reports.Counts, Reports.HasRun, Reports.IsTrueStop, Reports.MayHold, Reports.Took, Reports.TookWithin}
+use Rattle.cpu_workers.specs.{Reports.Within, Reports.another, Reports.below, Reports.counted_on, Reports.most, Reports.MayTake, Reports.none_taken}
+use Rattle.cpu_workers.specs.{Reports.one_taken, Reports.PassedAtEach, Reports.AskedAtEach, declared.workers.stops.Stop.Stop}
+use Rattle.cpu_workers.specs.declared.workers.stops.Stop.TheVariants.{AllEnded, TurnsUsed, TraceFull, Held}
 
 module _ {P N : Type 0} (table : P → List (Action N) → Outcome P N) (cpu : CpuId) (first : P) where
   -- other CPUs act

@@ -6,7 +6,7 @@ use Rattle.event_log.specs.declared.entries.Kind.TheVariants.{Send, Recv, Close,
 use Rattle.layer_traits.specs.{declared.calls.Call.Call, declared.calls.Effect.Effect, declared.calls.Reply.Reply, BufferEffects.entry, BufferLaw.IsEffectOf}
 use Rattle.layer_traits.specs.{BufferLaw.buffer_of, BufferLaw.entry_of, BufferLaw.reply_of}
 use Rattle.cpu.specs.Cpus.{of_cpu}
-use Rattle.cpu_workers.specs.declared.callers.TheConstants.{MOST_CALLS}
+use Rattle.cpu_workers.specs.declared.workers.callers.TheConstants.{MOST_CALLS}
 
 -- a caller to its users: its CPU and its thread, the capacities of the buffers, which machine it is, and the entries of its calls, oldest first
 pub record CallerView : Type 0 where

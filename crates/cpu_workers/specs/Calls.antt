@@ -2,11 +2,10 @@
 use Rattle.std.specs.Prelude.{◌≡◌, ◌≢◌, List, ◌++◌, [], ◌∷◌, Option, Some, None}
 use Rattle.event_log.specs.declared.{entries.Entry.Entry, ids.CpuId.CpuId, ids.Tid.Tid}
 use Rattle.layer_traits.specs.{declared.calls.Call.Call, declared.calls.Effect.Effect, declared.calls.Reply.Reply, declared.call_states.CallState.CallState}
-use Rattle.layer_traits.specs.{BufferLaw.Calling, BufferLaw.IsEffectOf, BufferLaw.MayPollCall, BufferLaw.Passing, BufferLaw.UnderWay, BufferLaw.buffer_of}
-use Rattle.layer_traits.specs.{BufferLaw.call_state_of, BufferLaw.entry_of, BufferLaw.going, BufferLaw.reply_of, Passes.MayPass, Places.Threads}
-use Rattle.layer_traits.specs.declared.passes.Pass.TheVariants.{End}
+use Rattle.layer_traits.specs.{Passes.MayPass, Places.Threads, declared.passes.Pass.TheVariants.End}
+use Rattle.layer_traits.specs.BufferLaw.{Calling, IsEffectOf, MayPollCall, Passing, UnderWay, buffer_of, call_state_of, entry_of, going, reply_of}
 use Rattle.cpu.specs.{Cpus.of_cpu, Guests.entries_of}
-use Rattle.cpu_workers.specs.declared.calling.Begun.{Begun, TheVariants.Calls, TheVariants.Passes}
+use Rattle.cpu_workers.specs.declared.workers.calling.Begun.{Begun, TheVariants.Calls, TheVariants.Passes}
 
 -- what is under way on the CPU of a thread that has begun this, or nothing
 abbrev pub under_way_of : Tid → Option Begun → Option UnderWay

@@ -17,10 +17,10 @@ use Rattle.queuing_lock.specs.{declared.edits.QBlock.QBlock, declared.edits.QLoc
 use Rattle.table_machine.specs.SeatViews.{TableView, Closes, SeatView}
 use Rattle.cpu.specs.Table.{Blocks.Block, Setups.Setup, Setups.Private, Setups.at_boot, Setups.program_of, Setups.thread_at, Steps.cpu_step, Steps.halted_at}
 use Rattle.cpu.specs.{Cpus.IsOfHome, Cpus.of_thread, Tower.Composed.named, Tower.Views.TowerBlock, Tower.Views.TowerName, Tower.Views.view}
-use Rattle.cpu_workers.specs.{declared.gates.Go.Go, declared.gates.Go.TheVariants.Limit, declared.gates.Go.TheVariants.Pass, declared.stops.Stop.Stop}
+use Rattle.cpu_workers.specs.declared.workers.{gates.Go.Go, gates.Go.TheVariants.Limit, gates.Go.TheVariants.Pass, stops.Stop.Stop, stops.Stop.TheVariants.Held}
+use Rattle.cpu_workers.specs.declared.workers.{stops.Stop.TheVariants.TurnsUsed}
 use Rattle.cpu_workers.specs.{Lawful.IsLawfulReport, Lawful.IsCpuReportOf, Lawful.CpuReport, Lawful.Shown, Orders.FollowsProgram, Orders.IsTraceOf}
-use Rattle.cpu_workers.specs.{declared.stops.Stop.TheVariants.Held, declared.stops.Stop.TheVariants.TurnsUsed, Reports.IsTrueStop, Reports.MayTake}
-use Rattle.cpu_workers.specs.{Reports.Took, Reports.TookWithin, Reports.WasHeld, Reports.PassedAtEach, Reports.AskedAtEach}
+use Rattle.cpu_workers.specs.{Reports.IsTrueStop, Reports.MayTake, Reports.Took, Reports.TookWithin, Reports.WasHeld, Reports.PassedAtEach, Reports.AskedAtEach}
 use Rattle.sleep_wakeup.specs.Nested as sleep
 use Rattle.queuing_lock.specs.Nested as lock
 

@@ -9,9 +9,10 @@ use Rattle.layer_traits.specs.{Places.home_of, Plans.is_in_section}
 use Rattle.cpu.specs.{Claims.buffer_at, Claims.listed, Cpus.IsOfHome, Cpus.of_thread, Table.Blocks.Block, Table.Blocks.Buffer, Table.Blocks.Name}
 use Rattle.cpu.specs.{Table.Blocks.OfBuffer, Table.Blocks.OfPending, Table.Setups.Setup, Table.Setups.Private, Table.Setups.at_boot, Table.Setups.program_of}
 use Rattle.cpu.specs.{Table.Steps.block_at, Table.Steps.cpu_step, Table.Steps.halted_at, Wakeups.Lost.NoWakeUpIsLost}
-use Rattle.cpu_workers.specs.{declared.gates.Go.Go, declared.gates.Go.TheVariants.Limit, declared.gates.Go.TheVariants.Pass, declared.stops.Stop.Stop}
-use Rattle.cpu_workers.specs.{declared.stops.Stop.TheVariants.AllEnded, declared.stops.Stop.TheVariants.TurnsUsed, declared.stops.Stop.TheVariants.Held}
-use Rattle.cpu_workers.specs.{Reports.IsTrueStop, Reports.MayHold, Reports.MayTake, Reports.Took, Reports.TookWithin, Reports.WasHeld, Reports.PassedAtEach, Reports.AskedAtEach}
+use Rattle.cpu_workers.specs.{declared.workers.gates.Go.Go, declared.workers.gates.Go.TheVariants.Limit, declared.workers.gates.Go.TheVariants.Pass}
+use Rattle.cpu_workers.specs.{declared.workers.stops.Stop.Stop, declared.workers.stops.Stop.TheVariants.AllEnded}
+use Rattle.cpu_workers.specs.{declared.workers.stops.Stop.TheVariants.TurnsUsed, declared.workers.stops.Stop.TheVariants.Held, Reports.IsTrueStop}
+use Rattle.cpu_workers.specs.{Reports.MayHold, Reports.MayTake, Reports.Took, Reports.TookWithin, Reports.WasHeld, Reports.PassedAtEach, Reports.AskedAtEach}
 
 -- what a report tells of one CPU: its trace, oldest first, how many turns it took, and why it stopped
 pub record CpuReport : Type 0 where

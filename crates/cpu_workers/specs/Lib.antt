@@ -2,6 +2,7 @@ pub mod Working
 pub mod Seats
 pub mod Orders
 pub mod Reports
+pub mod Idling
 pub mod Tasks
 pub mod Laws
 pub mod Lawful

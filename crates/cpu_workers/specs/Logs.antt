@@ -4,7 +4,7 @@ use Rattle.boot.specs.Plan.{BootPlan}
 use Rattle.event_log.specs.{declared.ids.CpuId.CpuId, declared.ids.LockId.LockId, History.IsLawful}
 use Rattle.layer_traits.specs.WordsProtocol.{MayCome}
 use Rattle.cpu.specs.{Sound.setup_for, Table.Setups.Setup, Tower.Composed.named}
-use Rattle.cpu_workers.specs.{declared.gates.Go.Go, Closing.WordsOfTower, Closing.acts_in, Closing.tower_rules, Lawful.IsLawfulReport, Lawful.Shown}
+use Rattle.cpu_workers.specs.{declared.workers.gates.Go.Go, Closing.WordsOfTower, Closing.acts_in, Closing.tower_rules, Lawful.IsLawfulReport, Lawful.Shown}
 use Rattle.cpu_workers.specs.{Orders.effects_of, Seating.Block, Seating.OpensPlan}
 
 -- a lawful report of this words log: the list along which each CPU went by the step table is that of the log's actions, and the order of the

@@ -8,7 +8,7 @@ use Rattle.queuing_lock.specs.Nested.{nested_lock_of}
 use Rattle.sleep_wakeup.specs.Nested.{state_of}
 use Rattle.table_machine.specs.SeatViews.{IsOver, TableView}
 use Rattle.cpu.specs.{Claims.buffer_at, Claims.listed, Tower.Views.TowerName}
-use Rattle.cpu_workers.specs.{declared.callers.TheConstants.MOST_CALLS, Callers.CallerView, Callers.IsSameCaller, Closing.Key, Closing.blocks_read}
+use Rattle.cpu_workers.specs.{declared.workers.callers.TheConstants.MOST_CALLS, Callers.CallerView, Callers.IsSameCaller, Closing.Key, Closing.blocks_read}
 use Rattle.cpu_workers.specs.{Lawful.held_at, Orders.IsTraceOf, Seating.Block, Seating.tower_acts}
 
 -- a native has run at its caller, which is the same, and has kept what it promises of itself and of the calls

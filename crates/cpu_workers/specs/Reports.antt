@@ -3,9 +3,9 @@ use Rattle.std.specs.Prelude.{◌≡◌, ◌⊎◌, ℕ, ◌+◌, ◌-◌, ◌^�
 use Rattle.event_log.specs.{declared.ids.CpuId.CpuId, Actions.Action, Actions.cpu_of_action, Actions.phase, History.same_cpu}
 use Rattle.layer_traits.specs.{declared.steps.Reason.Reason, declared.steps.Step.TheVariants.Stepped, Along.Outcome, Along.Along, Plans.is_in_section}
 use Rattle.cpu.specs.Table.{Setups.Setup, Steps.cpu_step, Steps.halted_at}
-use Rattle.cpu_workers.specs.{declared.gates.Go.Go, declared.gates.Go.TheVariants.Limit, declared.gates.Go.TheVariants.Pass, declared.stops.Stop.Stop}
-use Rattle.cpu_workers.specs.{declared.stops.Stop.TheVariants.AllEnded, declared.stops.Stop.TheVariants.TurnsUsed, declared.stops.Stop.TheVariants.TraceFull}
-use Rattle.cpu_workers.specs.{declared.stops.Stop.TheVariants.Held, Working.IsPlanned, Working.IsSame, Working.Working, Working.is_inside, Working.log}
+use Rattle.cpu_workers.specs.{declared.workers.gates.Go.Go, declared.workers.gates.Go.TheVariants.Limit, declared.workers.gates.Go.TheVariants.Pass}
+use Rattle.cpu_workers.specs.{declared.workers.stops.Stop.Stop, Working.IsPlanned, Working.IsSame, Working.Working, Working.is_inside, Working.log}
+use Rattle.cpu_workers.specs.declared.workers.stops.Stop.TheVariants.{AllEnded, TurnsUsed, TraceFull, Held}
 use Rattle.layer_traits.specs.declared.steps.Reason.TheVariants as reason
 
 -- the most that a number of turns shows

@@ -10,8 +10,9 @@ use Rattle.queuing_lock.specs.Nested.{edit_in as lock_call, nested_lock_of}
 use Rattle.sleep_wakeup.specs.Nested.{edit_in as slept_edit, state_of}
 use Rattle.cpu.specs.{Boots.homes_for, Sound.setup_for, Table.Setups.at_boot, Tower.Views.TowerName}
 use Rattle.table_machine.specs.SeatViews.{TableView, Closes, IsOver, site_of}
-use Rattle.cpu_workers.specs.{declared.gates.Go.Go, declared.stops.Stop.Stop, Closing.Key, Closing.LockBlock, Closing.LockEdit, Closing.blocks_read}
-use Rattle.cpu_workers.specs.{Closing.tower_rules, Lawful.held_at, Orders.HasFollowed, Orders.IsTraceOf, Reports.HasRun, Working.IsPlanned, Working.Working}
+use Rattle.cpu_workers.specs.{declared.workers.gates.Go.Go, declared.workers.stops.Stop.Stop, Closing.Key, Closing.LockBlock, Closing.LockEdit}
+use Rattle.cpu_workers.specs.{Closing.blocks_read, Closing.tower_rules, Lawful.held_at, Orders.HasFollowed, Orders.IsTraceOf, Reports.HasRun, Working.IsPlanned}
+use Rattle.cpu_workers.specs.{Working.Working}
 
 -- what a section of the tower's locks does, and what such a lock guards
 abbrev pub Edit : Type 0

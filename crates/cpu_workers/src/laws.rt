@@ -3,7 +3,7 @@
 
 ghost use Rattle.cpu_workers.specs.{Closing.ReportsAreLawful, Laws.StopsAreTrue, Laws.WorkersLoseNoWakeUp};
 
-use crate::gates::Gate;
+use crate::workers::Gate;
 
 /// Workers that have each run from boot lose no wake-up, however their actions come between one
 /// another: in a list of actions that goes on from what each has seen, with none of its own beside,

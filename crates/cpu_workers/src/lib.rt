@@ -13,38 +13,19 @@
 //! ```
 #![tactic(auto)]
 
-mod callers;
-mod calling;
 pub mod counting;
-mod gates;
 mod laws;
-mod native_runs;
-mod native_seats;
-mod native_threads;
 mod natives;
 mod plan_words;
 mod pool;
 mod refusals;
-mod report;
-mod run;
-mod seating;
-mod seats;
-mod starting;
-mod stops;
-mod turns;
-mod worker;
+mod workers;
 
-pub use callers::{Caller, Closed, MOST_CALLS};
-pub use calling::call;
-pub use gates::{Gate, Go, OpenGate};
 pub use laws::{reports_are_lawful, stops_are_true, workers_lose_no_wake_up};
-pub use native_runs::{NativeReport, run_native};
-pub use natives::Native;
+pub use natives::{Native, NativeReport, run_native};
 pub use plan_words::PlanWords;
 pub use refusals::{NoThread, WorkerError};
-pub use report::Report;
-pub use run::run_workers;
-pub use starting::{Came, work_all};
-pub use stops::Stop;
-pub use turns::{Did, work};
-pub use worker::Worker;
+pub use workers::{
+    Caller, Came, Closed, Did, Gate, Go, MOST_CALLS, OpenGate, Report, Stop, Worker, call,
+    run_workers, work, work_all,
+};

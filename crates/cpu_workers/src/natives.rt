@@ -1,9 +1,15 @@
 //! Natives: what runs in a thread of its own and calls the tower. A native may wait while it runs.
+//! `tasks` runs one in its thread, `seating` each over its seat, and `run` all at one table.
 
 ghost use Rattle.std.specs.Prelude.{◌≡◌, List, [], ℕ};
 
-use crate::callers::Caller;
+mod run;
+mod seating;
+mod tasks;
+
+use crate::workers::Caller;
 use layer_traits::{CallLayer, IpcLaw};
+pub use run::{NativeReport, run_native};
 use std::sync::Wait;
 
 /// What runs in a thread of its own, at a CPU of its own, and sends to buffers and receives from them

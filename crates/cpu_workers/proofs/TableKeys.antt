@@ -1,0 +1,43 @@
+-- The keys of a new table of words, and what belongs to each.
+use Rattle.std.proofs.Common.{◌≡◌, ℕ, zero, suc, ◌<◌, ◌≤◌, All, List, length, Some, slice_get, refl, ap, sym, ◌∙◌, subst, arith}
+use Rattle.table_machine.specs.SeatViews.{TableView, SeatView, IsOf, new_seat_view, new_seat_views}
+use Rattle.table_machine.proofs.Fresh.{length_new}
+use Rattle.cpu.proofs.{InvariantAtBoot.at_end, ListReads.there_is}
+use Rattle.cpu_workers.specs.{Counts.IsFresh, Reports.Both}
+use Rattle.cpu_workers.proofs.Joining.{all_by_number, both_back, both_length}
+
+pub seat_views_at : {E B : Type 0} (table_view : TableView B) (n k : ℕ) (d : SeatView E B) → slice_get (new_seat_views table_view n) k ≡ Some d → d ≡ new_seat_view table_view k
+seat_views_at table_view zero k d at = absurd (cc at)
+seat_views_at {E} table_view (suc n) k d at =
+    at_end (λ j (e : SeatView _ _). e ≡ new_seat_view table_view j) (new_seat_views table_view n) (new_seat_view table_view n) (seat_views_at table_view n)
+    (ap (λ j. new_seat_view table_view j) (sym (length_new E table_view n))) k d at
+
+-- what holds of each of them holds of all
+all_new : {E B : Type 0} (table_view : TableView B) (P : SeatView E B → Type 0) → ((k : ℕ) → P (new_seat_view table_view k)) → (n : ℕ)
+    → All P (new_seat_views table_view n)
+all_new table_view P each n =
+    all_by_number P (new_seat_views table_view n) (λ k d at. subst (λ (x : SeatView _ _). P x) (sym (seat_views_at table_view n k d at)) (each k))
+
+pub seat_views_are_of : {E B : Type 0} (table_view : TableView B) (n : ℕ) → All (IsOf {E = E} table_view) (new_seat_views table_view n)
+seat_views_are_of table_view = all_new table_view (λ d. IsOf table_view d) (λ k. (refl, refl))
+
+pub new_fresh : {E B : Type 0} (table_view : TableView B) (n : ℕ) → All (IsFresh {E = E} table_view) (new_seat_views table_view n)
+new_fresh table_view = all_new table_view (λ d. IsFresh table_view d) (λ k. refl)
+
+-- what belongs to each of them, in a list that has come of them
+pub came_at : {E B : Type 0} (table_view : TableView B) (Fits : SeatView E B → SeatView E B → Type 0) (n : ℕ) (came : List (SeatView E B)) → Both Fits (new_seat_views table_view n) came
+    → (k : ℕ) → k < n → (e : SeatView E B) × (slice_get came k ≡ Some e) × Fits (new_seat_view table_view k) e
+came_at {E = E} table_view Fits n came all k below =
+    let long : length came ≡ n = both_length Fits (new_seat_views table_view n) came all ∙ length_new E table_view n in
+    let there = there_is came k (subst (λ m. k < m) (sym long) below) in
+    let of = both_back Fits (new_seat_views table_view n) came all k there.0 there.1 in
+    (there.0, there.1, subst (λ (d : SeatView E _). Fits d there.0) (seat_views_at table_view n k of.0 of.1) of.2)
+
+module _ {E B : Type 0} (table_view : TableView B) (n : ℕ) {seats : List (SeatView E B)} (new : seats ≡ new_seat_views table_view n) where
+  -- they are as many as the CPUs
+  pub as_many : length seats ≡ n
+  as_many = ap (λ (l : List (SeatView E B)). length l) new ∙ length_new E table_view n
+
+  -- and so is what was left at each
+  pub left_fit : {left count most : ℕ} → left ≡ length seats → count ≡ n → count ≤ most → left ≤ most
+  left_fit same counted room = let many = as_many in omega (arith, same, counted, room, many)

@@ -1,0 +1,73 @@
+use Rattle.std.proofs.Common.{◌≡◌, length, ap, sym, ◌∙◌, arith}
+use Rattle.cpu_workers.proofs.Filling.{numbered_one, numbered_room, some_left, taken_at, taken_one, within}
+use Rattle.cpu_workers.proofs.natives.seating.tasks_over.Goals as goal
+
+pub remove-machine-requires : goal.remove-machine-requires
+remove-machine-requires g c =
+    some_left c.args.machines.items c.loop-number.number c.loop-number.invariant.machines_left
+    (within c.loop-number-test.true c.len-count.ensures c.args.machines.ok.0) c.loop-number.machines.ok.0
+
+pub remove-native-requires : goal.remove-native-requires
+remove-native-requires g c =
+    some_left c.args.natives.items c.loop-number.number c.loop-number.invariant.natives_left
+    (within c.loop-number-test.true c.len-count.ensures (c.args.machines.ok.0 ∙ sym c.requires.count)) c.loop-number.natives.ok.0
+
+pub new-caller-requires-clause-fresh : goal.new-caller-requires-clause-fresh
+new-caller-requires-clause-fresh g c =
+    (c.requires.unused c.loop-number.number c.remove-machine.result
+    (taken_at c.args.machines.items c.loop-number.number c.loop-number.invariant.machines_left
+    (within c.loop-number-test.true c.len-count.ensures c.args.machines.ok.0) c.remove-machine.result c.remove-machine.ensures.value)).fresh
+
+pub new-caller-requires-clause-buffers : goal.new-caller-requires-clause-buffers
+new-caller-requires-clause-buffers g c =
+    ap (λ l. length l) (c.requires.unused c.loop-number.number c.remove-machine.result
+    (taken_at c.args.machines.items c.loop-number.number c.loop-number.invariant.machines_left
+    (within c.loop-number-test.true c.len-count.ensures c.args.machines.ok.0) c.remove-machine.result c.remove-machine.ensures.value)).caps
+
+pub new-caller-requires-clause-seen : goal.new-caller-requires-clause-seen
+new-caller-requires-clause-seen g c =
+    (c.requires.unused c.loop-number.number c.remove-machine.result
+    (taken_at c.args.machines.items c.loop-number.number c.loop-number.invariant.machines_left
+    (within c.loop-number-test.true c.len-count.ensures c.args.machines.ok.0) c.remove-machine.result c.remove-machine.ensures.value)).unseen
+
+pub new-caller-requires-clause-opens : goal.new-caller-requires-clause-opens
+new-caller-requires-clause-opens g c =
+    (c.requires.unused c.loop-number.number c.remove-machine.result
+    (taken_at c.args.machines.items c.loop-number.number c.loop-number.invariant.machines_left
+    (within c.loop-number-test.true c.len-count.ensures c.args.machines.ok.0) c.remove-machine.result c.remove-machine.ensures.value)).opens
+
+pub push_reserved-requires : goal.push_reserved-requires
+push_reserved-requires g c =
+    numbered_room c.loop-number.invariant.tasks (within c.loop-number-test.true c.len-count.ensures c.args.machines.ok.0) c.loop-number.tasks.ok.0
+
+pub loop-number-preserved : goal.loop-number-preserved
+loop-number-preserved g c =
+    let inv = c.loop-number.invariant in
+    let machines = c.args.machines.items in
+    let natives = c.args.natives.items in
+    let n = c.loop-number.number in
+    let e = c.new-caller.ensures in
+    let below = within c.loop-number-test.true c.len-count.ensures c.args.machines.ok.0 in
+    let below_too = within c.loop-number-test.true c.len-count.ensures (c.args.machines.ok.0 ∙ sym c.requires.count) in
+    let here = taken_at machines n inv.machines_left below c.remove-machine.result c.remove-machine.ensures.value in
+    let there = taken_at natives n inv.natives_left below_too c.remove-native.result c.remove-native.ensures.value in
+    let caps = (c.requires.unused n c.remove-machine.result here).caps in
+    record {
+      machines_left = taken_one machines n inv.machines_left below c.remove-machine.ensures.items;
+      natives_left = taken_one natives n inv.natives_left below_too c.remove-native.ensures.items;
+      tasks = numbered_one inv.tasks c.push_reserved.ensures.items c.push_reserved.ensures.capacity (
+        record { cpu_is = e.cpu; thread_is = ap (λ t. t.0) e.thread; caps_are = e.caps ∙ caps; fresh = e.calls },
+        there,
+        λ m at. let same : c.remove-machine.result ≡ m = cc (here, at) in e.site ∙ ap (λ x. g.I.CallLayer.site x) same,
+      );
+    }
+
+pub returns-clause-count : goal.returns-clause-count
+returns-clause-count g c =
+    let all : c.loop-number.number ≡ length c.args.machines.items =
+    let test = c.loop-number-test.false in let last = c.loop-number.auto.number-end in let count = c.len-count.ensures in let ok = c.args.machines.ok.0 in
+    omega (arith, test, last, count, ok) in
+    c.loop-number.invariant.tasks.count ∙ all
+
+pub returns-clause-each : goal.returns-clause-each
+returns-clause-each g c = c.loop-number.invariant.tasks.each

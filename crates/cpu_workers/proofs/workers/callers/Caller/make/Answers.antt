@@ -1,0 +1,48 @@
+use Rattle.std.proofs.Common.{◌∷◌, [], List, length, reverse, ap, sym, ◌∙◌, subst, arith}
+use Rattle.std.proofs.lemmas.List.{reverse-append}
+use Rattle.event_log.specs.declared.{entries.Entry.Entry, ids.CpuId.CpuId}
+use Rattle.layer_traits.specs.{BufferEffects.opening_locks, BufferLaw.buffer_of, BufferLaw.entry_of, QueueBlocks.inner}
+use Rattle.cpu.specs.Cpus.{of_cpu}
+use Rattle.cpu_workers.specs.Calls.{Returned}
+use Rattle.cpu_workers.proofs.Making.{newest_carries}
+use Rattle.cpu_workers.proofs.workers.callers.Caller.make.Goals as goal
+
+pub invariant_of-self : goal.invariant_of-self
+invariant_of-self g c =
+    let I = g.I.CallLayer in
+    let x = c.self.inside in
+    let is = c.self.invariant in
+    let e = c.call-reply.ensures in
+    let back = subst (λ (d : CpuId). Returned d x.thread c.args.call.now c.call-reply.result (I.seen x.machine) (I.seen c.call-reply.new.m)) is.fits.1 e.returned in
+    let one = ap (λ (l : List Entry). length l) back.went.own in
+    let before = is.counted in
+    let more = c.if-self-lt-MOST_CALLS.true in
+    record {
+      fits = (e.fits, e.cpu ∙ is.fits.1);
+      room = is.room;
+      nothing = e.under_way;
+      rests = e.idle;
+      opens = ap inner e.opening ∙ is.opens ∙ ap opening_locks (sym e.caps);
+      counted = omega (arith, one, before);
+      few = omega (arith, more);
+    }
+
+pub returns-then-self-lt-MOST_CALLS : goal.returns-then-self-lt-MOST_CALLS
+returns-then-self-lt-MOST_CALLS g c =
+    let I = g.I.CallLayer in
+    let law = g.met.I.CallLayer in
+    let x = c.self.inside in
+    let n = c.call-reply.new.m in
+    let is = c.self.invariant in
+    let e = c.call-reply.ensures in
+    let back = subst (λ (d : CpuId). Returned d x.thread c.args.call.now c.call-reply.result (I.seen x.machine) (I.seen n)) is.fits.1 e.returned in
+    let its = entry_of x.cpu x.thread (buffer_of c.args.call.now) back.effect in
+    let calls = ap (λ (l : List Entry). reverse l) back.went.own ∙ reverse-append (its ∷ []) (of_cpu x.cpu (I.seen x.machine)) in
+    rw (← c.self.view_is) (record {
+      effect = back.effect;
+      is = back.is;
+      carries = newest_carries (I.caps n) x.cpu (I.seen n) its _ (law.lawful n (I.cpu_of c.call-reply.new.part) (law.own_cpu c.call-reply.new.part n e.fits))
+          back.went.own;
+      replies = back.replies;
+      grows = λ i. record { cpu = x.cpu; thread = x.thread; caps = e.caps i; site = e.site i; calls = calls i };
+    })

@@ -1,0 +1,17 @@
+use Rattle.std.proofs.Common.{List, refl, ap, ◌∙◌, arith}
+use Rattle.event_log.specs.declared.ids.TheConstants.{THREADS}
+use Rattle.layer_traits.specs.{declared.call_states.CallState.CallState, BufferLaw.call_state_of, BufferLaw.no_call}
+use Rattle.cpu_workers.proofs.Making.{same_everywhere}
+use Rattle.cpu_workers.proofs.workers.callers.Caller.new.Goals as goal
+
+pub invariant_of-result : goal.invariant_of-result
+invariant_of-result g c = record {
+  fits = (c.part.ensures.fits c.args.machine c.requires.fresh c.requires.buffers, c.part.ensures.cpu);
+  room = c.requires.room;
+  nothing = c.part.ensures.under_way;
+  rests = ap (λ (l : List CallState). (call_state_of l c.args.thread).stage) c.part.ensures.call_states
+      ∙ ap (λ (s : CallState). s.stage) (same_everywhere no_call THREADS c.args.thread.0);
+  opens = c.requires.opens;
+  counted = rw c.requires.seen refl;
+  few = omega arith;
+}

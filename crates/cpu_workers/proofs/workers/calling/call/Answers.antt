@@ -1,0 +1,40 @@
+use Rattle.std.proofs.Common.{refl, ◌∙◌, sym, subst}
+use Rattle.event_log.specs.declared.ids.CpuId.{CpuId}
+use Rattle.layer_traits.specs.BufferLaw.{call_state_of}
+use Rattle.cpu_workers.specs.Calls.{IsOn}
+use Rattle.cpu_workers.proofs.Going.{not_begun}
+use Rattle.cpu_workers.proofs.workers.calling.call.Goals as goal
+
+pub loop-init : goal.loop-init
+loop-init g c = record {
+  fits = c.requires.fits;
+  cpu = refl;
+  caps = refl;
+  opening = refl;
+  site = refl;
+  under_way = c.requires.under_way;
+  may = tt;
+  ended = refl;
+  on = not_begun _ c.args.t c.args.call.now _ _ c.requires.idle;
+}
+
+pub loop-preserved : goal.loop-preserved
+loop-preserved g c =
+    let I = g.I.CallLayer in
+    let known = c.loop.invariant in
+    let e = c.poll_once.ensures in
+    let goes = c.in-Err.ensures.goes in
+    let t = c.args.t in
+    let first = I.seen c.args.m.now in record {
+      fits = e.fits;
+      cpu = e.cpu ∙ known.cpu;
+      caps = e.caps ∙ known.caps;
+      opening = e.opening ∙ known.opening;
+      site = e.site ∙ known.site;
+      under_way = goes.0;
+      may = goes.1;
+      ended = e.ended ∙ known.ended;
+      on = subst (λ (d : CpuId). IsOn d t c.args.call.now (call_state_of (I.call_states c.poll_once.new.part) t) first (I.seen c.poll_once.new.m)) known.cpu
+          (goes.2 first (subst (λ (d : CpuId). IsOn d t c.args.call.now (call_state_of (I.call_states c.loop.part) t) first (I.seen c.loop.m)) (sym known.cpu)
+          known.on));
+    }

@@ -1,0 +1,42 @@
+use Rattle.std.proofs.Common.{◌≡◌, length, ap, ◌∙◌, arith}
+use Rattle.cpu_workers.proofs.Filling.{numbered_one, numbered_room, some_left, taken_at, taken_one, within}
+use Rattle.cpu_workers.proofs.workers.seating.workers_over.Goals as goal
+
+pub remove-machine-requires : goal.remove-machine-requires
+remove-machine-requires g c =
+    some_left c.args.machines.items c.loop-number.number c.loop-number.invariant.machines_left
+    (within c.loop-number-test.true c.len-count.ensures c.args.machines.ok.0) c.loop-number.machines.ok.0
+
+pub worker_over-requires-clause-unused : goal.worker_over-requires-clause-unused
+worker_over-requires-clause-unused g c =
+    c.requires.unused c.loop-number.number c.remove-machine.result
+    (taken_at c.args.machines.items c.loop-number.number c.loop-number.invariant.machines_left
+    (within c.loop-number-test.true c.len-count.ensures c.args.machines.ok.0) c.remove-machine.result c.remove-machine.ensures.value)
+
+pub push_reserved-requires : goal.push_reserved-requires
+push_reserved-requires g c =
+    numbered_room c.loop-number.invariant.workers (within c.loop-number-test.true c.len-count.ensures c.args.machines.ok.0) c.loop-number.workers.ok.0
+
+pub loop-number-preserved : goal.loop-number-preserved
+loop-number-preserved g c =
+    let inv = c.loop-number.invariant in
+    let machines = c.args.machines.items in
+    let n = c.loop-number.number in
+    let e = c.in-Ok.ensures in
+    let below = within c.loop-number-test.true c.len-count.ensures c.args.machines.ok.0 in
+    let here = taken_at machines n inv.machines_left below c.remove-machine.result c.remove-machine.ensures.value in
+    record {
+      machines_left = taken_one machines n inv.machines_left below c.remove-machine.ensures.items;
+      workers = numbered_one inv.workers c.push_reserved.ensures.items c.push_reserved.ensures.capacity
+          (e.at_boot, λ m there. let same : c.remove-machine.result ≡ m = cc (here, there) in e.site ∙ ap (λ x. g.I.CallLayer.site x) same);
+    }
+
+pub returns-clause-count : goal.returns-clause-count
+returns-clause-count g c =
+    let all : c.loop-number.number ≡ length c.args.machines.items =
+    let test = c.loop-number-test.false in let last = c.loop-number.auto.number-end in let count = c.len-count.ensures in let ok = c.args.machines.ok.0 in
+    omega (arith, test, last, count, ok) in
+    c.loop-number.invariant.workers.count ∙ all
+
+pub returns-clause-each : goal.returns-clause-each
+returns-clause-each g c = c.loop-number.invariant.workers.each

@@ -1,0 +1,14 @@
+use Rattle.std.proofs.Common.{◌≡◌, Some, drop, length, vec_capacity}
+use Rattle.std.specs.Prelude.{slice_get}
+use Rattle.layer_traits.specs.OnePlace.{cpu_at}
+use Rattle.cpu_workers.specs.{Seating.IsAtBoot, Working.Working}
+use Rattle.cpu_workers.proofs.Filling.{Numbered}
+use Rattle.cpu_workers.proofs.workers.seating.workers_over.Given as goal
+
+abbrev pub invariant-loop-number : goal.invariant-loop-number
+invariant-loop-number g l = record {
+  machines_left : l.machines.items ≡ drop l.number l.fn.machines.items;
+  workers : Numbered (λ k (w : Working). IsAtBoot l.boot (cpu_at k) w
+      × ((m : g.row.I-Machine.Denot) → slice_get l.fn.machines.items k ≡ Some m → w.site ≡ g.I.CallLayer.site m)) l.workers.items l.number
+      (length l.fn.machines.items) (vec_capacity l.workers);
+}

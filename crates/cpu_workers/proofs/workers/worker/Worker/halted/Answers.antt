@@ -1,0 +1,32 @@
+use Rattle.std.proofs.Common.{◌≡◌, sym, ◌∙◌, subst}
+use Rattle.cpu.specs.Table.Steps.{halted_at}
+use Rattle.cpu.proofs.{CpuStates.valid_cpu, PassSteps.current_within, CpuOverLayer.laws_of, CpuOverLayer.layered, CpuOverLayer.runs_home}
+use Rattle.cpu.proofs.{CpuOverLayer.observed_cpu, TableCalls.halted_read}
+use Rattle.cpu_workers.specs.Working.{IsPlanned, Working}
+use Rattle.cpu_workers.proofs.Planning.{own_reason, planned}
+use Rattle.cpu_workers.proofs.workers.worker.Worker.halted.Goals as goal
+
+pub halted-requires : goal.halted-requires
+halted-requires g c =
+    let m = c.self.inside.machine in
+    let p = c.self.inside.cpu in
+    let is = c.self.invariant in
+    let cpu = layered (laws_of g.met.I.CallLayer) m p is.fits is.number is.is (λ step. is.tabled) in
+    current_within (valid_cpu is.is) (runs_home cpu)
+
+pub returns-clause-is : goal.returns-clause-is
+returns-clause-is g c = λ setup of.
+    let I = g.I.CallLayer in
+    let m = c.self.inside.machine in
+    let p = c.self.inside.cpu in
+    let is = c.self.invariant in
+    let cpu = layered (laws_of g.met.I.CallLayer) m p is.fits is.number is.is (λ step. is.tabled) in
+    let same = halted_read (observed_cpu cpu is.stepwise) setup
+    (planned setup (I.homes_of m) (I.caps m) p.guests.items p.limit (subst (λ (w : Working). IsPlanned setup w.plan) (sym c.self.view_is) of)) in
+    subst (λ (w : Working). halted_at setup w.cpu w.private ≡ c.halted.result) c.self.view_is (same ∙ sym c.halted.ensures)
+
+pub returns-clause-own : goal.returns-clause-own
+returns-clause-own g c = λ used.
+    let I = g.I.CallLayer in
+    let p = c.self.inside.cpu in
+    own_reason (I.threads p.part) p.guests.items p.trace.items p.limit (sym c.halted.ensures ∙ used)

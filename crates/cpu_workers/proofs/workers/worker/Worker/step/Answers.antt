@@ -1,0 +1,33 @@
+use Rattle.std.proofs.Common.{ap, sym, ◌∙◌, subst}
+use Rattle.event_log.specs.declared.ids.CpuId.{CpuId}
+use Rattle.layer_traits.specs.{BufferEffects.opening_locks, QueueBlocks.inner}
+use Rattle.cpu.specs.{Table.Steps.cpu_step, Tables.private, Tower.Composed.named}
+use Rattle.cpu_workers.proofs.Planning.{planned, step_behind}
+use Rattle.cpu_workers.proofs.workers.worker.Worker.step.Goals as goal
+
+pub invariant_of-self : goal.invariant_of-self
+invariant_of-self g c =
+    let is = c.self.invariant in
+    let e = c.step.ensures in
+    record {
+      stepwise = is.stepwise;
+      fits = e.fits;
+      number = e.leaves.cpu ∙ sym e.leaves.number;
+      is = e.is;
+      tabled = e.table is.stepwise;
+      room = is.room;
+      opens = ap inner e.leaves.opening ∙ (is.opens ∙ ap opening_locks (sym e.leaves.caps));
+    }
+
+pub returns-clause-turned : goal.returns-clause-turned
+returns-clause-turned g c =
+    let I = g.I.CallLayer in
+    let law = g.met.I.CallLayer in
+    let m = c.self.inside.machine in
+    let p = c.self.inside.cpu in
+    let q = c.step.new.self in
+    let is = c.self.invariant in
+    let acts = subst (λ (d : CpuId). I.ActsFor m d) is.number (law.own_cpu p.part m is.fits) in
+    rw (← c.self.view_is) (λ setup of. step_behind (λ d. I.ActsFor m d) p.number (cpu_step setup p.number) (private (I.own p.part) p.guests.items p.trace.items)
+    (private (I.own q.part) q.guests.items q.trace.items) (named (I.acts m)) (named (I.acts c.step.new.m)) c.step.result acts
+    (c.step.ensures.steps is.stepwise setup (planned setup (I.homes_of m) (I.caps m) p.guests.items p.limit of)))

@@ -1,0 +1,186 @@
+//! Natives over machines of their own sides: from before their first calls to what they leave.
+
+ghost use Rattle.std.specs.Prelude.{◌≡◌, ℕ, ◌<◌, ◌≤◌, Some, [], All, IfOk, length, slice_get, vec_capacity};
+ghost use Rattle.event_log.specs.declared.ids.TheConstants.{BUFFERS, CPUS, THREADS};
+ghost use Rattle.layer_traits.specs.{BufferEffects.opening_locks, OnePlace.cpu_at, QueueBlocks.inner};
+ghost use Rattle.cpu_workers.specs.{Natives.HasLeftCalls, Natives.HasLeftMachine, Natives.IsNewCaller, Natives.OpensWith, Reports.Both, Seating.IsReady};
+ghost use Rattle.cpu_workers.specs.{Seating.IsUnused, Seating.tower_acts};
+
+use crate::natives::Native;
+use crate::natives::tasks::NativeTask;
+use crate::pool::run_all;
+use crate::refusals::WorkerError;
+use crate::workers::Caller;
+use event_log::{CpuId, NoMemory, Tid};
+use ipc_calls::{Ipc, TowerEdit, TowerLaws, TowerOver};
+use layer_traits::{CallLayer, IpcLaw, Layer, LockLaw};
+use std::alloc::Global;
+use std::marker::PhantomData;
+use std::sync::Wait;
+use std::thread::Threads;
+
+/// What a native leaves: its machine and itself.
+#[derive(Drop)]
+pub(crate) struct LeftNative<M: Drop, N: Drop> {
+    pub(crate) machine: M,
+    pub(crate) native: N,
+}
+
+// The natives before their first calls, each at the thread of its number and over its machine.
+fn tasks_over<I: CallLayer<IpcLaw> + Drop, N: Native + Drop>(
+    alloc: Global,
+    caps: &[u8],
+    homes: &[CpuId],
+    machines: Vec<I::Machine>,
+    natives: Vec<N>,
+) -> Result<Vec<NativeTask<I, N>>, NoMemory>
+where
+    I::Machine: Drop,
+    requires room { (m : I.Machine) → 0 < I.room m }
+    requires few { length machines.items ≤ CPUS }
+    requires count { length natives.items ≡ length machines.items }
+    requires buffers { length caps.now ≤ BUFFERS }
+    requires threads { length homes.now ≤ THREADS }
+    requires unused { (k : ℕ) (m : I.Machine) → slice_get machines.items k ≡ Some m
+        → IsUnused (I.IsFresh m homes.now (cpu_at k)) (I.homes_of m ≡ homes.now) (I.caps m ≡ caps.now)
+        (I.seen m ≡ []) (I.acts m ≡ []) (inner (I.opening m) ≡ opening_locks (I.caps m)) }
+    ensures count { IfOk result (λ tasks. length tasks.items ≡ length machines.items) }
+    ensures each { IfOk result (λ tasks. (k : ℕ) (t : _) → slice_get tasks.items k ≡ Some t
+        → IsNewCaller caps.now (cpu_at k) t.caller × (slice_get natives.items k ≡ Some t.native)
+        × ((m : I.Machine) → slice_get machines.items k ≡ Some m → t.caller.site ≡ I.site m)) }
+{
+    let mut machines = machines;
+    let mut natives = natives;
+    let count = machines.len();
+    let mut tasks = Vec::with_capacity(alloc, count)?;
+    for number in 0..count {
+        let machine = machines.remove(0);
+        let native = natives.remove(0);
+        let caller = Caller::new(
+            machine,
+            CpuId(number as u8),
+            Tid(number as u8),
+            homes,
+            caps.len() as u8,
+        );
+        tasks.push_reserved(NativeTask { caller, native });
+    }
+    Ok(tasks)
+}
+
+// What one native leaves.
+fn left_by<I: CallLayer<IpcLaw> + Drop, N: Native + Drop>(
+    task: NativeTask<I, N>,
+) -> LeftNative<I::Machine, N>
+where
+    I::Machine: Drop,
+    requires stepwise { I.IsStepwise }
+    ensures machine { HasLeftMachine task.caller (I.acts result.machine) (I.site result.machine) }
+    ensures owns { I.ActsFor result.machine task.caller.cpu }
+    ensures native { result.native ≡ task.native }
+{
+    let NativeTask { caller, native } = task;
+    LeftNative {
+        machine: caller.into_machine(),
+        native,
+    }
+}
+
+// What all natives leave, put into the list, which has room.
+fn all_left<I: CallLayer<IpcLaw> + Drop, N: Native + Drop>(
+    done: Vec<NativeTask<I, N>>,
+    mut left: Vec<LeftNative<I::Machine, N>>,
+) -> Vec<LeftNative<I::Machine, N>>
+where
+    I::Machine: Drop,
+    requires stepwise { I.IsStepwise }
+    requires empty { left.items ≡ [] }
+    requires room { length done.items ≤ vec_capacity left }
+    ensures { Both (λ d x. HasLeftMachine d.caller (I.acts x.machine) (I.site x.machine) × I.ActsFor x.machine d.caller.cpu
+        × (x.native ≡ d.native)) done.items result.items }
+{
+    for one in done {
+        let alone = left_by::<I, N>(one);
+        left.push_reserved(alone);
+    }
+    left
+}
+
+// Lets each native run over its machine, as `call_over` does, whatever the layers beneath the calls are.
+pub(crate) fn call_each<
+    I: CallLayer<IpcLaw> + Drop + Send,
+    N: Native + Drop + Send,
+    R: Threads + Wait + Sync,
+>(
+    rt: &R,
+    alloc: Global,
+    caps: &[u8],
+    homes: &[CpuId],
+    machines: Vec<I::Machine>,
+    natives: Vec<N>,
+) -> Result<Vec<LeftNative<I::Machine, N>>, WorkerError>
+where
+    I::Machine: Drop + Send,
+    requires stepwise { I.IsStepwise }
+    requires room { (m : I.Machine) → 0 < I.room m }
+    requires few { length machines.items ≤ CPUS }
+    requires count { length natives.items ≡ length machines.items }
+    requires buffers { length caps.now ≤ BUFFERS }
+    requires threads { length homes.now ≤ THREADS }
+    requires needs { All (λ n. N.Needs n caps.now) natives.items }
+    requires unused { (k : ℕ) (m : I.Machine) → slice_get machines.items k ≡ Some m
+        → IsUnused (I.IsFresh m homes.now (cpu_at k)) (I.homes_of m ≡ homes.now) (I.caps m ≡ caps.now)
+        (I.seen m ≡ []) (I.acts m ≡ []) (inner (I.opening m) ≡ opening_locks (I.caps m)) }
+    ensures count { IfOk result (λ left. length left.items ≡ length machines.items) }
+    ensures site { IfOk result (λ left. (k : ℕ) (x : _) (m : I.Machine) → slice_get left.items k ≡ Some x → slice_get machines.items k ≡ Some m
+        → I.site x.machine ≡ I.site m) }
+    ensures owns { IfOk result (λ left. (k : ℕ) (x : _) → slice_get left.items k ≡ Some x → I.ActsFor x.machine (cpu_at k)) }
+    ensures left { IfOk result (λ left. (k : ℕ) (x : _) (n : N) → slice_get left.items k ≡ Some x → slice_get natives.items k ≡ Some n
+        → HasLeftCalls N.Kept caps.now (cpu_at k) n x.native (I.acts x.machine)) }
+{
+    let left = Vec::with_capacity(alloc, machines.len())?;
+    let tasks = tasks_over::<I, N>(alloc, caps, homes, machines, natives)?;
+    let done = run_all(rt, alloc, tasks)?;
+    Ok(all_left::<I, N>(done, left))
+}
+
+/// Lets each native run over its machine, in a thread of its own, and gives what they leave, in their
+/// order. All memory is taken before any call. It alone names the layers of the tower, each of which
+/// makes a proof above it dearer.
+///
+/// Errors: `NoMemory` where memory was refused and `NoThread` where a thread could not be started;
+/// then no call was made.
+pub(crate) fn call_over<
+    L: Layer<LockLaw<TowerEdit>> + Drop + Send,
+    N: Native + Drop + Send,
+    R: Threads + Wait + Sync,
+>(
+    rt: &R,
+    alloc: Global,
+    caps: &[u8],
+    homes: &[CpuId],
+    machines: Vec<L::Machine>,
+    natives: Vec<N>,
+) -> Result<Vec<LeftNative<L::Machine, N>>, WorkerError>
+where
+    L::Machine: Drop + Send,
+    requires stepwise { L.IsStepwise }
+    requires room { (m : L.Machine) → 0 < L.room m }
+    requires few { length machines.items ≤ CPUS }
+    requires count { length natives.items ≡ length machines.items }
+    requires buffers { length caps.now ≤ BUFFERS }
+    requires threads { length homes.now ≤ THREADS }
+    requires needs { All (λ n. N.Needs n caps.now) natives.items }
+    requires ready { (k : ℕ) (m : L.Machine) → slice_get machines.items k ≡ Some m
+        → IsReady (L.ActsFor m (cpu_at k)) (L.IsOutside m (cpu_at k)) (L.seen m ≡ []) (L.acts m ≡ [])
+        (OpensWith (length machines.items) caps.now homes.now (L.opening m)) }
+    ensures count { IfOk result (λ left. length left.items ≡ length machines.items) }
+    ensures site { IfOk result (λ left. (k : ℕ) (x : _) (m : L.Machine) → slice_get left.items k ≡ Some x → slice_get machines.items k ≡ Some m
+        → L.site x.machine ≡ L.site m) }
+    ensures owns { IfOk result (λ left. (k : ℕ) (x : _) → slice_get left.items k ≡ Some x → L.ActsFor x.machine (cpu_at k)) }
+    ensures left { IfOk result (λ left. (k : ℕ) (x : _) (n : N) → slice_get left.items k ≡ Some x → slice_get natives.items k ≡ Some n
+        → HasLeftCalls N.Kept caps.now (cpu_at k) n x.native (tower_acts (L.acts x.machine))) }
+{
+    let _laws: TowerLaws = PhantomData;
+    call_each::<Ipc<TowerOver<L>>, N, R>(rt, alloc, caps, homes, machines, natives)
+}

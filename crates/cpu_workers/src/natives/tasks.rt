@@ -1,0 +1,42 @@
+//! A native in a thread of its own.
+
+ghost use Rattle.std.specs.Prelude.{◌≡◌, []};
+
+use crate::natives::Native;
+use crate::pool::Task;
+use crate::workers::Caller;
+use layer_traits::{CallLayer, IpcLaw};
+use std::sync::Wait;
+
+/// A native and the caller through which it calls.
+#[derive(Drop)]
+pub(crate) struct NativeTask<I: CallLayer<IpcLaw> + Drop, N: Native + Drop>
+where
+    I::Machine: Drop,
+{
+    pub(crate) caller: Caller<I>,
+    pub(crate) native: N,
+}
+
+impl<I: CallLayer<IpcLaw> + Drop, N: Native + Drop> Task for NativeTask<I, N>
+where
+    I::Machine: Drop,
+{
+    ghost use Rattle.std.specs.Prelude.{◌≡◌, []};
+    ghost use Rattle.cpu_workers.specs.Natives.{HasKept};
+
+    type Done = NativeTask<I, N>;
+
+    ghost MayRun = { λ t. (t.caller.calls ≡ []) × N.Needs t.native t.caller.caps };
+
+    ghost HasDone = { λ t done. HasKept N.Kept t.native t.caller done.native done.caller };
+
+    fn run<R: Wait>(self, rt: &R) -> NativeTask<I, N> {
+        let NativeTask {
+            mut caller,
+            mut native,
+        } = self;
+        native.run(rt, &mut caller);
+        NativeTask { caller, native }
+    }
+}

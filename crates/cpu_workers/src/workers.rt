@@ -1,0 +1,25 @@
+//! What acts for a CPU at a table of shared words: a worker by the step table, a caller by native code.
+//! A caller stands on `calling`. A worker takes its `turns` under a gate, until it stops; `starting` runs
+//! many in threads, `seating` each over its seat, and `run` those of a plan, of which it makes a report.
+
+mod callers;
+mod calling;
+mod gates;
+pub(crate) mod report;
+pub(crate) mod run;
+mod seating;
+pub(crate) mod seats;
+mod starting;
+mod stops;
+mod turns;
+mod worker;
+
+pub use callers::{Caller, Closed, MOST_CALLS};
+pub use calling::call;
+pub use gates::{Gate, Go, OpenGate};
+pub use report::Report;
+pub use run::run_workers;
+pub use starting::{Came, work_all};
+pub use stops::Stop;
+pub use turns::{Did, work};
+pub use worker::Worker;

@@ -1,0 +1,178 @@
+//! Callers: native threads that send to buffers and receive from them, each at a CPU of its own. No
+//! call takes memory. `send`, `recv` and `close` wait for other CPUs.
+
+ghost use Rattle.std.specs.Prelude.{◌≡◌, ◌<◌, ◌≤◌, false, [], MatchOption, if◌then◌else◌, is_ok, length};
+ghost use Rattle.event_log.specs.declared.entries.Kind.TheVariants as kind;
+ghost use Rattle.event_log.specs.Messages.{no_message};
+ghost use Rattle.layer_traits.specs.BufferLaw.{buffer_of};
+ghost use Rattle.cpu_workers.specs.Callers.{HasCalled, HasMade};
+
+use crate::workers::calling;
+use event_log::{BufId, CpuId, Msg, Tid};
+use layer_traits::{Call, CallLayer, IpcLaw, Reply};
+use std::marker::Model;
+use std::sync::Wait;
+use thiserror::Error;
+
+/// How many calls a caller makes at most, 2^59: as many as a million a second are in eighteen thousand
+/// years. The op and the pos of an entry count the calls of all callers, and are numbers of 64 bits.
+pub const MOST_CALLS: u64 = 0x0800_0000_0000_0000;
+
+/// Why a message was not sent: its buffer is closed.
+#[derive(Clone, Copy, Debug, PartialEq, Eq, Error)]
+#[error("Closed(16)")]
+pub struct Closed;
+
+/// One native thread that sends to buffers and receives from them, at a CPU of its own: that CPU's part
+/// of the layer of message calls with a machine of its own side. A contract sees it as plain data:
+/// which CPU and thread it is, the buffers' capacities, which machine, and the entries of its calls so
+/// far, oldest first.
+#[derive(Drop)]
+pub struct Caller<I: CallLayer<IpcLaw> + Drop>
+where
+    I::Machine: Drop,
+{
+    part: I,
+    machine: I::Machine,
+    cpu: CpuId,
+    thread: Tid,
+    made: u64,
+}
+
+impl<I: CallLayer<IpcLaw> + Drop> Model for Caller<I>
+where
+    I::Machine: Drop,
+{
+    ghost use Rattle.std.specs.Prelude.{◌≡◌, ◌<◌, None, reverse};
+    ghost use Rattle.layer_traits.specs.{declared.call_states.Stage.TheVariants.Idle, BufferEffects.opening_locks, BufferLaw.call_state_of, QueueBlocks.inner};
+    ghost use Rattle.cpu.specs.Cpus.{of_cpu};
+    ghost use Rattle.cpu_workers.specs.Callers.{CallerView, IsCaller};
+
+    ghost Value = { CallerView };
+
+    ghost view = { λ c. record {
+      cpu = c.cpu;
+      thread = c.thread;
+      caps = I.caps c.machine;
+      site = I.site c.machine;
+      calls = reverse (of_cpu c.cpu (I.seen c.machine));
+    } };
+
+    ghost invariant = { λ c. IsCaller (I.Fits c.part c.machine × (I.cpu_of c.part ≡ c.cpu)) ((m : I.Machine) → 0 < I.room m) (I.under_way c.part ≡ None)
+        ((call_state_of (I.call_states c.part) c.thread).stage ≡ Idle) (inner (I.opening c.machine) ≡ opening_locks (I.caps c.machine))
+        c.cpu (I.seen c.machine) c.made };
+}
+
+impl<I: CallLayer<IpcLaw> + Drop> Caller<I>
+where
+    I::Machine: Drop,
+{
+    ghost use Rattle.event_log.specs.{declared.ids.TheConstants.THREADS, Actions.phase};
+    ghost use Rattle.layer_traits.specs.{BufferEffects.opening_locks, QueueBlocks.inner, Plans.is_in_section};
+    ghost use Rattle.cpu_workers.specs.{declared.workers.callers.TheConstants.MOST_CALLS, Orders.IsTraceOf};
+
+    /// The caller of a thread of this CPU before its first call, over a machine of its own side in which
+    /// nothing was done, with threads of these homes and so many buffers.
+    ///
+    /// Requires: the machine is fresh for the CPU, and has room at any time.
+    pub fn new(
+        machine: I::Machine,
+        cpu: CpuId,
+        thread: Tid,
+        homes: &[CpuId],
+        buffers: u8,
+    ) -> Caller<I>
+        requires threads { length homes.now ≤ THREADS }
+        requires fresh { I.IsFresh machine homes.now cpu }
+        requires buffers { length (I.caps machine) ≡ buffers }
+        requires seen { I.seen machine ≡ [] }
+        requires room { (m : I.Machine) → 0 < I.room m }
+        requires opens { inner (I.opening machine) ≡ opening_locks (I.caps machine) }
+        ensures cpu { result.cpu ≡ cpu }
+        ensures thread { result.thread ≡ thread }
+        ensures caps { result.caps ≡ I.caps machine }
+        ensures site { result.site ≡ I.site machine }
+        ensures calls { result.calls ≡ [] }
+    {
+        Caller {
+            part: I::part(cpu, homes, buffers),
+            machine,
+            cpu,
+            thread,
+            made: 0,
+        }
+    }
+
+    // Does one call. Where no more may be made, it waits forever.
+    fn make<R: Wait>(&mut self, rt: &R, call: &Call) -> Reply
+        requires { (buffer_of call.now).0 < length self.old.caps }
+        ensures { HasCalled self.old self.new call.now result }
+    {
+        if self.made < MOST_CALLS {
+            let reply = calling::call(rt, &mut self.part, &mut self.machine, self.thread, call);
+            self.made += 1;
+            return reply;
+        }
+        for _ in rt.forever() {}
+        unreachable!()
+    }
+
+    /// Sends a message, once the buffer has room and it is the thread's turn. It is one call: one entry
+    /// more, of kind `Send`, or `SendClosed` at `Err`, where nothing was put.
+    ///
+    /// It waits for other CPUs, so it need not return.
+    ///
+    /// Requires: there is such a buffer. Errors: `Closed` where the buffer is closed by then.
+    pub fn send<R: Wait>(&mut self, rt: &R, to: BufId, message: &Msg) -> Result<(), Closed>
+        requires { to.0 < length self.old.caps }
+        ensures { HasMade self.old self.new (if is_ok result then kind.Send else kind.SendClosed) to message.now }
+    {
+        match self.make(rt, &Call::Send(to, *message)) {
+            Reply::Closed => Err(Closed),
+            _ => Ok(()),
+        }
+    }
+
+    /// Receives the first message of the buffer, once there is one and it is the thread's turn; `None`
+    /// where the buffer is closed and empty by then. It is one call: one entry more, of kind `Recv`, or
+    /// `RecvClosed` at `None`.
+    ///
+    /// It waits for other CPUs, so it need not return.
+    ///
+    /// Requires: there is such a buffer.
+    pub fn recv<R: Wait>(&mut self, rt: &R, from: BufId) -> Option<Msg>
+        requires { from.0 < length self.old.caps }
+        ensures { MatchOption result (HasMade self.old self.new kind.RecvClosed from no_message) (λ message. HasMade self.old self.new kind.Recv from message) }
+    {
+        match self.make(rt, &Call::Recv(from)) {
+            Reply::Got(message) => Some(message),
+            _ => None,
+        }
+    }
+
+    /// Closes the buffer, which may be closed already. It is one call: one entry more, of kind `Close`.
+    ///
+    /// It waits for other CPUs, so it need not return.
+    ///
+    /// Requires: there is such a buffer.
+    pub fn close<R: Wait>(&mut self, rt: &R, buffer: BufId)
+        requires { buffer.0 < length self.old.caps }
+        ensures { HasMade self.old self.new kind.Close buffer no_message }
+    {
+        let _ = self.make(rt, &Call::Close(buffer));
+    }
+
+    /// The machine of a caller that makes no more calls. Where one poll is one action, the caller's calls
+    /// are, once and in their order, its CPU's effects in the actions that the machine has seen, and no
+    /// section of the CPU is under way.
+    pub fn into_machine(self) -> I::Machine
+        ensures owns { I.ActsFor result self.cpu }
+        ensures site { I.site result ≡ self.site }
+        ensures few { length self.calls ≤ MOST_CALLS }
+        ensures trace { I.IsStepwise → IsTraceOf self.cpu self.caps (I.acts result) self.calls }
+        ensures rests { I.IsStepwise → is_in_section (phase self.cpu (I.acts result)) ≡ false }
+    {
+        let Caller { machine, .. } = self;
+        machine
+    }
+}

@@ -1,0 +1,197 @@
+//! One message call of a native thread, polled until it answers. It takes no memory, and waits for
+//! other CPUs.
+
+ghost use Rattle.std.specs.Prelude.{◌≡◌, ◌≢◌, ◌<◌, None, Some, IfOk, IfErr, length};
+ghost use Rattle.layer_traits.specs.{declared.call_states.Stage.TheVariants.Idle, BufferLaw.Calling, BufferLaw.MayGoOn, BufferLaw.MayPollCall};
+ghost use Rattle.layer_traits.specs.{BufferLaw.Passing, BufferLaw.buffer_of, BufferLaw.call_state_of, Passes.MayPass, declared.passes.Pass.TheVariants.End};
+ghost use Rattle.cpu_workers.specs.{declared.workers.calling.Begun.TheVariants.Calls, Calls.Ends, Calls.KeepsOn, Calls.MayBegin, Calls.MayPoll, Calls.Returned};
+ghost use Rattle.cpu_workers.specs.{Calls.under_way_of, Idling.is_idle};
+
+use crate::workers::turns::{SPINS, pause};
+use event_log::Tid;
+use layer_traits::{Call, CallLayer, IpcLaw, Pass, Reply};
+use std::sync::Wait;
+
+/// What a CPU polls for the call of one thread.
+#[derive(Clone, Copy, Drop)]
+pub(crate) enum Begun {
+    /// The call itself: its thread runs.
+    Calls,
+    /// A pass from thread to thread, after which the thread may run.
+    Passes(Pass),
+}
+
+// What a CPU with nothing under way polls next for the call of `t`. A thread in its hand goes home
+// first.
+fn choose<I: CallLayer<IpcLaw>>(part: &I, t: Tid) -> Begun
+    ensures may { MayBegin t (I.threads part.now) result }
+    ensures hand { result ≡ Calls → (I.threads part.now).hand ≡ None }
+    ensures calls { (I.threads part.now).hand ≡ None → (I.threads part.now).current ≡ Some t → result ≡ Calls }
+{
+    if let Some(woken) = part.hand() {
+        return Begun::Passes(Pass::MakeReady(woken));
+    }
+    match part.current() {
+        Some(runs) if runs == t => Begun::Calls,
+        Some(_) => Begun::Passes(Pass::YieldNow),
+        None if part.has_ready() => Begun::Passes(Pass::Switch),
+        None => Begun::Passes(Pass::Drain),
+    }
+}
+
+// One poll of a pass. Tells whether it goes on.
+fn poll_pass<I: CallLayer<IpcLaw>>(
+    part: &mut I,
+    m: &mut I::Machine,
+    t: Tid,
+    pass: Pass,
+    call: &Call,
+) -> Option<Begun>
+    requires fits { I.Fits part.old m.old }
+    requires room { 0 < I.room m.old }
+    requires may { MayPass pass (I.threads part.old) }
+    requires keeps { pass ≢ End }
+    requires goes_on { MayGoOn (I.under_way part.old) (Passing pass) }
+    ensures fits { I.Fits part.new m.new }
+    ensures cpu { I.cpu_of part.new ≡ I.cpu_of part.old }
+    ensures caps { I.caps m.new ≡ I.caps m.old }
+    ensures opening { I.opening m.new ≡ I.opening m.old }
+    ensures site { I.site m.new ≡ I.site m.old }
+    ensures under_way { I.under_way part.new ≡ under_way_of t result }
+    ensures may { MayPoll t (I.threads part.new) result }
+    ensures ended { (I.threads part.new).ended ≡ (I.threads part.old).ended }
+    ensures on { KeepsOn (I.cpu_of part.old) t call.now (I.call_states part.old) (I.call_states part.new) (I.seen m.old) (I.seen m.new) }
+{
+    let _ = t;
+    let _ = call;
+    match part.pass(m, pass) {
+        Some(()) => None,
+        None => Some(Begun::Passes(pass)),
+    }
+}
+
+// One poll of the call of `t`, which runs: its reply, or what is under way then.
+fn poll_call<I: CallLayer<IpcLaw>>(
+    part: &mut I,
+    m: &mut I::Machine,
+    t: Tid,
+    call: &Call,
+) -> Result<Reply, Option<Begun>>
+    requires fits { I.Fits part.old m.old }
+    requires room { 0 < I.room m.old }
+    requires buffer { (buffer_of call.now).0 < length (I.caps m.old) }
+    requires runs { (I.threads part.old).current ≡ Some t }
+    requires hand { I.under_way part.old ≡ None → (I.threads part.old).hand ≡ None }
+    requires goes_on { MayGoOn (I.under_way part.old) (Calling t) }
+    requires same { MayPollCall (call_state_of (I.call_states part.old) t) call.now }
+    ensures fits { I.Fits part.new m.new }
+    ensures cpu { I.cpu_of part.new ≡ I.cpu_of part.old }
+    ensures caps { I.caps m.new ≡ I.caps m.old }
+    ensures opening { I.opening m.new ≡ I.opening m.old }
+    ensures site { I.site m.new ≡ I.site m.old }
+    ensures ended { (I.threads part.new).ended ≡ (I.threads part.old).ended }
+    ensures runs { IfOk result (λ reply. (I.threads part.new).current ≡ Some t) }
+    ensures goes { IfErr result (λ begun. (I.under_way part.new ≡ under_way_of t begun) × MayPoll t (I.threads part.new) begun
+        × KeepsOn (I.cpu_of part.old) t call.now (I.call_states part.old) (I.call_states part.new) (I.seen m.old) (I.seen m.new)) }
+    ensures ends { IfOk result (λ reply. (I.under_way part.new ≡ None) × ((call_state_of (I.call_states part.new) t).stage ≡ Idle)
+        × Ends (I.cpu_of part.old) t call.now reply (I.call_states part.old) (I.seen m.old) (I.seen m.new)) }
+{
+    match part.poll(m, t, call) {
+        Some(reply) => Ok(reply),
+        None if part.current().is_some() => Err(Some(Begun::Calls)),
+        None => Err(None),
+    }
+}
+
+// One look, or one poll of what is under way, or of what comes next for the call of `t`: the call's
+// reply, or what is under way then.
+fn poll_once<I: CallLayer<IpcLaw>>(
+    part: &mut I,
+    m: &mut I::Machine,
+    t: Tid,
+    call: &Call,
+    begun: Option<Begun>,
+) -> Result<Reply, Option<Begun>>
+    requires fits { I.Fits part.old m.old }
+    requires room { 0 < I.room m.old }
+    requires buffer { (buffer_of call.now).0 < length (I.caps m.old) }
+    requires under_way { I.under_way part.old ≡ under_way_of t begun }
+    requires may { MayPoll t (I.threads part.old) begun }
+    requires same { MayPollCall (call_state_of (I.call_states part.old) t) call.now }
+    ensures fits { I.Fits part.new m.new }
+    ensures cpu { I.cpu_of part.new ≡ I.cpu_of part.old }
+    ensures caps { I.caps m.new ≡ I.caps m.old }
+    ensures opening { I.opening m.new ≡ I.opening m.old }
+    ensures site { I.site m.new ≡ I.site m.old }
+    ensures ended { (I.threads part.new).ended ≡ (I.threads part.old).ended }
+    ensures runs { IfOk result (λ reply. (I.threads part.new).current ≡ Some t) }
+    ensures goes { IfErr result (λ begun. (I.under_way part.new ≡ under_way_of t begun) × MayPoll t (I.threads part.new) begun
+        × KeepsOn (I.cpu_of part.old) t call.now (I.call_states part.old) (I.call_states part.new) (I.seen m.old) (I.seen m.new)) }
+    ensures ends { IfOk result (λ reply. (I.under_way part.new ≡ None) × ((call_state_of (I.call_states part.new) t).stage ≡ Idle)
+        × Ends (I.cpu_of part.old) t call.now reply (I.call_states part.old) (I.seen m.old) (I.seen m.new)) }
+{
+    if part.look(m) {
+        return Err(begun);
+    }
+    let next = match begun {
+        Some(next) => next,
+        None => choose(part, t),
+    };
+    match next {
+        Begun::Calls => poll_call(part, m, t, call),
+        Begun::Passes(pass) => Err(poll_pass(part, m, t, pass, call)),
+    }
+}
+
+// Whether nobody runs on the CPU, is in its hand or is ready there.
+pub(crate) fn is_idle<I: CallLayer<IpcLaw>>(part: &I) -> bool
+    ensures { result ≡ is_idle (I.threads part.now).current (I.threads part.now).hand (I.threads part.now).ready }
+{
+    match (part.current(), part.hand()) {
+        (None, None) => !part.has_ready(),
+        _ => false,
+    }
+}
+
+/// Does one message call of the thread `t`, whose CPU has nothing under way, and gives its reply: the
+/// CPU is polled until the call has answered. The call had exactly one effect, which is the CPU's one
+/// new entry, and the reply is that effect's.
+///
+/// It waits for other CPUs, so it need not return. No call takes memory.
+///
+/// Requires: the buffer's number is one of the machine's, which has room at any time. No call of `t` is
+/// under way.
+pub fn call<I: CallLayer<IpcLaw>, R: Wait>(
+    rt: &R,
+    part: &mut I,
+    m: &mut I::Machine,
+    t: Tid,
+    call: &Call,
+) -> Reply
+    requires fits { I.Fits part.old m.old }
+    requires room { (w : I.Machine) → 0 < I.room w }
+    requires buffer { (buffer_of call.now).0 < length (I.caps m.old) }
+    requires under_way { I.under_way part.old ≡ None }
+    requires idle { (call_state_of (I.call_states part.old) t).stage ≡ Idle }
+    ensures fits { I.Fits part.new m.new }
+    ensures under_way { I.under_way part.new ≡ None }
+    ensures idle { (call_state_of (I.call_states part.new) t).stage ≡ Idle }
+    ensures cpu { I.cpu_of part.new ≡ I.cpu_of part.old }
+    ensures caps { I.caps m.new ≡ I.caps m.old }
+    ensures opening { I.opening m.new ≡ I.opening m.old }
+    ensures site { I.site m.new ≡ I.site m.old }
+    ensures ended { (I.threads part.new).ended ≡ (I.threads part.old).ended }
+    ensures runs { (I.threads part.new).current ≡ Some t }
+    ensures returned { Returned (I.cpu_of part.old) t call.now result (I.seen m.old) (I.seen m.new) }
+{
+    let mut begun: Option<Begun> = None;
+    let mut spins = SPINS;
+    for _ in rt.forever() {
+        match poll_once(part, m, t, call, begun) {
+            Ok(reply) => return reply,
+            Err(goes_on) => begun = goes_on,
+        }
+        spins = pause(part.is_busy(), is_idle(part), spins);
+    }
+    unreachable!()
+}

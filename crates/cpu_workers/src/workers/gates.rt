@@ -1,0 +1,44 @@
+//! Gates: what may hold a CPU between two of its turns. `OpenGate` takes no memory and does not
+//! wait.
+
+ghost use Rattle.std.specs.Prelude.{◌≡◌, ℕ};
+
+use event_log::CpuId;
+
+/// What a gate answers.
+#[derive(Clone, Copy, Debug, PartialEq, Eq)]
+pub enum Go {
+    /// The CPU may take its turn.
+    Pass,
+    /// The CPU is to stop once none of its sections is under way.
+    Limit,
+}
+
+/// What a worker asks before each turn of its CPU, with the number of turns that the CPU has taken. A
+/// gate that wants to hold the CPU does so inside `pass`, up to a limit of its own, and then answers
+/// `Limit`; after that the CPU takes no turn but to end its section.
+pub trait Gate {
+    ghost use Rattle.event_log.specs.declared.ids.CpuId.{CpuId};
+    ghost use Rattle.cpu_workers.specs.declared.workers.gates.Go.{Go};
+
+    /// For which CPU, and at which of its turns, the gate may give an answer.
+    ghost MayAnswer: { Self → CpuId → Go → ℕ → Type 0 };
+
+    /// Whether `cpu`, which has taken `turn` turns, may take one more.
+    fn pass(&self, cpu: CpuId, turn: u64) -> Go
+        ensures { MayAnswer self.now cpu result turn };
+}
+
+/// The gate that is always open.
+#[derive(Clone, Copy, Debug, Drop)]
+pub struct OpenGate;
+
+impl Gate for OpenGate {
+    ghost use Rattle.cpu_workers.specs.declared.workers.gates.Go.TheVariants.{Pass};
+
+    ghost MayAnswer = { λ gate cpu go turn. go ≡ Pass };
+
+    fn pass(&self, _cpu: CpuId, _turn: u64) -> Go {
+        Go::Pass
+    }
+}

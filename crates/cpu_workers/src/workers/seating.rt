@@ -1,0 +1,207 @@
+//! The workers of a plan, each over a machine of its own side: from before their first turn to what
+//! they leave.
+
+ghost use Rattle.std.specs.Prelude.{◌≡◌, ℕ, ◌<◌, ◌≤◌, Some, [], IfOk, length, slice_get, vec_capacity};
+ghost use Rattle.event_log.specs.declared.ids.TheConstants.{CPUS};
+ghost use Rattle.boot.specs.Plan.{IsPlan};
+ghost use Rattle.cpu.specs.Boots.{homes_for};
+ghost use Rattle.layer_traits.specs.{BufferEffects.opening_locks, OnePlace.cpu_at, QueueBlocks.inner};
+ghost use Rattle.cpu_workers.specs.{Reports.Both, Seating.HasLeft, Seating.IsApart, Seating.IsAtBoot, Seating.IsReady, Seating.IsUnused, Seating.OpensPlan};
+ghost use Rattle.cpu_workers.specs.{Seating.tower_acts};
+
+use crate::refusals::WorkerError;
+use crate::workers::gates::Gate;
+use crate::workers::starting::{Came, work_all};
+use crate::workers::turns::Did;
+use crate::workers::worker::Worker;
+use boot::Boot;
+use cpu::{guests_of, homes_of};
+use event_log::{CpuId, Entry, NoMemory};
+use ipc_calls::{Ipc, TowerEdit, TowerLaws, TowerOver};
+use layer_traits::{CallLayer, IpcLaw, Layer, LockLaw};
+use std::alloc::Global;
+use std::marker::PhantomData;
+use std::sync::Wait;
+use std::thread::Threads;
+
+/// What a worker leaves: its machine, its trace and what it did.
+#[derive(Drop)]
+pub(crate) struct Left<M: Drop> {
+    pub(crate) machine: M,
+    pub(crate) trace: Vec<Entry>,
+    pub(crate) did: Did,
+}
+
+// The worker of a CPU of the plan before its first turn.
+fn worker_over<I: CallLayer<IpcLaw> + Drop>(
+    alloc: Global,
+    boot: &Boot,
+    number: CpuId,
+    machine: I::Machine,
+) -> Result<Worker<I>, NoMemory>
+where
+    I::Machine: Drop,
+    requires stepwise { I.IsStepwise }
+    requires room { (m : I.Machine) → 0 < I.room m }
+    requires unused { IsUnused (I.IsFresh machine (homes_for boot.now) number) (I.homes_of machine ≡ homes_for boot.now) (I.caps machine ≡ boot.now.caps)
+        (I.seen machine ≡ []) (I.acts machine ≡ []) (inner (I.opening machine) ≡ opening_locks (I.caps machine)) }
+    ensures at_boot { IfOk result (IsAtBoot boot.now number) }
+    ensures site { IfOk result (λ w. w.site ≡ I.site machine) }
+{
+    let homes = homes_of(boot);
+    let buffers = boot.caps().len() as u8;
+    let guests = guests_of(alloc, boot, number)?;
+    let limit = boot.trace() as usize;
+    Worker::at_boot(
+        alloc,
+        machine,
+        number,
+        homes.as_slice(),
+        buffers,
+        guests,
+        limit,
+    )
+}
+
+// The workers of all CPUs of the plan before their first turn, each over its machine.
+fn workers_over<I: CallLayer<IpcLaw> + Drop>(
+    alloc: Global,
+    boot: &Boot,
+    machines: Vec<I::Machine>,
+) -> Result<Vec<Worker<I>>, NoMemory>
+where
+    I::Machine: Drop,
+    requires stepwise { I.IsStepwise }
+    requires room { (m : I.Machine) → 0 < I.room m }
+    requires few { length machines.items ≤ CPUS }
+    requires unused { (k : ℕ) (m : I.Machine) → slice_get machines.items k ≡ Some m
+        → IsUnused (I.IsFresh m (homes_for boot.now) (cpu_at k)) (I.homes_of m ≡ homes_for boot.now) (I.caps m ≡ boot.now.caps)
+        (I.seen m ≡ []) (I.acts m ≡ []) (inner (I.opening m) ≡ opening_locks (I.caps m)) }
+    ensures count { IfOk result (λ workers. length workers.items ≡ length machines.items) }
+    ensures each { IfOk result (λ workers. (k : ℕ) (w : _) → slice_get workers.items k ≡ Some w
+        → IsAtBoot boot.now (cpu_at k) w × ((m : I.Machine) → slice_get machines.items k ≡ Some m → w.site ≡ I.site m)) }
+{
+    let mut machines = machines;
+    let count = machines.len();
+    let mut workers = Vec::with_capacity(alloc, count)?;
+    for number in 0..count {
+        let machine = machines.remove(0);
+        // No `?`, which would move the worker's many bytes three times more.
+        let worker = match worker_over::<I>(alloc, boot, CpuId(number as u8), machine) {
+            Ok(worker) => worker,
+            Err(error) => return Err(error),
+        };
+        workers.push_reserved(worker);
+    }
+    Ok(workers)
+}
+
+// What one worker leaves.
+fn apart<I: CallLayer<IpcLaw> + Drop>(came: Came<I>) -> Left<I::Machine>
+where
+    I::Machine: Drop,
+    ensures apart { IsApart came.worker (I.acts result.machine) (I.site result.machine) result.trace.items }
+    ensures owns { I.ActsFor result.machine came.worker.cpu }
+    ensures did { result.did ≡ came.did }
+{
+    let Came { worker, did } = came;
+    worker.keeps();
+    let (trace, machine) = worker.into_parts();
+    Left {
+        machine,
+        trace,
+        did,
+    }
+}
+
+// What all workers leave, put into the list, which has room.
+fn all_apart<I: CallLayer<IpcLaw> + Drop>(
+    came: Vec<Came<I>>,
+    mut left: Vec<Left<I::Machine>>,
+) -> Vec<Left<I::Machine>>
+where
+    I::Machine: Drop,
+    requires empty { left.items ≡ [] }
+    requires room { length came.items ≤ vec_capacity left }
+    ensures { Both (λ c x. IsApart c.worker (I.acts x.machine) (I.site x.machine) x.trace.items × I.ActsFor x.machine c.worker.cpu
+        × (x.did ≡ c.did)) came.items result.items }
+{
+    for one in came {
+        let alone = apart::<I>(one);
+        left.push_reserved(alone);
+    }
+    left
+}
+
+// Lets a worker of each CPU of the plan run over its machine, as `run_over` does, whatever the layers
+// beneath the calls are.
+pub(crate) fn run_each<
+    I: CallLayer<IpcLaw> + Drop + Send,
+    G: Gate + Sync,
+    R: Threads + Wait + Sync,
+>(
+    rt: &R,
+    alloc: Global,
+    boot: &Boot,
+    turns: u64,
+    gate: &G,
+    machines: Vec<I::Machine>,
+) -> Result<Vec<Left<I::Machine>>, WorkerError>
+where
+    I::Machine: Drop + Send,
+    requires stepwise { I.IsStepwise }
+    requires room { (m : I.Machine) → 0 < I.room m }
+    requires few { length machines.items ≤ CPUS }
+    requires unused { (k : ℕ) (m : I.Machine) → slice_get machines.items k ≡ Some m
+        → IsUnused (I.IsFresh m (homes_for boot.now) (cpu_at k)) (I.homes_of m ≡ homes_for boot.now) (I.caps m ≡ boot.now.caps)
+        (I.seen m ≡ []) (I.acts m ≡ []) (inner (I.opening m) ≡ opening_locks (I.caps m)) }
+    ensures count { IfOk result (λ left. length left.items ≡ length machines.items) }
+    ensures site { IfOk result (λ left. (k : ℕ) (x : _) (m : I.Machine) → slice_get left.items k ≡ Some x → slice_get machines.items k ≡ Some m
+        → I.site x.machine ≡ I.site m) }
+    ensures owns { IfOk result (λ left. (k : ℕ) (x : _) → slice_get left.items k ≡ Some x → I.ActsFor x.machine (cpu_at k)) }
+    ensures left { IfOk result (λ left. (k : ℕ) (x : _) → slice_get left.items k ≡ Some x
+        → HasLeft boot.now (G.MayAnswer gate.now) turns (cpu_at k) (I.acts x.machine) (I.site x.machine) x.trace.items x.did.taken x.did.stop) }
+{
+    let left = Vec::with_capacity(alloc, machines.len())?;
+    let workers = workers_over::<I>(alloc, boot, machines)?;
+    let came = work_all(rt, alloc, gate, workers, turns)?;
+    Ok(all_apart::<I>(came, left))
+}
+
+/// Lets a worker of each CPU of the plan run over its machine, each in a thread of its own, and gives
+/// what they leave, by CPU. All memory is taken before any step. It alone names the layers of the tower,
+/// each of which makes a proof above it dearer.
+///
+/// Errors: `NoMemory` where memory was refused and `NoThread` where a thread could not be started;
+/// then no step was taken.
+pub(crate) fn run_over<
+    L: Layer<LockLaw<TowerEdit>> + Drop + Send,
+    G: Gate + Sync,
+    R: Threads + Wait + Sync,
+>(
+    rt: &R,
+    alloc: Global,
+    boot: &Boot,
+    turns: u64,
+    gate: &G,
+    machines: Vec<L::Machine>,
+) -> Result<Vec<Left<L::Machine>>, WorkerError>
+where
+    L::Machine: Drop + Send,
+    requires stepwise { L.IsStepwise }
+    requires room { (m : L.Machine) → 0 < L.room m }
+    requires plan { IsPlan boot.now }
+    requires count { length machines.items ≤ boot.now.cpus }
+    requires few { length machines.items ≤ CPUS }
+    requires ready { (k : ℕ) (m : L.Machine) → slice_get machines.items k ≡ Some m
+        → IsReady (L.ActsFor m (cpu_at k)) (L.IsOutside m (cpu_at k)) (L.seen m ≡ []) (L.acts m ≡ []) (OpensPlan boot.now (L.opening m)) }
+    ensures count { IfOk result (λ left. length left.items ≡ length machines.items) }
+    ensures site { IfOk result (λ left. (k : ℕ) (x : _) (m : L.Machine) → slice_get left.items k ≡ Some x → slice_get machines.items k ≡ Some m
+        → L.site x.machine ≡ L.site m) }
+    ensures owns { IfOk result (λ left. (k : ℕ) (x : _) → slice_get left.items k ≡ Some x → L.ActsFor x.machine (cpu_at k)) }
+    ensures left { IfOk result (λ left. (k : ℕ) (x : _) → slice_get left.items k ≡ Some x
+        → HasLeft boot.now (G.MayAnswer gate.now) turns (cpu_at k) (tower_acts (L.acts x.machine)) (L.site x.machine) x.trace.items x.did.taken x.did.stop) }
+{
+    let _laws: TowerLaws = PhantomData;
+    run_each::<Ipc<TowerOver<L>>, G, R>(rt, alloc, boot, turns, gate, machines)
+}

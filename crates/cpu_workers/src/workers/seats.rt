@@ -1,0 +1,96 @@
+//! The seat of a CPU at the table of the tower's locks. No call takes memory or waits.
+
+ghost use Rattle.std.specs.Prelude.{◌≡◌};
+ghost use Rattle.table_machine.specs.SeatViews.{IsOf};
+
+use event_log::{CpuId, LockId};
+use ipc_calls::{TowerBlock, TowerEdit, TowerHanded};
+use layer_traits::{Mark, UsesGrantWords, Words};
+use std::marker::Model;
+use table_machine::{Key, Seat, Shared, TableWords, WaiterWords};
+
+/// A seat at a table of the tower's locks, whatever their words are: a [`Seat`] under a name of its
+/// own, so that no proof above it has to compare the tower's edits.
+#[derive(Drop)]
+pub(crate) struct TowerSeat<'a, K: TableWords> {
+    seat: Seat<'a, TowerEdit, K>,
+}
+
+impl<'a, K: TableWords> Model for TowerSeat<'a, K> {
+    ghost use Rattle.table_machine.specs.SeatViews.{SeatView};
+    ghost use Rattle.cpu_workers.specs.Seating.{Block, Edit};
+
+    ghost Value = { SeatView Edit Block };
+
+    ghost view = { λ s. s.seat };
+}
+
+impl<'a, K: TableWords> TowerSeat<'a, K> {
+    // Takes the seat of the key's CPU. The key is one of this table.
+    pub(crate) fn new(shared: &'a Shared<TowerEdit, K>, key: Key<TowerEdit>) -> TowerSeat<'a, K>
+        requires { IsOf shared.now key }
+        ensures { result ≡ key }
+    {
+        TowerSeat {
+            seat: shared.seat(key),
+        }
+    }
+
+    // Leaves the seat.
+    pub(crate) fn back(self) -> Key<TowerEdit>
+        ensures { result ≡ self.entry }
+    {
+        let TowerSeat { seat } = self;
+        seat.back()
+    }
+}
+
+impl<'a, K: TableWords> Words for TowerSeat<'a, K> {
+    ghost use Rattle.std.specs.Prelude.{◌≡◌, ℕ};
+    ghost use Rattle.event_log.specs.History.{IsLawful};
+    ghost use Rattle.layer_traits.specs.{WordsProtocol.MayCome, WordsProtocol.edit_of, OneLock.opened};
+    ghost use Rattle.table_machine.specs.SeatViews.{site_of};
+    ghost use Rattle.cpu_workers.specs.Closing.{tower_rules};
+
+    type Edit = TowerEdit;
+
+    type Mark = Mark<TowerEdit>;
+
+    ghost edit_in = { edit_of };
+
+    ghost opening = { λ s. opened s.start };
+
+    ghost seen = { λ s. s.seen };
+
+    ghost ActsFor = { λ s c. (c ≡ s.cpu) × IsLawful (MayCome (tower_rules.allowed (opened s.start))) s.seen };
+
+    ghost room = { λ s. 1 };
+
+    ghost site = { λ s. site_of s.table };
+
+    fn mark(_handed: TowerHanded, edit: TowerEdit) -> Mark<TowerEdit>
+        ensures { edit_of result ≡ edit }
+    {
+        Mark { edit }
+    }
+
+    fn draw(&mut self, cpu: CpuId, lock: LockId) -> u64 {
+        self.seat.draw(cpu, lock)
+    }
+
+    fn look(&mut self, cpu: CpuId, lock: LockId, ticket: u64) -> Option<TowerBlock> {
+        self.seat.look(cpu, lock, ticket)
+    }
+
+    fn spin(&mut self, _cpu: CpuId, _lock: LockId, _ticket: u64, _steps: &[CpuId]) -> usize {
+        0
+    }
+
+    fn free(&mut self, cpu: CpuId, lock: LockId, block: TowerBlock, mark: Mark<TowerEdit>) {
+        self.seat.free(cpu, lock, block, mark)
+    }
+
+    ghost legal = { λ s c acts. acts.1 };
+}
+
+impl<'a> UsesGrantWords for TowerSeat<'a, WaiterWords> {}

@@ -1,0 +1,180 @@
+//! The turns of one worker. `work` takes no memory, and waits for other CPUs.
+
+ghost use Rattle.std.specs.Prelude.{◌≡◌, ◌≢◌, ◌<◌, ◌⊎◌, true, false, [], None, Some, MatchOption};
+ghost use Rattle.layer_traits.specs.declared.steps.Reason.TheVariants.{StepsUsed};
+ghost use Rattle.cpu.specs.Table.{Setups.Setup, Steps.halted_at};
+ghost use Rattle.cpu_workers.specs.{Working.IsPlanned, Working.MayStep, Working.is_inside, Reports.HasRun, Reports.IsTrueStop, Reports.counted_on};
+ghost use Rattle.cpu_workers.specs.declared.workers.{gates.Go.TheVariants.Limit, gates.Go.TheVariants.Pass, stops.Stop.TheVariants.TurnsUsed};
+ghost use Rattle.cpu_workers.specs.Idling.{spins_left};
+
+use crate::workers::gates::{Gate, Go};
+use crate::workers::stops::Stop;
+use crate::workers::worker::Worker;
+use layer_traits::{CallLayer, IpcLaw, Reason};
+use std::sync::Wait;
+use std::thread;
+
+/// What a worker did.
+#[derive(Clone, Copy, Debug, Drop)]
+pub struct Did {
+    /// How many turns its CPU took; at 2^64 - 1 there may have been more.
+    pub taken: u64,
+    /// Why it stopped.
+    pub stop: Stop,
+}
+
+// How often a worker looks at a lock before it lets other threads run: with more threads than
+// processors, the one whose turn it is may not be running. So many looks take about as long as a
+// change of threads.
+pub(crate) const SPINS: u16 = 1000;
+
+// Lets other threads run where a worker's section is under way and no spins are left, and after each
+// turn that left its CPU idle: an idle CPU is nearly always inside its own queue's section, and where
+// its processor is taken there, every CPU that sends a thread home to it waits. Tells how many spins
+// are left: after the last one is one more, so that a worker whose look hits frees the lock before it
+// lets others run again.
+pub(crate) fn pause(busy: bool, idle: bool, spins: u16) -> u16
+    ensures { result ≡ spins_left busy spins }
+{
+    if busy && spins > 0 {
+        return spins - 1;
+    }
+    if busy {
+        thread::yield_now();
+        return 1;
+    }
+    if idle {
+        thread::yield_now();
+    }
+    SPINS
+}
+
+// One turn more.
+fn one_more(taken: u64) -> u64
+    ensures { result ≡ counted_on taken }
+{
+    if taken == u64::MAX { taken } else { taken + 1 }
+}
+
+// Why a worker whose CPU has no section under way stops, if it does.
+fn ending(halted: Option<Reason>, held: bool, taken: u64, turns: u64) -> Option<Stop>
+    requires { halted ≢ Some StepsUsed }
+    ensures stops { MatchOption result ((halted ≡ None) × (held ≡ false) × (taken < turns))
+        (λ stop. IsTrueStop halted (λ turn. held ≡ true) turns taken stop) }
+    // Where the gate has answered `Limit` too, that is why.
+    ensures used { result ≡ Some TurnsUsed → held ≡ false }
+{
+    match halted {
+        Some(Reason::AllEnded) => Some(Stop::AllEnded),
+        Some(Reason::TraceFull) => Some(Stop::TraceFull),
+        Some(Reason::StepsUsed) => unreachable!(),
+        None if held => Some(Stop::Held),
+        None if turns <= taken => Some(Stop::TurnsUsed),
+        None => None,
+    }
+}
+
+// Asks the gate, and notes whether it holds the worker now. It alone asks, and only where the gate has
+// not answered `Limit` yet.
+fn ask<I: CallLayer<IpcLaw> + Drop, G: Gate>(
+    gate: &G,
+    worker: &Worker<I>,
+    taken: u64,
+    held: &mut bool,
+)
+where
+    I::Machine: Drop,
+    requires free { held.old ≡ false }
+    ensures limits { held.new ≡ true → G.MayAnswer gate.now worker.now.cpu Limit taken }
+    ensures passes { held.new ≡ false → G.MayAnswer gate.now worker.now.cpu Pass taken }
+{
+    *held = gate.pass(worker.number(), taken) == Go::Limit;
+}
+
+// Asks the gate, unless it has answered `Limit` before.
+fn ask_if_free<I: CallLayer<IpcLaw> + Drop, G: Gate>(
+    gate: &G,
+    worker: &Worker<I>,
+    taken: u64,
+    held: &mut bool,
+)
+where
+    I::Machine: Drop,
+    ensures limits { held.new ≡ true → (held.old ≡ true) ⊎ G.MayAnswer gate.now worker.now.cpu Limit taken }
+    ensures passes { held.new ≡ false → G.MayAnswer gate.now worker.now.cpu Pass taken }
+    ensures kept { held.old ≡ true → held.new ≡ true }
+{
+    if !*held {
+        ask(gate, worker, taken, held);
+    }
+}
+
+// What a worker does before a turn: whether it stops, and why. Inside a section it asks the gate alone,
+// and goes on.
+fn before<I: CallLayer<IpcLaw> + Drop, G: Gate>(
+    gate: &G,
+    worker: &Worker<I>,
+    taken: u64,
+    turns: u64,
+    held: &mut bool,
+) -> Option<Stop>
+where
+    I::Machine: Drop,
+    ensures held { held.new ≡ true → (held.old ≡ true) ⊎ G.MayAnswer gate.now worker.now.cpu Limit taken }
+    ensures kept { held.old ≡ true → held.new ≡ true }
+    // It goes on between two sections only where no `Limit` came and fewer turns than `turns` are
+    // taken. Where none came, the gate was asked with their number, and let the CPU pass.
+    ensures may_take { result ≡ None → (is_inside worker.now ≡ true) ⊎ ((held.new ≡ false) × (taken < turns)) }
+    ensures passes { result ≡ None → held.new ≡ false → G.MayAnswer gate.now worker.now.cpu Pass taken }
+    ensures goes { result ≡ None → (setup : Setup) → IsPlanned setup worker.now.plan → MayStep setup worker.now }
+    ensures rests { (stop : _) → result ≡ Some stop → is_inside worker.now ≡ false }
+    ensures stops { (stop : _) → result ≡ Some stop → (setup : Setup) → IsPlanned setup worker.now.plan
+        → IsTrueStop (halted_at setup worker.now.cpu worker.now.private) (λ turn. held.new ≡ true) turns taken stop }
+    ensures used { result ≡ Some TurnsUsed → held.new ≡ false }
+{
+    if worker.is_busy() {
+        ask_if_free(gate, worker, taken, held);
+        return None;
+    }
+    let stop = ending(worker.halted(), *held, taken, turns);
+    if stop.is_some() {
+        return stop;
+    }
+    ask(gate, worker, taken, held);
+    if *held { Some(Stop::Held) } else { None }
+}
+
+/// Lets a worker take its turns, until it stops between two of its sections. Before each turn it
+/// looks whether a section is under way. Where none is, it stops if its CPU is halted, else if the
+/// gate has answered `Limit`, else if `turns` turns are taken; and else it asks the gate, whose
+/// `Limit` stops it without that turn. Inside a section it asks the gate too, but goes on to the
+/// section's end. After a `Limit` it asks no more, takes no turn but to end the section, and stops as
+/// `TurnsUsed` in no case.
+///
+/// It may wait for other CPUs' sections and inside the gate, so it need not return.
+///
+/// Requires: nothing was done in the machine yet.
+pub fn work<I: CallLayer<IpcLaw> + Drop, G: Gate, R: Wait>(
+    rt: &R,
+    gate: &G,
+    worker: &mut Worker<I>,
+    turns: u64,
+) -> Did
+where
+    I::Machine: Drop,
+    requires { worker.old.acts ≡ [] }
+    ensures { HasRun (G.MayAnswer gate.now) turns worker.old worker.new result.taken result.stop }
+{
+    let mut taken = 0;
+    let mut held = false;
+    let mut spins = SPINS;
+    for _ in rt.forever() {
+        if let Some(stop) = before(gate, worker, taken, turns, &mut held) {
+            return Did { taken, stop };
+        }
+        let _ = worker.step();
+        taken = one_more(taken);
+        spins = pause(worker.is_busy(), worker.is_idle(), spins);
+    }
+    unreachable!()
+}

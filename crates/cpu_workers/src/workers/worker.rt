@@ -1,0 +1,182 @@
+//! A worker: one CPU with its machine. Only `at_boot` takes memory. No call waits.
+
+ghost use Rattle.std.specs.Prelude.{◌≡◌, ◌≢◌, ◌<◌, ◌≤◌, Some, None, IfOk, [], length, vec_capacity};
+
+use crate::workers::calling::is_idle;
+use cpu::{Cpu, Guest};
+use event_log::{CpuId, Entry, NoMemory};
+use layer_traits::{CallLayer, IpcLaw, Reason, Step};
+use std::alloc::Global;
+use std::marker::Model;
+
+/// One CPU with a machine of its own side, in which it may act at any time. A contract sees it as
+/// plain data: which CPU it is, its plan, and how it stands in the step table.
+#[derive(Drop)]
+pub struct Worker<I: CallLayer<IpcLaw> + Drop>
+where
+    I::Machine: Drop,
+{
+    cpu: Cpu<I>,
+    machine: I::Machine,
+}
+
+impl<I: CallLayer<IpcLaw> + Drop> Model for Worker<I>
+where
+    I::Machine: Drop,
+{
+    ghost use Rattle.std.specs.Prelude.{◌≡◌, ◌<◌, length, vec_capacity};
+    ghost use Rattle.cpu.specs.{Cpus.IsCpu, Cpus.programs_of, Tables.IsTabled, Tables.private};
+    ghost use Rattle.cpu_workers.specs.{Working.Working, Seats.IsWorker};
+    ghost use Rattle.layer_traits.specs.{BufferEffects.opening_locks, QueueBlocks.inner};
+
+    ghost Value = { Working };
+
+    ghost view = { λ w. record {
+      cpu = w.cpu.number;
+      plan = record { homes = I.homes_of w.machine; caps = I.caps w.machine; programs = programs_of w.cpu.guests.items; limit = w.cpu.limit };
+      private = private (I.own w.cpu.part) w.cpu.guests.items w.cpu.trace.items;
+      acts = I.acts w.machine;
+      site = I.site w.machine;
+    } };
+
+    ghost invariant = { λ w. IsWorker I.IsStepwise (I.Fits w.cpu.part w.machine) (I.cpu_of w.cpu.part ≡ w.cpu.number)
+        (IsCpu (I.homes_of w.machine) (length (I.caps w.machine)) (I.seen w.machine) (I.threads w.cpu.part) (I.call_states w.cpu.part)
+        (I.under_way w.cpu.part) w.cpu.number w.cpu.guests.items w.cpu.trace.items w.cpu.limit (vec_capacity w.cpu.trace))
+        (IsTabled (I.homes_of w.machine) (I.caps w.machine) w.cpu.number (I.own w.cpu.part) (I.under_way w.cpu.part) w.cpu.guests.items (I.opening w.machine))
+        ((m : I.Machine) → 0 < I.room m) (inner (I.opening w.machine) ≡ opening_locks (I.caps w.machine)) };
+}
+
+impl<I: CallLayer<IpcLaw> + Drop> Worker<I>
+where
+    I::Machine: Drop,
+{
+    ghost use Rattle.layer_traits.specs.{declared.steps.Reason.TheVariants.StepsUsed, BufferEffects.opening_locks, QueueBlocks.inner};
+    ghost use Rattle.event_log.specs.{Actions.AreLegal, declared.ids.TheConstants.THREADS};
+    ghost use Rattle.cpu.specs.{Cpus.IsCpu, Cpus.programs_of, Tables.IsTabled, Tables.private, Boots.AreGuests, Table.Setups.Setup};
+    ghost use Rattle.cpu.specs.{Table.Setups.at_boot as boot_of, Table.Steps.halted_at};
+    ghost use Rattle.cpu_workers.specs.{Idling.is_idle, Working.IsPlanned, Working.IsSame, Working.Turned, Working.is_inside, Orders.HasFollowed, Orders.IsTraceOf};
+
+    /// The worker of a CPU and its machine, which agree. The machine does one action a step and has
+    /// room for one at any time, and each of its buffers opened empty.
+    ///
+    /// Requires: each poll is one action, and the machine has room at any time. CPU and machine
+    /// agree, and the CPU stands as the step table says. Each buffer opened empty.
+    pub fn new(cpu: Cpu<I>, machine: I::Machine) -> Worker<I>
+        requires stepwise { I.IsStepwise }
+        requires fits { I.Fits cpu.part machine }
+        requires number { I.cpu_of cpu.part ≡ cpu.number }
+        requires is { IsCpu (I.homes_of machine) (length (I.caps machine)) (I.seen machine) (I.threads cpu.part) (I.call_states cpu.part)
+            (I.under_way cpu.part) cpu.number cpu.guests.items cpu.trace.items cpu.limit (vec_capacity cpu.trace) }
+        requires tabled { IsTabled (I.homes_of machine) (I.caps machine) cpu.number (I.own cpu.part) (I.under_way cpu.part) cpu.guests.items (I.opening machine) }
+        requires room { (m : I.Machine) → 0 < I.room m }
+        requires opens { inner (I.opening machine) ≡ opening_locks (I.caps machine) }
+        ensures cpu { result.cpu ≡ cpu.number }
+        ensures plan { result.plan
+            ≡ record { homes = I.homes_of machine; caps = I.caps machine; programs = programs_of cpu.guests.items; limit = cpu.limit } }
+        ensures private { result.private ≡ private (I.own cpu.part) cpu.guests.items cpu.trace.items }
+        ensures acts { result.acts ≡ I.acts machine }
+        ensures site { result.site ≡ I.site machine }
+    {
+        Worker { cpu, machine }
+    }
+
+    /// The worker of a CPU before its first turn, with the guests of its home threads, over a
+    /// machine of its own side in which nothing was done, with threads of these homes and so many
+    /// buffers. Its trace has room for `limit` entries.
+    ///
+    /// Requires: each poll is one action, and the machine has room at any time. Nothing was done in
+    /// it, and it has these homes, at most `THREADS`, and so many buffers. There is a guest for
+    /// each thread at home here and for no other.
+    ///
+    /// Errors: `NoMemory` where an allocation was refused; then the machine is gone.
+    pub fn at_boot(
+        alloc: Global,
+        machine: I::Machine,
+        number: CpuId,
+        homes: &[CpuId],
+        buffers: u8,
+        guests: Vec<Option<Guest>>,
+        limit: usize,
+    ) -> Result<Worker<I>, NoMemory>
+        requires stepwise { I.IsStepwise }
+        requires threads { length homes.now ≤ THREADS }
+        requires fresh { I.IsFresh machine homes.now number }
+        requires homes { I.homes_of machine ≡ homes.now }
+        requires buffers { length (I.caps machine) ≡ buffers }
+        requires seen { I.seen machine ≡ [] }
+        requires guests { AreGuests homes.now buffers number guests.items }
+        requires room { (m : I.Machine) → 0 < I.room m }
+        requires opens { inner (I.opening machine) ≡ opening_locks (I.caps machine) }
+        ensures cpu { IfOk result (λ w. w.cpu ≡ number) }
+        ensures plan { IfOk result (λ w. w.plan
+            ≡ record { homes = I.homes_of machine; caps = I.caps machine; programs = programs_of guests.items; limit = limit }) }
+        ensures boots { IfOk result (λ w. (setup : Setup) → setup.homes ≡ homes.now → w.private ≡ boot_of setup number) }
+        ensures acts { IfOk result (λ w. w.acts ≡ I.acts machine) }
+        ensures site { IfOk result (λ w. w.site ≡ I.site machine) }
+    {
+        // A match and no `?`, which would move the CPU's many bytes three times more.
+        match Cpu::at_boot(alloc, number, homes, buffers, guests, limit) {
+            Ok(cpu) => Ok(Worker::new(cpu, machine)),
+            Err(error) => Err(error),
+        }
+    }
+
+    /// The trace of the worker's CPU and its machine.
+    pub fn into_parts(self) -> (Vec<Entry>, I::Machine)
+        ensures trace { result.0.items ≡ self.private.trace }
+        ensures acts { I.acts result.1 ≡ self.acts }
+        ensures site { I.site result.1 ≡ self.site }
+        ensures owns { I.ActsFor result.1 self.cpu }
+    {
+        let Worker { cpu, machine } = self;
+        (cpu.trace, machine)
+    }
+
+    /// What holds after any number of turns: the trace is, once and in their order, the CPU's effects
+    /// in the actions that it has seen, which are legal; it has kept to its room, each of its entries
+    /// is of a thread at home, and each of these has followed its program.
+    pub fn keeps(&self)
+        ensures trace { IsTraceOf self.now.cpu self.now.plan.caps self.now.acts self.now.private.trace }
+        ensures legal { AreLegal self.now.acts }
+        ensures follows { HasFollowed self.now }
+    {
+        let _ = &self.machine;
+    }
+
+    /// The number of the worker's CPU.
+    pub fn number(&self) -> CpuId
+        ensures { result ≡ self.now.cpu }
+    {
+        self.cpu.number
+    }
+
+    /// Whether a section of the CPU is under way.
+    pub fn is_busy(&self) -> bool
+        ensures { result ≡ is_inside self.now }
+    {
+        self.cpu.part.is_busy()
+    }
+
+    /// Whether nobody runs on the CPU, is in its hand or is ready there.
+    pub(crate) fn is_idle(&self) -> bool
+        ensures { result ≡ is_idle self.now.private.current self.now.private.hand self.now.private.ready }
+    {
+        is_idle(&self.cpu.part)
+    }
+
+    /// Why the CPU takes no step while no section of it is under way: `AllEnded` or `TraceFull`.
+    pub fn halted(&self) -> Option<Reason>
+        ensures is { (setup : Setup) → IsPlanned setup self.now.plan → halted_at setup self.now.cpu self.now.private ≡ result }
+        ensures own { result ≢ Some StepsUsed }
+    {
+        self.cpu.halted()
+    }
+
+    /// One step of the CPU: one local action or one atomic action. `Halted` where it took none.
+    pub fn step(&mut self) -> Step
+        ensures same { IsSame self.old self.new }
+        ensures turned { Turned self.old self.new result }
+    {
+        self.cpu.step(&mut self.machine)
+    }
+}
