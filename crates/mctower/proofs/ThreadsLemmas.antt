@@ -10,7 +10,7 @@ use Rattle.boot.specs.{declared.refusals.BootError.BootError, Plan.BootPlan, Pla
 use Rattle.tracer.specs.Sinks.{Outs}
 use Rattle.tracer.proofs.SinkLemmas.{all_out, outs_then}
 use Rattle.cpu.specs.{Boots.homes_for, Cpus.IsOfHome, Sound.setup_for}
-use Rattle.cpu_workers.specs.{declared.stops.Stop.Stop, Lawful.IsLawfulReport, Lawful.CpuReport, Lawful.Shown, Lawful.ReportsTrue, Lawful.left_in}
+use Rattle.cpu_workers.specs.{declared.workers.stops.Stop.Stop, Lawful.IsLawfulReport, Lawful.CpuReport, Lawful.Shown, Lawful.ReportsTrue, Lawful.left_in}
 use Rattle.mctower.specs.{declared.refusals.Refusal.Refusal, declared.refusals.Refusal.TheVariants.WriteFault}
 use Rattle.mctower.specs.{declared.run.Fault.Fault, declared.serve.Done.Done, declared.serve.Done.TheVariants.Worked, Output.Output, Refusals.from_fault, Refusals.lacks_memory}
 use Rattle.mctower.specs.{Serve.OfPlan, Serve.RefusedBy, Serve.WorksPlan, Texts.HaveText, Texts.IsOut, Texts.IsTextOf, Texts.Writes, Threads.IsWorked}

@@ -1,13 +1,13 @@
 -- What is said under a condition is so under any that it follows from: so what is said of layers whose polls are single actions holds
 -- without a condition where they are such.
-use Rattle.std.proofs.Common.{◌≡◌, ◌⊎◌, inl, inr, List, refl, subst}
+use Rattle.std.proofs.Common.{◌≡◌, List, refl}
 use Rattle.std.specs.Prelude.{Result, Ok, Err, IsErrAnd}
-use Rattle.event_log.specs.{declared.ids.CpuId.CpuId, Refusals.no_memory}
-use Rattle.boot.specs.{declared.locks.LockKind.LockKind, declared.refusals.BootError.BootError, Plan.BootPlan}
+use Rattle.event_log.specs.declared.{ids.CpuId.CpuId, refusals.NoMemory.NoMemory as NoMemoryTold}
+use Rattle.boot.specs.{declared.refusals.BootError.BootError, Plan.BootPlan, Plan.Fails}
 use Rattle.cpu.specs.{Claims.Shown, Systems.Ran, Systems.WentOn, Systems.goes, Systems.starts, Systems.stayed, Systems.took}
 use Rattle.mctower.specs.declared.run.Fault.{Fault, TheVariants.NoMemory, TheVariants.Boot, TheVariants.BadCpu, TheVariants.NoOrder, TheVariants.WriteFault}
 use Rattle.mctower.specs.{declared.states.State.State, Output.IsUntouched, Output.Output, Plans.from_boot, Running.IsPrinted, Running.IsRunOf}
-use Rattle.mctower.specs.{Running.NoCondition, Running.Refuses, Running.RunsOverTower, Running.RunsPlan, Running.RunsOn, Running.lock_in, State.IsStateOf}
+use Rattle.mctower.specs.{Running.NoCondition, Running.Refuses, Running.RunsOverTower, Running.RunsPlan, Running.RunsOn, State.IsStateOf}
 use Rattle.boot.specs.declared.refusals.BootError.TheVariants as refused
 
 module _ (If Where : Type 0) (follows : Where → If) where
@@ -66,32 +66,19 @@ module _ (If Where : Type 0) (follows : Where → If) where
   }
 
 -- want of memory is no more than that, whatever the text
-wants_memory : (read : Result BootPlan BootError) (steps : List CpuId) (out : Output) → IsUntouched out
-    → RunsOn NoCondition read steps (Err (NoMemory no_memory)) out
-wants_memory (Ok plan) steps out untouched = untouched
-wants_memory (Err e) steps out untouched = untouched
+wants_memory : (read : Result BootPlan BootError) (steps : List CpuId) (evidence : NoMemoryTold) (out : Output) → IsUntouched out
+    → RunsOn NoCondition read steps (Err (NoMemory evidence)) out
+wants_memory (Ok plan) steps evidence out untouched = untouched
+wants_memory (Err e) steps evidence out untouched = untouched
 
--- a text that is no plan is refused
-refused_text : (e : BootError) (out : Output) → IsUntouched out → Refuses e (Err (from_boot e)) out
-refused_text (refused.NoMemory evidence) out untouched = untouched
-refused_text refused.BadToml out untouched = (refl, untouched)
-refused_text (refused.MissingKey key) out untouched = (refl, untouched)
-refused_text (refused.OutOfRange key) out untouched = (refl, untouched)
-refused_text (refused.Guest t line fault) out untouched = (refl, untouched)
-
--- want of memory, or what the text's plan says of its lock
-abbrev IsNamed : Result LockKind Fault → Result BootPlan BootError → Type 0
-IsNamed named read = (named ≡ Err (NoMemory no_memory)) ⊎ (named ≡ lock_in read)
-
--- a text whose plan's lock cannot be told is run by nobody: it is refused, or memory was wanting
-pub unnamed_text : (read : Result BootPlan BootError) (steps : List CpuId) (fault : Fault) (out : Output)
-    → IsNamed (Err fault) read → IsUntouched out → RunsOn NoCondition read steps (Err fault) out
-unnamed_text read steps fault out (inl is) untouched =
-    let none : NoMemory no_memory ≡ fault = cc is in
-    subst (λ (f : Fault). RunsOn NoCondition read steps (Err f) out) none (wants_memory read steps out untouched)
-unnamed_text (Ok plan) steps fault out (inr is) untouched = absurd (cc is)
-unnamed_text (Err e) steps fault out (inr is) untouched =
-    let same : from_boot e ≡ fault = cc is in subst (λ (f : Fault). Refuses e (Err f) out) same (refused_text e out untouched)
+-- a text that gives no plan is run by nobody: it is refused, or memory was wanting
+pub unread_text : (read : Result BootPlan BootError) (steps : List CpuId) (e : BootError) (out : Output) → Fails e read → IsUntouched out
+    → RunsOn NoCondition read steps (Err (from_boot e)) out
+unread_text read steps (refused.NoMemory evidence) out fails untouched = wants_memory read steps evidence out untouched
+unread_text read steps refused.BadToml out fails untouched = rw fails (refl, untouched)
+unread_text read steps (refused.MissingKey key) out fails untouched = rw fails (refl, untouched)
+unread_text read steps (refused.OutOfRange key) out fails untouched = rw fails (refl, untouched)
+unread_text read steps (refused.Guest t line fault) out fails untouched = rw fails (refl, untouched)
 
 -- a fault that is passed on is what is told
 pub fault_told : (read : Result BootPlan BootError) (steps : List CpuId) (fault : Fault) (told : Result State Fault) (out : Output)

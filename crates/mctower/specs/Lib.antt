@@ -6,6 +6,7 @@ pub mod Output
 pub mod Print
 pub mod Help
 pub mod Faults
+pub mod PlanFaults
 pub mod Plans
 pub mod Texts
 pub mod Running

@@ -2,7 +2,7 @@
 use Rattle.std.specs.Prelude.{ℕ, List, codes}
 use Rattle.clap.specs.Walk.{Text}
 use Rattle.event_log.specs.Refusals.{no_memory}
-use Rattle.mctower.specs.{Faults.fault_text, Output.IsPut, Output.Output, Print.PrintsRefusal}
+use Rattle.mctower.specs.{Faults.fault_text, Output.IsTold, Output.Output, PlanFaults.plan_line}
 use Rattle.mctower.specs.{declared.refusals.Refusal.Refusal, declared.run.Fault.Fault, declared.schedule.StepsError.StepsError}
 use Rattle.mctower.specs.declared.refusals.Refusal.TheVariants.{BadLine, NoMemory, BadCpu, NoThread, NoOrder, ReadFault, WriteFault, BadSchedule, Plan}
 use Rattle.cpu_workers.specs.declared.refusals.WorkerError.{WorkerError}
@@ -48,15 +48,15 @@ status_of_refusal WriteFault = 1
 status_of_refusal BadSchedule = 2
 status_of_refusal (Plan error) = 1
 
--- what tells a refusal of these words is out: what is wrong with them where they are no command line; of a plan a line that tells why it is
--- refused; else a line with the refusal's name and number; where the sink failed, a beginning of it
+-- what tells a refusal of these words is out and passed on: what is wrong with them where they are no command line; of a plan the line that tells
+-- why it is refused; else a line with the refusal's name and number; where the sink failed, a beginning of it
 abbrev pub PutsRefusal : List Text → Refusal → Output → Type 0
-PutsRefusal words (BadLine fault) out = IsPut out (fault_text words fault)
-PutsRefusal words (NoMemory refused) out = IsPut out (codes "error: NoMemory(1)\n")
-PutsRefusal words BadCpu out = IsPut out (codes "error: BadCpu(4)\n")
-PutsRefusal words (NoThread refused) out = IsPut out (codes "error: NoThread(5)\n")
-PutsRefusal words NoOrder out = IsPut out (codes "error: NoOrder(6)\n")
-PutsRefusal words ReadFault out = IsPut out (codes "error: ReadFault(7)\n")
-PutsRefusal words WriteFault out = IsPut out (codes "error: WriteFault(8)\n")
-PutsRefusal words BadSchedule out = IsPut out (codes "error: BadSchedule(9)\n")
-PutsRefusal words (Plan error) out = PrintsRefusal out
+PutsRefusal words (BadLine fault) out = IsTold out (fault_text words fault)
+PutsRefusal words (NoMemory refused) out = IsTold out (codes "error: NoMemory(1)\n")
+PutsRefusal words BadCpu out = IsTold out (codes "error: BadCpu(4)\n")
+PutsRefusal words (NoThread refused) out = IsTold out (codes "error: NoThread(5)\n")
+PutsRefusal words NoOrder out = IsTold out (codes "error: NoOrder(6)\n")
+PutsRefusal words ReadFault out = IsTold out (codes "error: ReadFault(7)\n")
+PutsRefusal words WriteFault out = IsTold out (codes "error: WriteFault(8)\n")
+PutsRefusal words BadSchedule out = IsTold out (codes "error: BadSchedule(9)\n")
+PutsRefusal words (Plan error) out = IsTold out (plan_line error)

@@ -105,11 +105,6 @@ RunsText IsStepwise (Err e) steps result out = Refuses e (system_in result) out
 abbrev pub NoCondition : Type 0
 NoCondition = Unit {0}
 
--- the lock that a text's plan names, or the text's first fault
-abbrev pub lock_in : Result BootPlan BootError → Result LockKind Fault
-lock_in (Ok plan) = Ok plan.lock
-lock_in (Err e) = Err (from_boot e)
-
 -- what is told of a run's answer: what the state lines tell of its system, or its fault
 abbrev pub Tells : Result Shown Fault → Result State Fault → Type 0
 Tells (Ok s) (Ok state) = IsStateOf NoCondition s state

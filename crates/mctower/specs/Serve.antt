@@ -1,21 +1,21 @@
 -- What serving an order gives: the answer, what is on standard output and on standard error, and whether the input is read.
 use Rattle.std.specs.Prelude.{◌≡◌, ◌*◌, ◌++◌, ◌⊎◌, ℕ, Bool, true, false, List, [], ◌∷◌, Option, Some, None, Result, Ok, Err, Vec, IfSome, IsUtf8, codes}
 use Rattle.std.specs.Prelude.{decimal, if◌then◌else◌, is_some, map, string_bytes, String}
-use Rattle.std.specs.{Global.Global, declared.io.ErrorKind.ErrorKind, declared.io.ErrorKind.TheVariants.OutOfMemory}
+use Rattle.std.specs.{Global.Global, declared.io.ErrorKind.ErrorKind, declared.io.ErrorKind.TheVariants.OutOfMemory, declared.io.ErrorKind.TheVariants.InvalidData}
 use Rattle.clap.specs.Walk.{Text}
 use Rattle.event_log.specs.{declared.ids.CpuId.CpuId, Streams.IsFirstInFirstOut}
 use Rattle.boot.specs.{declared.refusals.BootError.BootError, declared.refusals.BootError.TheVariants.BadToml, Plan.BootPlan, Plan.plan_of}
 use Rattle.tracer.specs.{declared.verdicts.Verdict.Verdict, Judging.verdict_of, Verdicts.IsTraceOfRun}
-use Rattle.mctower.specs.{Line.Ghost, Line.count, Line.order_of, Line.run, Line.threads, Line.check, Output.IsPut, Output.IsUntouched, Output.Output, Refusals.PutsRefusal}
-use Rattle.mctower.specs.{Refusals.lacks_memory, Refusals.lacks_thread, Refusals.status_of_refusal, declared.refusals.Refusal.Refusal, Running.AreCpus, Running.IsRunOf}
-use Rattle.mctower.specs.{Faults.IsFault, Faults.IsWhy, Help.help_of, Help.topic_of, declared.faults.LineFault.LineFault, declared.faults.NoOrder.TheVariants.AsksHelp}
-use Rattle.mctower.specs.{declared.faults.NoOrder.TheVariants.AsksVersion, declared.help.TheConstants.VERSION}
+use Rattle.mctower.specs.{Line.Ghost, Line.count, Line.order_of, Line.run, Line.threads, Line.check, Output.IsPut, Output.IsTold, Output.IsUntouched, Output.Output}
+use Rattle.mctower.specs.{Refusals.PutsRefusal, Refusals.lacks_memory, Refusals.lacks_thread, Refusals.status_of_refusal, declared.refusals.Refusal.Refusal, Running.AreCpus, Running.IsRunOf}
+use Rattle.mctower.specs.{Faults.IsFault, Faults.IsWhy, Help.help_of, Help.topic_of, declared.faults.LineFault.LineFault, declared.faults.LineFault.TheVariants.NotText}
+use Rattle.mctower.specs.{declared.faults.NoOrder.TheVariants.AsksHelp, declared.faults.NoOrder.TheVariants.AsksVersion, declared.help.TheConstants.VERSION}
 use Rattle.mctower.specs.{Running.NoCondition, State.IsStateOf, State.text_of_state, declared.serve.Done.Done, declared.serve.Done.TheVariants.Exit}
 use Rattle.mctower.specs.{declared.serve.Done.TheVariants.Ran, declared.serve.Done.TheVariants.Worked, declared.states.State.State, Schedule.steps_of}
 use Rattle.mctower.specs.{Tabled.IsStateOfRun, Tabled.IsTextOfRun, Texts.IsTextOf, Threads.IsWorked, Threads.stop_text}
 use Rattle.mctower.specs.declared.refusals.Refusal.TheVariants.{BadLine, BadCpu, ReadFault, WriteFault, BadSchedule, Plan as BadPlan}
 use Rattle.cpu.specs.Claims.{Shown, traces_of}
-use Rattle.cpu_workers.specs.declared.stops.Stop.{Stop}
+use Rattle.cpu_workers.specs.declared.workers.stops.Stop.{Stop}
 use Rattle.tracer.specs.declared.verdicts.Verdict.TheVariants as verdict
 use Rattle.tracer.specs.Reasons as reasons
 use Rattle.tracer.specs.declared.checking.InputFault.{InputFault}
@@ -46,6 +46,11 @@ IsInput input text = IfSome input (λ known. text ≡ known)
 abbrev pub kind_refused : ErrorKind → Refusal
 kind_refused OutOfMemory = lacks_memory
 kind_refused kind = ReadFault
+
+-- what is refused where the words could not be had: one that is no text makes a bad command line
+abbrev pub words_refused : ErrorKind → Refusal
+words_refused InvalidData = BadLine NotText
+words_refused kind = kind_refused kind
 
 -- what an input that was not judged refuses
 abbrev pub fault_refused : InputFault → Refusal
@@ -185,12 +190,12 @@ Serves words (Some (threads turns)) input answer out = OfInput (WorksPlan turns)
 
 -- ---- standard error
 
--- what is on standard error, by the answer to these words: the state lines after a good run, why each worker stopped after one in threads,
--- nothing after a yes, a no, a count, the help or the version; else what tells the refusal
+-- what is on standard error and passed on, by the answer to these words: the state lines after a good run, why each worker stopped after one in
+-- threads, nothing after a yes, a no, a count, the help or the version; else what tells the refusal
 abbrev pub Reports : List Text → Result Done Refusal → Output → Type 0
 Reports words (Ok (Exit status)) out = IsUntouched out
-Reports words (Ok (Ran state)) out = IsPut out (text_of_state state)
-Reports words (Ok (Worked stops)) out = IsPut out (stop_text stops.items)
+Reports words (Ok (Ran state)) out = IsTold out (text_of_state state)
+Reports words (Ok (Worked stops)) out = IsTold out (stop_text stops.items)
 Reports words (Err refusal) out = PutsRefusal words refusal out
 
 -- A command line is served: there is one answer by which the exit status, standard output and standard error are.

@@ -5,8 +5,8 @@ use Rattle.event_log.specs.{declared.ids.CpuId.CpuId, Streams.IsFirstInFirstOut}
 use Rattle.tracer.specs.TraceText.{text_line, numbered}
 use Rattle.boot.specs.Plan.{BootPlan}
 use Rattle.cpu.specs.Sound.{setup_for}
-use Rattle.cpu_workers.specs.{declared.gates.Go.Go, declared.gates.Go.TheVariants.Pass, Lawful.IsLawfulReport, Lawful.Shown, Lawful.left_in}
-use Rattle.cpu_workers.specs.declared.stops.Stop.{Stop, TheVariants.AllEnded, TheVariants.TurnsUsed, TheVariants.TraceFull, TheVariants.Held}
+use Rattle.cpu_workers.specs.{declared.workers.gates.Go.Go, declared.workers.gates.Go.TheVariants.Pass, Lawful.IsLawfulReport, Lawful.Shown, Lawful.left_in}
+use Rattle.cpu_workers.specs.declared.workers.stops.Stop.{Stop, TheVariants.AllEnded, TheVariants.TurnsUsed, TheVariants.TraceFull, TheVariants.Held}
 use Rattle.mctower.specs.{StateLines.cpu_pieces, Texts.IsTextOf}
 
 -- the word for a stop

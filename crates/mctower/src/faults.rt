@@ -4,14 +4,14 @@
 ghost use Rattle.std.specs.Prelude.{◌≡◌, None, codes, false, map};
 ghost use Rattle.clap.specs.{Matches.found_of, Values.kind_of, Walk.rows_of};
 ghost use Rattle.tracer.specs.Sinks.{has_failed};
-ghost use Rattle.mctower.specs.{Line.order_in, Line.order_of, Output.IsPut, Output.between, Print.shown_line};
+ghost use Rattle.mctower.specs.{Line.order_in, Line.order_of, Output.IsTold, Output.between, Print.shown_line};
 ghost use Rattle.mctower.specs.{Faults.IsFaultIn, Faults.TellsWhy, Faults.TellsKind, Faults.fault_lines, Faults.fault_text, Faults.first_bad, Faults.is_bad};
 ghost use Rattle.mctower.specs.{Faults.kind_words, Faults.option_name, Faults.value_at, Faults.value_lines, Faults.wanted_of};
 
 use crate::help::usage_on;
 use crate::line::{MOST_CPUS, MOST_TIMES, MOST_TURNS, lock_given, number_of, parse};
 use crate::memory::told_by_clap;
-use crate::print::{Shown, print, shown};
+use crate::print::{Shown, shown, tell};
 use clap::ArgMatches;
 use clap::error::ErrorKind;
 use event_log::NoMemory;
@@ -247,12 +247,12 @@ pub fn why_no_order(alloc: Global, words: &[&str]) -> Result<NoOrder, NoMemory>
 /// Puts out a line with what is wrong and what it names, and the usage of the words' command.
 fn put_fault<W: Write>(sink: &mut Sink<W>, words: &[&str], what: &'static str, named: Shown)
     requires { has_failed sink.old ≡ false }
-    ensures { IsPut (between W.contents sink.old sink.new) (fault_lines (map (λ w. w.now) words.now) what.now named.bytes) }
+    ensures { IsTold (between W.contents sink.old sink.new) (fault_lines (map (λ w. w.now) words.now) what.now named.bytes) }
 {
     let what = what.as_bytes();
     let named = named.as_str().as_bytes();
     let usage = usage_on(words).as_bytes();
-    let _ = print(
+    tell(
         sink,
         &[b"error: ".as_slice(), what, named, b"\n".as_slice(), usage],
     );
@@ -262,7 +262,7 @@ fn put_fault<W: Write>(sink: &mut Sink<W>, words: &[&str], what: &'static str, n
 /// command.
 fn put_value_fault<W: Write>(sink: &mut Sink<W>, words: &[&str], option: ValueOption, value: Shown)
     requires { has_failed sink.old ≡ false }
-    ensures { IsPut (between W.contents sink.old sink.new) (value_lines (map (λ w. w.now) words.now) option value.bytes) }
+    ensures { IsTold (between W.contents sink.old sink.new) (value_lines (map (λ w. w.now) words.now) option value.bytes) }
 {
     let name = option_name(option).as_bytes();
     let value = value.as_str().as_bytes();
@@ -278,7 +278,7 @@ fn put_value_fault<W: Write>(sink: &mut Sink<W>, words: &[&str], option: ValueOp
         b"\n".as_slice(),
         usage,
     ];
-    let _ = print(sink, &pieces);
+    tell(sink, &pieces);
 }
 
 /// Tells what is wrong with words: a line `error: ..`, and the two lines of usage of the command that
@@ -287,7 +287,7 @@ fn put_value_fault<W: Write>(sink: &mut Sink<W>, words: &[&str], option: ValueOp
 /// Requires: the sink has not failed.
 pub(crate) fn write_fault<W: Write>(sink: &mut Sink<W>, words: &[&str], fault: LineFault)
     requires { has_failed sink.old ≡ false }
-    ensures { IsPut (between W.contents sink.old sink.new) (fault_text (map (λ w. w.now) words.now) fault) }
+    ensures { IsTold (between W.contents sink.old sink.new) (fault_text (map (λ w. w.now) words.now) fault) }
 {
     match fault {
         LineFault::NotText => put_fault(sink, words, "a word is no UTF-8 text", Shown::new()),

@@ -16,7 +16,7 @@
 ghost use Rattle.std.specs.Prelude.{◌≡◌, IfOk, false, map, string_bytes};
 ghost use Rattle.std.specs.Process.{exit_status};
 ghost use Rattle.tracer.specs.Sinks.{has_failed};
-ghost use Rattle.mctower.specs.{Output.between, Refusals.PutsRefusal, Refusals.status_of_refusal, Serve.EndsProcess};
+ghost use Rattle.mctower.specs.{Output.between, Refusals.PutsRefusal, Refusals.status_of_refusal, Serve.EndsProcess, Serve.words_refused};
 
 pub mod count;
 pub mod faults;
@@ -24,6 +24,7 @@ mod help;
 pub mod line;
 pub mod locks;
 mod memory;
+mod plan_faults;
 pub mod print;
 pub mod reading;
 pub mod refusals;
@@ -57,20 +58,27 @@ fn main(rt: HostRuntime) -> ExitCode {
     }
 }
 
-/// The words of the command line. One that is no UTF-8 text makes it a bad one.
+/// Why the words could not be had, by the kind of the error: one that is no UTF-8 text makes a bad
+/// command line.
+fn words_refused(kind: io::ErrorKind) -> Refusal
+    ensures { result ≡ words_refused kind }
+{
+    match kind {
+        io::ErrorKind::InvalidData => Refusal::BadLine(LineFault::NotText),
+        kind => read_refused(kind),
+    }
+}
+
+/// The words of the command line.
+///
+/// Errors: as the kind of the error says.
 fn words_after_the_name(rt: &HostRuntime) -> Result<Vec<String>, Refusal> {
     match env::args(rt) {
         Ok(args) => match args.skip(1).collect(rt.alloc()) {
             Ok(words) => Ok(words),
             Err(error) => Err(Refusal::NoMemory(NoMemory::from(error))),
         },
-        Err(error) => {
-            if error.kind() == io::ErrorKind::InvalidData {
-                Err(Refusal::BadLine(LineFault::NotText))
-            } else {
-                Err(read_refused(error.kind()))
-            }
-        }
+        Err(error) => Err(words_refused(error.kind())),
     }
 }
 

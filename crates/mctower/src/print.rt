@@ -1,14 +1,12 @@
-//! What the program prints: lines on standard output, and one line for each refusal. No call takes
-//! memory or waits, unless the sink's writer does.
+//! What the program prints: pieces, all of which go out, and texts that are shown in a line. No call
+//! takes memory or waits, unless the sink's writer does.
 
 ghost use Rattle.std.specs.Prelude.{◌≡◌, IfOk, false, is_err, true};
 ghost use Rattle.std.specs.List.{before_first, flat_map};
 ghost use Rattle.tracer.specs.Sinks.{WentOut, has_failed, is_flushed};
-ghost use Rattle.mctower.specs.{Output.between, Print.PrintsRefusal, Print.is_line_feed, Print.shown_as, Print.shown_line};
+ghost use Rattle.mctower.specs.{Output.IsTold, Output.between, Print.is_line_feed, Print.shown_line};
 
 use arrayvec::ArrayString;
-use std::fmt;
-use std::fmt::Write as _;
 use std::io::Write;
 use tracer::{Sink, WriteFault};
 
@@ -43,7 +41,27 @@ pub fn print<W: Write>(sink: &mut Sink<W>, pieces: &[&[u8]]) -> Result<(), Write
     sink.flush()
 }
 
-/// How many bytes of what a refusal says are shown at most.
+/// Writes all pieces and sees that they are out, if the sink takes them.
+///
+/// Requires: the sink has not failed.
+pub(crate) fn tell<W: Write>(sink: &mut Sink<W>, pieces: &[&[u8]])
+    requires { has_failed sink.old ≡ false }
+    ensures { IsTold (between W.contents sink.old sink.new) (flat_map (λ p. p.now) pieces.now) }
+{
+    let _ = print(sink, pieces);
+}
+
+/// Writes a text and sees that it is out, if the sink takes it.
+///
+/// Requires: the sink has not failed.
+pub(crate) fn tell_text<W: Write>(sink: &mut Sink<W>, text: &str)
+    requires { has_failed sink.old ≡ false }
+    ensures { IsTold (between W.contents sink.old sink.new) text.now }
+{
+    tell(sink, &[text.as_bytes()]);
+}
+
+/// How many bytes of a text are shown at most.
 const LONGEST: usize = 200;
 
 /// A text as it is shown in a line.
@@ -72,26 +90,4 @@ pub(crate) fn shown(text: &str) -> Shown
             dots
         }
     }
-}
-
-/// The first line of a text, or a question mark where that is empty.
-fn line_in(text: &str) -> &str
-    ensures { result.now ≡ shown_as (before_first is_line_feed text.now) }
-{
-    let line = first_line(text);
-    if line.is_empty() { "?" } else { line }
-}
-
-/// Prints the line `error: ..` for a refusal, if it can: what it says, cut to one line. Takes no
-/// memory.
-///
-/// Requires: the sink has not failed.
-pub(crate) fn refuse<W: Write, F: fmt::Display>(sink: &mut Sink<W>, fault: &F)
-    requires { has_failed sink.old ≡ false }
-    ensures { PrintsRefusal (between W.contents sink.old sink.new) }
-{
-    let mut shown = Shown::new();
-    let _ = write!(shown, "{fault}");
-    let shown = line_in(shown.as_str()).as_bytes();
-    let _ = print(sink, &[b"error: ".as_slice(), shown, b"\n".as_slice()]);
 }

@@ -2,11 +2,12 @@
 
 ghost use Rattle.std.specs.Prelude.{◌≡◌, false, map};
 ghost use Rattle.tracer.specs.Sinks.{has_failed};
-ghost use Rattle.mctower.specs.{Output.IsPut, Output.between, Refusals.PutsRefusal, Refusals.from_fault, Refusals.from_steps};
+ghost use Rattle.mctower.specs.{Output.between, Refusals.PutsRefusal, Refusals.from_fault, Refusals.from_steps};
 ghost use Rattle.mctower.specs.{Refusals.from_worker, Refusals.status_of_refusal};
 
 use crate::faults::{LineFault, write_fault};
-use crate::print::{print, refuse};
+use crate::plan_faults::write_plan_fault;
+use crate::print::tell_text;
 use crate::run::Fault;
 use crate::schedule::StepsError;
 use boot::BootError;
@@ -81,15 +82,7 @@ pub(crate) fn status_of_refusal(refusal: &Refusal) -> u8
     }
 }
 
-/// Puts out a text, if the sink takes it.
-fn put_text<W: Write>(sink: &mut Sink<W>, text: &str)
-    requires { has_failed sink.old ≡ false }
-    ensures { IsPut (between W.contents sink.old sink.new) text.now }
-{
-    let _ = print(sink, &[text.as_bytes()]);
-}
-
-/// Tells a refusal of these words, if the sink takes it. Takes no memory.
+/// Tells a refusal of these words and sees that it is out, if the sink takes it. Takes no memory.
 ///
 /// Requires: the sink has not failed.
 pub(crate) fn write_report<W: Write>(sink: &mut Sink<W>, words: &[&str], refusal: Refusal)
@@ -98,13 +91,13 @@ pub(crate) fn write_report<W: Write>(sink: &mut Sink<W>, words: &[&str], refusal
 {
     match refusal {
         Refusal::BadLine(fault) => write_fault(sink, words, fault),
-        Refusal::NoMemory(_) => put_text(sink, "error: NoMemory(1)\n"),
-        Refusal::BadCpu => put_text(sink, "error: BadCpu(4)\n"),
-        Refusal::NoThread(_) => put_text(sink, "error: NoThread(5)\n"),
-        Refusal::NoOrder => put_text(sink, "error: NoOrder(6)\n"),
-        Refusal::ReadFault => put_text(sink, "error: ReadFault(7)\n"),
-        Refusal::WriteFault => put_text(sink, "error: WriteFault(8)\n"),
-        Refusal::BadSchedule => put_text(sink, "error: BadSchedule(9)\n"),
-        Refusal::Plan(error) => refuse(sink, &error),
+        Refusal::NoMemory(_) => tell_text(sink, "error: NoMemory(1)\n"),
+        Refusal::BadCpu => tell_text(sink, "error: BadCpu(4)\n"),
+        Refusal::NoThread(_) => tell_text(sink, "error: NoThread(5)\n"),
+        Refusal::NoOrder => tell_text(sink, "error: NoOrder(6)\n"),
+        Refusal::ReadFault => tell_text(sink, "error: ReadFault(7)\n"),
+        Refusal::WriteFault => tell_text(sink, "error: WriteFault(8)\n"),
+        Refusal::BadSchedule => tell_text(sink, "error: BadSchedule(9)\n"),
+        Refusal::Plan(error) => write_plan_fault(sink, error),
     }
 }

@@ -6,7 +6,7 @@ ghost use Rattle.event_log.specs.{declared.ids.TheConstants.BUFFERS, Refusals.no
 ghost use Rattle.boot.specs.Plan.{plan_of};
 ghost use Rattle.tracer.specs.{Gather.traces_in, Sinks.has_failed};
 ghost use Rattle.cpu.specs.Claims.{traces_of};
-ghost use Rattle.mctower.specs.{Output.between, Plans.IsOfPlan, Plans.from_boot, Running.RunsOn, Running.RunsPlan, Running.RunsText, Running.on_lock};
+ghost use Rattle.mctower.specs.{Output.between, Plans.IsOfPlan, Plans.from_boot, Running.RunsPlan, Running.RunsText, Running.on_lock};
 ghost use Rattle.mctower.specs.Texts.{Writes};
 ghost use Rattle.mctower.specs.declared.run.Fault.TheVariants.{NoMemory, NoOrder, BadCpu as BadCpuFault, WriteFault as WriteFailed};
 
@@ -120,12 +120,13 @@ where
     Grant(System<J>),
 }
 
-/// What [`run_text`] does once the plan is read.
+/// What [`run_text`] does once the plan is read, over one top layer: whatever lock the plan names, its
+/// system stands on the layers that `I` is the top of.
 ///
 /// Requires: the sink has not failed. There are at most `MOST_STEPS` steps.
 ///
 /// Errors: those of [`run_text`] but `Boot`.
-fn run_boot<I: Owned + Drop, W: Write>(
+pub(crate) fn run_boot<I: Owned + Drop, W: Write>(
     alloc: Global,
     boot: &Boot,
     steps: &[CpuId],
@@ -142,28 +143,6 @@ where
     system.run(steps)?;
     write_system(alloc, boot.cpus(), caps.as_slice(), &system, sink)?;
     Ok(system)
-}
-
-/// What [`run_text`] does, over one top layer: whatever lock the plan names, its system stands on the
-/// layers that `I` is the top of.
-///
-/// Requires: the sink has not failed. There are at most `MOST_STEPS` steps.
-///
-/// Errors: those of [`run_text`].
-pub(crate) fn run_on<I: Owned + Drop, W: Write>(
-    alloc: Global,
-    plan: &str,
-    steps: &[CpuId],
-    sink: &mut Sink<W>,
-) -> Result<System<I>, Fault>
-where
-    I::Machine: Drop,
-    requires live { has_failed sink.old ≡ false }
-    requires few { length steps.now ≤ MOST_STEPS }
-    ensures { RunsOn I.IsStepwise (plan_of plan.now) steps.now result (between W.contents sink.old sink.new) }
-{
-    let boot = Boot::read(alloc, plan)?;
-    run_boot(alloc, &boot, steps, sink)
 }
 
 /// Reads a plan, lets its system take the steps of a schedule, and writes the trace text: the

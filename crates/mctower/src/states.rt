@@ -1,8 +1,8 @@
 //! The state lines: what `run` tells of the system that a schedule's steps left. No call takes
 //! memory or waits, unless the sink's writer does.
 
-ghost use Rattle.std.specs.Prelude.{◌≡◌, ℕ, List, Some, None, false, is_err, map, ◌≤◌};
-ghost use Rattle.tracer.specs.{Sinks.WentOut, Sinks.has_failed, TraceText.text_line, TraceText.numbered};
+ghost use Rattle.std.specs.Prelude.{◌≡◌, ℕ, IfOk, List, Some, None, false, true, is_err, map, ◌≤◌};
+ghost use Rattle.tracer.specs.{Sinks.WentOut, Sinks.has_failed, Sinks.is_flushed, TraceText.text_line, TraceText.numbered};
 ghost use Rattle.std.specs.List.{flat_map};
 ghost use Rattle.event_log.specs.declared.ids.TheConstants.{THREADS};
 ghost use Rattle.mctower.specs.StateLines.{cpu_pieces, halted_pieces, halted_word, place_name, place_number, quiet_pieces, state_text, thread_pieces};
@@ -174,7 +174,7 @@ fn put_quiet<W: Write>(sink: &mut Sink<W>, is_quiet: bool) -> Result<(), WriteFa
 }
 
 impl State {
-    ghost use Rattle.mctower.specs.State.{places_in};
+    ghost use Rattle.mctower.specs.{Output.IsTold, Output.between, State.places_in};
 
     /// Writes the state lines.
     ///
@@ -189,13 +189,27 @@ impl State {
         put_quiet(sink, self.is_quiet)
     }
 
-    /// Tells the state of a system by its state lines, if the sink takes them. Takes no memory.
+    /// Writes the state lines and sees that they are out.
+    ///
+    /// Errors: `WriteFault` exactly where the sink failed; then a beginning of the lines is out.
+    fn print<W: Write>(&self, sink: &mut Sink<W>) -> Result<(), WriteFault>
+        requires { has_failed sink.old ≡ false }
+        ensures failed { is_err result ≡ has_failed sink.new }
+        ensures flushed { IfOk result (λ _. is_flushed sink.new ≡ true) }
+        ensures out { WentOut W.contents sink.old sink.new (state_text self.now.halted.items (places_in self.now) self.now.is_quiet) }
+    {
+        self.put(sink)?;
+        sink.flush()
+    }
+
+    /// Tells the state of a system by its state lines and sees that they are out, if the sink takes
+    /// them. Takes no memory.
     ///
     /// Requires: the sink has not failed.
     pub fn write_report<W: Write>(&self, sink: &mut Sink<W>)
         requires { has_failed sink.old ≡ false }
-        ensures { WentOut W.contents sink.old sink.new (state_text self.now.halted.items (places_in self.now) self.now.is_quiet) }
+        ensures { IsTold (between W.contents sink.old sink.new) (state_text self.now.halted.items (places_in self.now) self.now.is_quiet) }
     {
-        let _ = self.put(sink);
+        let _ = self.print(sink);
     }
 }

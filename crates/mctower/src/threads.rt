@@ -9,7 +9,7 @@ ghost use Rattle.boot.specs.Plan.{plan_of};
 ghost use Rattle.tracer.specs.{Sinks.WentOut, Sinks.has_failed, Sinks.is_flushed, TraceText.text_line, TraceText.numbered};
 ghost use Rattle.cpu.specs.Claims.{buffer_at, listed};
 ghost use Rattle.cpu_workers.specs.Seating.{items_of_block};
-ghost use Rattle.mctower.specs.{Output.between, Serve.OfBytes, Serve.OfInput, Serve.OfPlan, Serve.RefusedBy, Serve.WorksPlan, Threads.stop_pieces};
+ghost use Rattle.mctower.specs.{Output.IsTold, Output.between, Serve.OfBytes, Serve.OfInput, Serve.OfPlan, Serve.RefusedBy, Serve.WorksPlan, Threads.stop_pieces};
 ghost use Rattle.mctower.specs.{Threads.stop_text, Threads.stop_word, Refusals.lacks_memory};
 
 use crate::refusals::{Refusal, run_refused, worker_refused};
@@ -51,14 +51,26 @@ fn put_stops<W: Write>(sink: &mut Sink<W>, stops: &[Stop]) -> Result<(), WriteFa
     Ok(())
 }
 
-/// Tells why each worker stopped, by the number of its CPU, if the sink takes it. Takes no memory.
+/// The lines of the CPUs, which are seen to be out.
+fn print_stops<W: Write>(sink: &mut Sink<W>, stops: &[Stop]) -> Result<(), WriteFault>
+    requires { has_failed sink.old ≡ false }
+    ensures failed { is_err result ≡ has_failed sink.new }
+    ensures flushed { IfOk result (λ _. is_flushed sink.new ≡ true) }
+    ensures out { WentOut W.contents sink.old sink.new (stop_text stops.now) }
+{
+    put_stops(sink, stops)?;
+    sink.flush()
+}
+
+/// Tells why each worker stopped, by the number of its CPU, and sees that it is out, if the sink takes
+/// it. Takes no memory.
 ///
 /// Requires: the sink has not failed.
 pub(crate) fn write_stops<W: Write>(sink: &mut Sink<W>, stops: &[Stop])
     requires { has_failed sink.old ≡ false }
-    ensures { WentOut W.contents sink.old sink.new (stop_text stops.now) }
+    ensures { IsTold (between W.contents sink.old sink.new) (stop_text stops.now) }
 {
-    let _ = put_stops(sink, stops);
+    let _ = print_stops(sink, stops);
 }
 
 /// What so many buffers of a report hold.

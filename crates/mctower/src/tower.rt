@@ -4,19 +4,17 @@
 //! over any that meet the trait beneath, and hands the top on. The lock at the foot is named in
 //! `locks.rt`. `run_plan` takes memory. No call waits, unless the sink's writer does.
 
-ghost use Rattle.std.specs.Prelude.{◌≡◌, ◌≤◌, ◌⊎◌, Err, false, length};
+ghost use Rattle.std.specs.Prelude.{◌≡◌, ◌≤◌, false, length};
 ghost use Rattle.boot.specs.Plan.{plan_of};
-ghost use Rattle.event_log.specs.Refusals.{no_memory};
 ghost use Rattle.tracer.specs.Sinks.{has_failed};
-ghost use Rattle.mctower.specs.{Output.between, Running.RunsOverTower, Running.lock_in};
-ghost use Rattle.mctower.specs.declared.run.Fault.TheVariants as fault;
+ghost use Rattle.mctower.specs.{Output.between, Running.RunsOverTower};
 
 use crate::locks::{OnLock, over_lock};
 use crate::reading::state_of;
-use crate::run::{Fault, run_on};
+use crate::run::{Fault, run_boot};
 use crate::schedule::MOST_STEPS;
 use crate::states::State;
-use boot::{Boot, LockKind};
+use boot::Boot;
 use condvar::Cond;
 use event_log::CpuId;
 use fifo_buffer::Fifo;
@@ -94,46 +92,34 @@ where
 #[derive(Drop)]
 pub struct PlanRun<'p, 's, 'o, O: Write> {
     alloc: Global,
-    plan: &'p str,
+    plan: &'p Boot,
     steps: &'s [CpuId],
     out: &'o mut Sink<O>,
 }
 
 impl<O: Write> OverTower for PlanRun<'_, '_, '_, O> {
     ghost use Rattle.std.specs.Prelude.{◌≡◌, ◌≤◌, false, length, Ok};
-    ghost use Rattle.boot.specs.Plan.{plan_of};
     ghost use Rattle.tracer.specs.Sinks.{has_failed};
-    ghost use Rattle.mctower.specs.{Output.between, Running.RunsOverTower, Running.lock_in, declared.schedule.TheConstants.MOST_STEPS};
+    ghost use Rattle.mctower.specs.{Output.between, Running.RunsOverTower, declared.schedule.TheConstants.MOST_STEPS};
 
     type Done = Result<State, Fault>;
 
-    ghost IsReady = { λ run lock. (lock_in (plan_of run.plan.now) ≡ Ok lock) × ((has_failed run.out.now ≡ false) × (length run.steps.now ≤ MOST_STEPS)) };
+    ghost IsReady = { λ run lock. (run.plan.now.lock ≡ lock) × ((has_failed run.out.now ≡ false) × (length run.steps.now ≤ MOST_STEPS)) };
 
     ghost Does = { λ old told new. (new.out.ghost_name ≡ old.out.ghost_name)
-        × RunsOverTower (plan_of old.plan.now) old.steps.now told (between O.contents old.out.now new.out.now) };
+        × RunsOverTower (Ok old.plan.now) old.steps.now told (between O.contents old.out.now new.out.now) };
 
     fn over<I: Stepwise + OnLock + Drop>(&mut self) -> Result<State, Fault>
     where
         I::Machine: Drop,
     {
-        let system = run_on::<I, O>(self.alloc, self.plan, self.steps, self.out)?;
+        let system = run_boot::<I, O>(self.alloc, self.plan, self.steps, self.out)?;
         Ok(state_of(&system))
     }
 }
 
-/// The lock that a plan names.
-///
-/// Errors: `Boot` where the plan is refused, and why. `NoMemory` where an allocation was refused.
-fn lock_of(alloc: Global, plan: &str) -> Result<LockKind, Fault>
-    ensures { (result ≡ Err (fault.NoMemory no_memory)) ⊎ (result ≡ lock_in (plan_of plan.now)) }
-{
-    let boot = Boot::read(alloc, plan)?;
-    Ok(boot.lock())
-}
-
 /// Runs a plan under a schedule over the tower of the lock that it names, as
-/// [`run_text`](crate::run::run_text) does, and gives what the state lines tell of the system. The
-/// plan is read twice: for the name of its lock, and for the run over that lock's tower.
+/// [`run_text`](crate::run::run_text) does, and gives what the state lines tell of the system.
 ///
 /// Requires: the sink has not failed. There are at most `MOST_STEPS` steps.
 ///
@@ -148,12 +134,12 @@ pub fn run_plan<O: Write>(
     requires few { length steps.now ≤ MOST_STEPS }
     ensures { RunsOverTower (plan_of plan.now) steps.now result (between O.contents out.old out.new) }
 {
-    let lock = lock_of(alloc, plan)?;
+    let boot = Boot::read(alloc, plan)?;
     let mut run = PlanRun {
         alloc,
-        plan,
+        plan: &boot,
         steps,
         out,
     };
-    over_lock(lock, &mut run)
+    over_lock(boot.lock(), &mut run)
 }

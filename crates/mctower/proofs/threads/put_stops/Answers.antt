@@ -1,6 +1,6 @@
 use Rattle.std.proofs.Common.{sym}
 use Rattle.tracer.proofs.{SinkLemmas.all_out, LineLemmas.numbered_out, LineLemmas.numbered_failed}
-use Rattle.cpu_workers.specs.declared.stops.Stop.TheVariants.{AllEnded}
+use Rattle.cpu_workers.specs.declared.workers.stops.Stop.TheVariants.{AllEnded}
 use Rattle.mctower.specs.Threads.{stop_pieces}
 use Rattle.mctower.proofs.threads.put_stops.Goals as goal
 
