@@ -1,25 +1,61 @@
 #!/usr/bin/env bash
-# Measures `mctower run` over 1,048,576 steps of the plan of make.py (8 CPUs, 64 threads, 16 buffers), as it is and with messages that
-# get through, behind either lock, beside plain_tower.rs as it is and storing the same log of events. Whole commands, by turns. Prints
-# ratios as run.sh does, and steps a second. It takes a minute; the machine should be quiet, or: chrt --rr 1 bench/steps.sh.
+# Counts the instructions (callgrind) of `mctower run` on the plans and schedules of make.py, over grant words, beside plain_tower.rs, which
+# stores the same log of events. Prints for each kind the ratio of the whole commands, and that of the steps alone: without what one step of
+# the same plan takes, which is opening, and without what gathers and writes the text. Beside them stands the ratio to the plain program where
+# it takes a look that misses for all steps of its CPU that follow (--cfg stretch). Then it measures *misses* and *through* by the clock, behind
+# either lock, as run.sh does, and prints steps a second. Counts take a minute, and other work disturbs none; for times the machine should be
+# quiet, or: chrt --rr 1 bench/steps.sh.
 # Build first: (cd crates/mctower && rt run -- count --cpus 1 --times 1).
 #
-#   bench/steps.sh [TURNS]
+#   bench/steps.sh [TURNS]   how often each time is measured, 11 if left out; 0: counts alone
 if [ "${1:-}" = --help ]; then sed -n '2,/^[^#]/ s/^# \{0,1\}//p' "$0"; exit; fi
 set -eu
 cd "$(dirname "$0")"
 . ./measure.sh
 turns=${1:-11}
+# the functions that gather and write the text: of the plain program, and of ours by their names in the proved binary
+text_of_plain='step_table::write_trace'
+text_of_ours='mctower::texts::write_text'
 rustc -O -o "$work/plain_tower" ../tests/plain_tower.rs
+rustc -O --check-cfg 'cfg(stretch)' --cfg stretch -o "$work/plain_stretch" ../tests/plain_tower.rs
+
+# Counts the command of the array $1 on the plan $2: leaves in `whole` its instructions, and in `text` those within functions that match $3.
+count() {
+  local -n words=$1
+  valgrind --tool=callgrind --callgrind-out-file="$work/counted" "${words[@]}" < "$2" > /dev/null 2> "$work/err"
+  callgrind_annotate --inclusive=yes --threshold=100 "$work/counted" 2> /dev/null | cut -c1-400 > "$work/annotated"
+  whole=$(awk '/PROGRAM TOTALS/ { gsub(",", "", $1); print $1 }' "$work/annotated")
+  text=$(awk -v pattern="$3" '/\]|:/ && $0 ~ pattern { gsub(",", "", $1); sum += $1 } END { print sum + 0 }' "$work/annotated")
+}
+
+printf '%-8s %8s %8s %7s %12s %19s\n' kind plain ours ratio 'steps alone' 'plain in stretches'
+for kind in misses through across turns singly once; do
+  { echo 'lock = "grant"'; ./make.py plan $kind; } > "$work/plan"
+  for program in plain ours stretch; do
+    for schedule in "$(./make.py schedule $kind)" 0; do
+      case $program in
+        plain) command=("$work/plain_tower" "$schedule" log); pattern=$text_of_plain ;;
+        stretch) command=("$work/plain_stretch" "$schedule" log); pattern=$text_of_plain ;;
+        ours) command=("$ours" run --schedule "$schedule"); pattern=$text_of_ours ;;
+      esac
+      count command "$work/plan" "$pattern"
+      echo "$program $whole $text"
+    done
+  done | awk -v kind=$kind '{ if ($1 != last) { whole[$1] = $2; alone[$1] = $2 - $3 } else alone[$1] -= $2 - $3; last = $1 }
+    END { printf "%-8s %6.1f M %6.1f M %7.2f %12s %19.2f\n", kind, whole["plain"] / 1e6, whole["ours"] / 1e6, whole["plain"] / whole["ours"],
+      (alone["ours"] > 1e6 ? sprintf("%.2f", alone["plain"] / alone["ours"]) : "-"), whole["stretch"] / whole["ours"] }'
+done
+
+[ "$turns" -gt 0 ] || exit 0
 schedule=$(./make.py schedule)
 per_second() { awk -v median="$(median "$work/$1")" -v name="$1" 'BEGIN { printf "  %s: %d steps a second\n", name, 1048576 * 1000000 / median }'; }
-for kind in "" through; do
+for kind in misses through; do
   for lock in ticket grant; do
     { echo "lock = \"$lock\""; ./make.py plan $kind; } > "$work/plan"
     mine=("$ours" run --schedule "$schedule")
     for stores in "" log; do
       plain=("$work/plain_tower" "$schedule" $stores)
-      measure "${kind:-misses} over $lock locks, plain ${stores:-as it is}" "$work/plan" "$turns" 20
+      measure "$kind over $lock locks, plain ${stores:-as it is}" "$work/plan" "$turns" 20
       per_second our_times
     done
   done

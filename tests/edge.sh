@@ -374,17 +374,17 @@ tracer NoMemory(1)
 tracer NoOrder(6)
 tracer ReadFault(7)
 tracer WriteFault(8)'
-# What an error of the program says of itself, no run shows: the program tells each refusal by a text of `write_report`. So each error's own
-# text is held against the texts that stand there.
+# What an error says of itself, no run shows: the program tells each refusal by a text of `write_report`, and a refused plan by one of
+# `write_plan_fault`. So each error's own text is held against the texts that stand there.
 texts() {
-  local text
-  for text in $(errors | sed -n 's/^mctower //p'); do
-    if grep -qF "\"error: $text\\n\"" crates/mctower/src/refusals.rt; then
+  local text file
+  while read -r file text; do
+    if grep -qE "\"(error: )?${text//[()]/\\&}(\\\\n| |\")" "crates/mctower/src/$file.rt"; then
       passed=$((passed + 1))
     else
-      failed=$((failed + 1)); echo "edge: an error says $text of itself, and write_report has no such text"
+      failed=$((failed + 1)); echo "edge: an error says $text of itself, and mctower's $file has no such text"
     fi
-  done
+  done < <(errors | sed -nE 's/^mctower /refusals /p; s/^(boot|guest) /plan_faults /p')
 }
 # Counts a row about the sources: $1 says what it looks at, $2 is wanted and $3 found.
 source_row() {
@@ -437,6 +437,8 @@ source_row 'who names a refused start' $'crates/cpu_workers/src/pool.rt\ncrates/
 # Who says NoMemory was refused memory: the type is made from the allocator's refusal alone. Such a refusal is made up at three places, where a library of the kit
 # tells of it without a value: toml's parser by a flag, clap and readers by a kind of error, and the table of atomic words by a type of its own.
 source_row 'who makes up a refused allocation' $'boot/src/plans.rt\nmctower/src/memory.rt\ntable_machine/src/open.rt' "$(made_up crates)"
+# Such a kind of error is named in that file of mctower alone: who wrote it elsewhere could make a refusal of it.
+source_row 'who reads want of memory off a kind of error' crates/mctower/src/memory.rt "$(grep -rlw --include='*.rt' OutOfMemory crates/*/src | sort)"
 mkdir -p "$room/of/src"
 cat > "$room/of/src/right.rt" <<'END'
 use std::alloc::{AllocError, AllocFailed, Global};

@@ -2,7 +2,8 @@
 //! with: the same sections, the same trace text and state lines, no contracts, flat tables. With
 //! `log` it also stores each atomic event in a log of fixed room, as the machine of `mctower` does.
 //! With `each` it prints text and states after each step from none on, all on standard output, and
-//! behind each of them a line `after N`.
+//! behind each of them a line `after N`. Built with `--cfg stretch` it takes a look that misses for
+//! all steps of its CPU that follow, since nobody else acts between them.
 //!
 //! plain_tower SCHEDULE [log] < plan > trace 2> states
 //! plain_tower SCHEDULE each < plan > traces-and-states
@@ -189,6 +190,34 @@ impl<const LOGS: bool> Kernel<LOGS> {
         }
     }
 
+    /// Takes the steps in front that are a waiting CPU's: each is one more look that misses. Returns how
+    /// many it took.
+    fn look_on(&mut self, c: usize, steps: &[u8]) -> usize {
+        let Section::Drawn { lock, ticket } = self.cpus[c].section else { return 0 };
+        if self.locks[lock].serving == ticket {
+            return 0;
+        }
+        let looks = steps.iter().take_while(|&&step| usize::from(step) == c).count();
+        if LOGS {
+            assert!(self.log.len() + looks <= self.log_room);
+            self.log.resize(self.log.len() + looks, [c as u8, lock as u8, 1, 0]);
+        }
+        looks
+    }
+
+    /// Takes all steps of a schedule.
+    fn run(&mut self, steps: &[u8]) {
+        let mut taken = 0;
+        while let Some(&step) = steps.get(taken) {
+            let c = usize::from(step);
+            self.step(c);
+            taken += 1;
+            if cfg!(stretch) {
+                taken += self.look_on(c, &steps[taken..]);
+            }
+        }
+    }
+
     fn begin(&mut self, c: usize) {
         if let Some(s) = self.cpus[c].hand {
             return self.draw(c, self.homes[s]);
@@ -290,9 +319,7 @@ fn steps(schedule: &str) -> Vec<u8> {
 fn run<const LOGS: bool>(plan: &str, schedule: &str) -> std::io::Result<()> {
     let steps = steps(schedule);
     let mut kernel: Kernel<LOGS> = boot(plan, if LOGS { steps.len() } else { 0 });
-    for c in steps {
-        kernel.step(usize::from(c));
-    }
+    kernel.run(&steps);
     let mut out = std::io::BufWriter::new(std::io::stdout().lock());
     kernel.write_trace(&mut out)?;
     out.flush()?;
