@@ -21,7 +21,7 @@ use Rattle.cpu.specs.declared.guests.GuestStage.TheVariants.{Idle, Begun, Done, 
 use Rattle.cpu.proofs.{CallSteps.PolledCpu, CallSteps.PollsAt, CallSteps.noted_call, CallSteps.poll_buffer, CallSteps.poll_call_states, CallSteps.poll_within}
 use Rattle.cpu.proofs.{CallSteps.polls_at, CpuOverLayer.IsLayered, CpuOverLayer.PartLaws, CpuOverLayer.layered, GuestsFollow.had_going}
 use Rattle.cpu.proofs.{CpuOverLayer.acts_for, CpuOverLayer.left_framed, CpuOverLayer.observed_cpu, CpuOverLayer.observed_outset, CpuOverLayer.runs_home}
-use Rattle.cpu.proofs.{CpuStates.valid_cpu, GuestLists.at_same, GuestLists.count_with, GuestLists.guest_within, GuestLists.programs_with, PassSteps.seen_stays}
+use Rattle.cpu.proofs.{CpuRuns.one_run, CpuStates.valid_cpu, GuestLists.at_same, GuestLists.count_with, GuestLists.guest_within, GuestLists.programs_with, PassSteps.seen_stays}
 use Rattle.cpu.proofs.{StepsBesideGuests.called_grows, StepsBesideGuests.follows_grow, ListReads.set_twice}
 use Rattle.cpu.proofs.{StepsBesideGuests.look_grows, StepsBesideGuests.others_grow, StepsBesideGuests.others_same, TableCalls.ObservedPoll, TableCalls.call_steps}
 use Rattle.cpu.proofs.{TableCalls.call_tabled, TableCalls.hand_preserved, TableCalls.looked_steps}
@@ -195,9 +195,9 @@ with_twice guests t f h g at same =
 stepped_layered : {P L M : Type 0} {I : Ghosts P L M} {m n : M} {p q : Cpu P M} → PartLaws I → SteppedAt I m p n q → IsLayered I n q
 stepped_layered {n = n} {q = q} laws s = layered laws n q s.fits (s.leaves.cpu ∙ sym s.leaves.number) s.is s.table
 
-runs_layered : {P L M : Type 0} {I : Ghosts P L M} {m n : M} {p q : Cpu P M} {k : ℕ} → PartLaws I → RunsAt I m p k n q → IsLayered I n q
-runs_layered laws (RunsAt.one s) = stepped_layered laws s
-runs_layered laws (RunsAt.more runs s) = stepped_layered laws s
+runs_layered : {P L M : Type 0} {I : Ghosts P L M} {m n : M} {p q : Cpu P M} {k : ℕ} → PartLaws I → IsLayered I m p → RunsAt I m p k n q → IsLayered I n q
+runs_layered laws cpu RunsAt.none = cpu
+runs_layered laws cpu (RunsAt.more runs s) = stepped_layered laws s
 
 -- the CPU stands at the call of t
 module _ {P L M : Type 0} {I : Ghosts P L M} (laws : PartLaws I) (m : M) (p : Cpu P M) (cpu : IsLayered I m p) (live : stops_at I p ≡ None)
@@ -282,11 +282,11 @@ module _ {P L M : Type 0} {I : Ghosts P L M} (laws : PartLaws I) (m : M) (p : Cp
       → r.trace.items ≡ p.trace.items ++ entries_of p.number t (buffer_of call) (fresh_at (guest_at p.guests.items t.0) (had_in r.part))
       → vec_capacity p.trace ≤ vec_capacity r.trace → RunsAt I m p k n r
   call_runs (PolledOn.once {n = n} {told = told} one) r part number limit guests trace capacity =
-      RunsAt.one (poll_steps laws m p cpu live t call chose free n r told (subst (λ (o : P). PolledAt I ipc_plan t call p.part m o n told) (sym part) one)
+      one_run (poll_steps laws m p cpu live t call chose free n r told (subst (λ (o : P). PolledAt I ipc_plan t call p.part m o n told) (sym part) one)
       number limit guests trace capacity)
   call_runs (PolledOn.again {q = q} {n = n} {o = o} {told = told} on quiet last) r part number limit guests trace capacity =
       let amid : RunsAt I m p _ n (between q) = call_runs on (between q) refl refl refl refl (trace_between q quiet) (omega arith) in
-      RunsAt.more amid (poll_steps laws n (between q) (runs_layered laws amid) (live_between q quiet) t call (chose_between q quiet) (free_between q quiet) o r
+      RunsAt.more amid (poll_steps laws n (between q) (runs_layered laws cpu amid) (live_between q quiet) t call (chose_between q quiet) (free_between q quiet) o r
       told (subst (λ (x : P). PolledAt I ipc_plan t call q n x o told) (sym part) last) number limit
       (guests ∙ guests_between q quiet (had_in r.part) (answer_in (I.call_states r.part) t told))
       (trace ∙ ap (λ (f : Option Effect). p.trace.items ++ entries_of p.number t (buffer_of call) f) (fresh_same q quiet (had_in r.part))) capacity)
@@ -294,7 +294,7 @@ module _ {P L M : Type 0} {I : Ghosts P L M} (laws : PartLaws I) (m : M) (p : Cp
       let amid : RunsAt I m p _ n (between q) = call_runs on (between q) refl refl refl refl (trace_between q quiet) (omega arith) in
       let looked : LookedAt I ipc_plan q n r.part o = subst (λ (x : P). LookedAt I ipc_plan q n x o) (sym part) last in
       let same : had_in r.part ≡ had_in q = ap (λ (l : List CallState). (call_state_of l t).effect) looked.call_states in
-      RunsAt.more amid (look_steps laws n (between q) (runs_layered laws amid) (live_between q quiet) o r looked number limit
+      RunsAt.more amid (look_steps laws n (between q) (runs_layered laws cpu amid) (live_between q quiet) o r looked number limit
       (guests ∙ ap (λ (e : Option Effect). with_guest p.guests.items t.0 (λ g. polled g e None)) same)
       (trace ∙ (ap (λ (e : Option Effect). p.trace.items ++ entries_of p.number t (buffer_of call) (fresh_at (guest_at p.guests.items t.0) e)) same
       ∙ sym (trace_between q quiet))) capacity)
@@ -322,12 +322,9 @@ module _ {P L M : Type 0} {I : Ghosts P L M} (laws : PartLaws I) (m : M) (p : Cp
       go Done is had = absurd (cc had)
       go Ended is had = unbegun Ended is refl
 
--- a run has a step
-pub runs_some : {P L M : Type 0} {I : Ghosts P L M} {m n : M} {p q : Cpu P M} {k : ℕ} → RunsAt I m p k n q → 0 < k
-runs_some (RunsAt.one s) = omega arith
-runs_some (RunsAt.more runs s) = omega arith
-
--- a run of one step is that step
-pub one_step : {P L M : Type 0} {I : Ghosts P L M} {m n : M} {p q : Cpu P M} {k : ℕ} → RunsAt I m p k n q → k ≤ 1 → SteppedAt I m p n q
-one_step (RunsAt.one s) few = s
-one_step (RunsAt.more runs s) few = let some = runs_some runs in absurd (omega (arith, some, few))
+-- a run of a call has a step
+pub polled_some : {P L M : Type 0} (I : Ghosts P L M) (t : Tid) (call : Call) {p : P} {m : M} {k : ℕ} {q : P} {n : M} {told : Option ReplyKind}
+    → PolledOnAt I ipc_plan t call p m k q n told → 0 < k
+polled_some I t call (PolledOn.once one) = omega arith
+polled_some I t call (PolledOn.again on quiet last) = omega arith
+polled_some I t call (PolledOn.looks on quiet last) = omega arith

@@ -31,5 +31,6 @@ pub mod PlacesTold
 pub mod TableQuiet
 pub mod SystemOverLayer
 pub mod SpinsOverLayer
+pub mod CpuRuns
 pub mod CallRuns
 pub mod RunsOverLayer

@@ -1,12 +1,12 @@
 -- A system over a layer of message calls, after steps of one of its CPUs, one behind the other.
-use Rattle.std.proofs.Common.{◌≡◌, ℕ, ◌+◌, ◌<◌, ◌≤◌, List, [], ◌∷◌, ◌++◌, map, replicate, Some, None, slice_set, refl, subst, arith}
+use Rattle.std.proofs.Common.{◌≡◌, ℕ, ◌+◌, ◌<◌, ◌≤◌, List, [], ◌∷◌, ◌++◌, map, replicate, Some, None, slice_set, refl, sym, subst, arith}
 use Rattle.std.specs.Prelude.{slice_get}
 use Rattle.std.specs.List.{AllByRecursion}
 use Rattle.std.proofs.lemmas.{List.replicate-append-replicate, Option.slice_get_within}
 use Rattle.event_log.specs.{declared.ids.BufId.BufId, declared.ids.CpuId.CpuId, declared.ids.Tid.Tid, declared.ids.TheConstants.CPUS, Actions.AreLegal}
 use Rattle.layer_traits.specs.{declared.call_layers.CallLayer.Ghosts, declared.steps.Step.TheVariants.Stepped}
 use Rattle.cpu.specs.{declared.cpus.Cpu.Cpu, Claims.Shown, CpuSteps.RunsAt, CpuSteps.SteppedAt, Systems.SteppedByTable, Systems.reason_of}
-use Rattle.cpu.proofs.{InvariantOverSteps.Holds, InvariantOverSteps.live_of, ListReads.set_there, ListReads.set_twice, ListReads.shows_at}
+use Rattle.cpu.proofs.{InvariantOverSteps.Holds, InvariantOverSteps.live_of, ListReads.set_again, ListReads.set_there, ListReads.set_twice, ListReads.shows_at}
 use Rattle.cpu.proofs.{ReachedSystems.shown_in, Schedules.Leads, Schedules.leads_live, Schedules.leads_nowhere, SystemOverLayer.by_table}
 use Rattle.cpu.proofs.{SystemOverLayer.observed_by, SystemOverLayer.plan_preserved, SystemOverLayer.shown_by, SystemOverLayer.went_on, SystemOverLayer.works_by}
 use Rattle.std.specs.Prelude.{Option}
@@ -48,11 +48,14 @@ module _ {P L M : Type 0} (I : Ghosts P L M) (laws : MachineLaws I) (owner : M �
 
   pub went_so : {m : M} {x : Cpu P M} {steps : ℕ} {n : M} {y : Cpu P M} (cpus : List (Cpu P M)) (taken : ℕ) → Holds (works_by I owner threads) m cpus room taken
       → slice_get cpus k ≡ Some x → RunsAt I m x steps n y → taken + steps ≤ room → WentSo m cpus taken steps n y
-  went_so {m} {x} cpus taken is at (RunsAt.one {n = n} {q = y} step) space =
-      let live : taken < room = omega (arith, space) in
+  went_so {m} {x} cpus taken is at RunsAt.none space =
+      let same : slice_set cpus k x ≡ cpus = set_again cpus k x at in
+      let sum : taken ≡ taken + 0 = omega arith in
       record {
-        keeps = keeps_one m n cpus taken x y is at live step;
-        leads = leads_one m n cpus taken x y is at live step (shows m cpus taken) [] (leads_nowhere I.IsStepwise (shows m cpus taken));
+        keeps = subst (λ (l : List (Cpu P M)). Holds (works_by I owner threads) m l room (taken + 0)) (sym same)
+            (subst (λ (done : ℕ). Holds (works_by I owner threads) m cpus room done) sum is);
+        leads = subst (λ (l : List (Cpu P M)). Leads I.IsStepwise (shows m cpus taken) [] (shows m l (taken + 0))) (sym same)
+            (subst (λ (done : ℕ). Leads I.IsStepwise (shows m cpus taken) [] (shows m cpus done)) sum (leads_nowhere I.IsStepwise (shows m cpus taken)));
       }
   went_so {m} {x} cpus taken is at (RunsAt.more {k = steps} {n = n} {o = o} {q = q} {r = r} runs step) space =
       let before = went_so cpus taken is at runs (omega (arith, space)) in

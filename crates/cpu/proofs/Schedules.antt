@@ -89,6 +89,14 @@ pub leads_alone : (IsStepwise : Type 0) (s r t : Shown) (c : CpuId) (m n : ℕ) 
 leads_alone IsStepwise s r t c m n one two = subst (λ (l : List CpuId). Leads IsStepwise s l t) (replicate-append-replicate m n c)
     (leads_on IsStepwise s r t (replicate m c) (replicate n c) one two)
 
+-- steps that are not taken
+pub leads_resting : (IsStepwise : Type 0) (c : CpuId) (s : Shown) (asked : ℕ) → c.0 < length s.cpus → is_some (reason_of c s) ≡ true
+    → (IsStepwise → HaltsByTable c s (halted_in c s)) → Leads IsStepwise s (replicate asked c) s
+leads_resting IsStepwise c s zero within some halts = leads_nowhere IsStepwise s
+leads_resting IsStepwise c s (suc asked) within some halts =
+    leads_on IsStepwise s s s (c ∷ []) (replicate asked c) (leads_halted IsStepwise c s within some halts)
+    (leads_resting IsStepwise c s asked within some halts)
+
 -- a step, and those behind it of the same CPU
 pub turn_taken : (all : List CpuId) (d : CpuId) (more : ℕ) → 0 < length all
     → BeginWith (slice_index_or all 0 d) more (take (length all - 1) (drop 1 all))

@@ -40,7 +40,8 @@ impl<I: CallLayer<IpcLaw>> Cpu<I> {
     ghost use Rattle.layer_traits.specs.declared.steps.{Reason.Reason, Step.TheVariants.Halted, Step.TheVariants.Stepped};
     ghost use Rattle.cpu.specs.{declared.cpus.Choice.TheVariants.Polls, declared.cpus.Choice.TheVariants.Passes, declared.cpus.Choice.TheVariants.Computes};
     ghost use Rattle.cpu.specs.{CpuSteps.IsCpuAt, CpuSteps.IsTabledAt, CpuSteps.Leaves, CpuSteps.RunsAt, CpuSteps.WentAt, CpuSteps.stops_at, Cpus.chosen};
-    ghost use Rattle.cpu.specs.{Cpus.halted_at, Cpus.step_answer};
+    ghost use Rattle.cpu.specs.{Cpus.halted_at, Cpus.step_answer, CpuSteps.SteppedAt};
+    ghost use Rattle.layer_traits.specs.declared.passes.Pass.TheVariants.{Drain};
 
     /// What the CPU does next, where it is not halted.
     #[inline(always)]
@@ -130,6 +131,7 @@ impl<I: CallLayer<IpcLaw>> Cpu<I> {
         requires not_full { begins_at (guest_at self.old.guests.items thread.0) ≡ true
             → length self.old.trace.items + begun_count self.old.guests.items < self.old.limit }
         requires table { I.IsStepwise → IsTabledAt ⟦<I as CallLayer<IpcLaw>>⟧ m.old self.old }
+        ensures some { 0 < result }
         ensures few { result ≤ most }
         ensures ran { RunsAt ⟦<I as CallLayer<IpcLaw>>⟧ m.old self.old result m.new self.new }
     {
@@ -142,8 +144,8 @@ impl<I: CallLayer<IpcLaw>> Cpu<I> {
         run.actions
     }
 
-    /// Polls this pass from thread to thread. It stands out of line, since most steps are calls'.
-    #[inline(never)]
+    /// Polls this pass from thread to thread.
+    #[inline(always)]
     fn pass(&mut self, m: &mut I::Machine, pass: Pass)
         requires fits { I.Fits self.old.part m.old }
         requires room { 0 < I.room m.old }
@@ -162,6 +164,77 @@ impl<I: CallLayer<IpcLaw>> Cpu<I> {
         let done = self.part.pass(m, pass);
         if done.is_some() {
             self.guests.note_pass(runs, pass);
+        }
+    }
+
+    /// Polls a pass that is no drain. It stands out of line, since most steps are calls' and drains'.
+    #[inline(never)]
+    fn passes(&mut self, m: &mut I::Machine, pass: Pass)
+        requires fits { I.Fits self.old.part m.old }
+        requires room { 0 < I.room m.old }
+        requires number { I.cpu_of self.old.part ≡ self.old.number }
+        requires is { IsCpuAt ⟦<I as CallLayer<IpcLaw>>⟧ m.old self.old }
+        requires live { stops_at ⟦<I as CallLayer<IpcLaw>>⟧ self.old ≡ None }
+        requires chosen { chosen (I.threads self.old.part) self.old.guests.items ≡ Passes pass }
+        requires table { I.IsStepwise → IsTabledAt ⟦<I as CallLayer<IpcLaw>>⟧ m.old self.old }
+        ensures { SteppedAt ⟦<I as CallLayer<IpcLaw>>⟧ m.old self.old m.new self.new }
+    {
+        self.pass(m, pass);
+    }
+
+    /// Whether the CPU goes on with a drain: it is not halted, and nobody runs on it, is in its hand or is
+    /// ready.
+    ///
+    /// Requires: the thread that runs, if there is one, has a place in the table of guests.
+    #[inline(always)]
+    fn goes_on_draining(&self) -> bool
+        requires { (t : _) → (I.threads self.now.part).current ≡ Some t → t.0 < length self.now.guests.items }
+        ensures live { result ≡ true → stops_at ⟦<I as CallLayer<IpcLaw>>⟧ self.now ≡ None }
+        ensures chosen { result ≡ true → chosen (I.threads self.now.part) self.now.guests.items ≡ Passes Drain }
+    {
+        if self.part.current().is_some() || self.part.hand().is_some() || self.part.has_ready() {
+            return false;
+        }
+        self.reason().is_none()
+    }
+
+    /// Goes on with the drain that the CPU has chosen, and with those that follow while it has nobody to
+    /// run: up to `most` steps, looks at locks among them, until a look has missed. Returns how many it
+    /// took. It stands out of line, with one kind of pass, so that an idle CPU's steps are cheap.
+    ///
+    /// Requires: as `go`. The CPU has chosen a drain.
+    #[inline(never)]
+    fn drains(&mut self, m: &mut I::Machine, most: usize) -> usize
+        requires fits { I.Fits self.old.part m.old }
+        requires some { 0 < most }
+        requires room { most ≤ I.room m.old }
+        requires number { I.cpu_of self.old.part ≡ self.old.number }
+        requires is { IsCpuAt ⟦<I as CallLayer<IpcLaw>>⟧ m.old self.old }
+        requires live { stops_at ⟦<I as CallLayer<IpcLaw>>⟧ self.old ≡ None }
+        requires chosen { chosen (I.threads self.old.part) self.old.guests.items ≡ Passes Drain }
+        requires table { I.IsStepwise → IsTabledAt ⟦<I as CallLayer<IpcLaw>>⟧ m.old self.old }
+        ensures some { 0 < result }
+        ensures few { result ≤ most }
+        ensures ran { RunsAt ⟦<I as CallLayer<IpcLaw>>⟧ m.old self.old result m.new self.new }
+    {
+        let mut taken = 0;
+        let mut looked = false;
+        loop {
+            if self.look(m) {
+                taken += 1;
+                // Of two looks in a row the first has missed.
+                if looked || taken == most {
+                    return taken;
+                }
+                looked = true;
+                continue;
+            }
+            self.pass(m, Pass::Drain);
+            taken += 1;
+            if taken == most || !self.goes_on_draining() {
+                return taken;
+            }
+            looked = false;
         }
     }
 
@@ -187,7 +260,7 @@ impl<I: CallLayer<IpcLaw>> Cpu<I> {
 
     /// The steps of a CPU that is not halted and asks for no further look at a lock: each one local
     /// action or one atomic action. Where it stands at a message call these are up to `most` steps of
-    /// it, and else the step is one. Returns how many it took.
+    /// it, where it is to drain those of its drains, and else the step is one. Returns how many it took.
     ///
     /// Requires: the part and the machine agree. The machine has room for as many events as `most`
     /// tells, which is not 0. The part is the one of the CPU's number. The CPU's threads, guests and
@@ -202,19 +275,58 @@ impl<I: CallLayer<IpcLaw>> Cpu<I> {
         requires is { IsCpuAt ⟦<I as CallLayer<IpcLaw>>⟧ m.old self.old }
         requires live { stops_at ⟦<I as CallLayer<IpcLaw>>⟧ self.old ≡ None }
         requires table { I.IsStepwise → IsTabledAt ⟦<I as CallLayer<IpcLaw>>⟧ m.old self.old }
+        ensures some { 0 < result }
         ensures few { result ≤ most }
         ensures ran { RunsAt ⟦<I as CallLayer<IpcLaw>>⟧ m.old self.old result m.new self.new }
     {
         match self.choice() {
             Choice::Polls(thread, asked) => self.call(m, thread, asked, most),
+            Choice::Passes(Pass::Drain) => self.drains(m, most),
             Choice::Passes(pass) => {
-                self.pass(m, pass);
+                self.passes(m, pass);
                 1
             }
             Choice::Computes(thread) => {
                 self.compute(m, thread);
                 1
             }
+        }
+    }
+
+    /// The steps of a CPU that is not halted, one behind the other, looks at locks among them: up to `most`,
+    /// until the CPU is halted or a look has missed. Returns how many it took.
+    ///
+    /// Requires: as `go`.
+    #[inline(always)]
+    pub(crate) fn go_on(&mut self, m: &mut I::Machine, most: usize) -> usize
+        requires fits { I.Fits self.old.part m.old }
+        requires some { 0 < most }
+        requires room { most ≤ I.room m.old }
+        requires number { I.cpu_of self.old.part ≡ self.old.number }
+        requires is { IsCpuAt ⟦<I as CallLayer<IpcLaw>>⟧ m.old self.old }
+        requires live { stops_at ⟦<I as CallLayer<IpcLaw>>⟧ self.old ≡ None }
+        requires table { I.IsStepwise → IsTabledAt ⟦<I as CallLayer<IpcLaw>>⟧ m.old self.old }
+        ensures some { 0 < result }
+        ensures few { result ≤ most }
+        ensures ran { RunsAt ⟦<I as CallLayer<IpcLaw>>⟧ m.old self.old result m.new self.new }
+    {
+        let mut taken = 0;
+        let mut looked = false;
+        loop {
+            if self.look(m) {
+                taken += 1;
+                // Of two looks in a row the first has missed.
+                if looked || taken == most {
+                    return taken;
+                }
+                looked = true;
+                continue;
+            }
+            taken += self.go(m, most - taken);
+            if taken == most || self.reason().is_some() {
+                return taken;
+            }
+            looked = false;
         }
     }
 
@@ -266,6 +378,8 @@ impl<I: CallLayer<IpcLaw>> Cpu<I> {
         ensures leaves { Leaves ⟦<I as CallLayer<IpcLaw>>⟧ m.old self.old m.new self.new }
         ensures still { result ≡ false → (self.new ≡ self.old) × (m.new ≡ m.old) }
         ensures live { result ≡ true → stops_at ⟦<I as CallLayer<IpcLaw>>⟧ self.old ≡ None }
+        ensures goes_on { result ≡ true → stops_at ⟦<I as CallLayer<IpcLaw>>⟧ self.new ≡ None }
+        ensures chosen { chosen (I.threads self.new.part) self.new.guests.items ≡ chosen (I.threads self.old.part) self.old.guests.items }
         ensures table { I.IsStepwise → IsTabledAt ⟦<I as CallLayer<IpcLaw>>⟧ m.new self.new }
         ensures steps { I.IsStepwise → result ≡ true → WentAt ⟦<I as CallLayer<IpcLaw>>⟧ m.old self.old m.new self.new Stepped }
     {

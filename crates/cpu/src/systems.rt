@@ -102,10 +102,6 @@ where
         ensures once { StandsOnce self.new }
         ensures agree { MovesAgree self.new }
     {
-        if self.looks(cpu) {
-            self.holds();
-            return Step::Stepped;
-        }
         if let Some(reason) = self.reason(cpu) {
             self.holds();
             return Step::Halted(reason);
@@ -113,27 +109,6 @@ where
         self.advance(cpu, 1);
         self.holds();
         Step::Stepped
-    }
-
-    /// Takes a step of `cpu` where it waits at a lock, and tells whether it did: it looks again.
-    #[inline(always)]
-    fn looks(&mut self, cpu: CpuId) -> bool
-        requires { cpu.0 < length self.old.cpus }
-        ensures still { result ≡ false → self.new ≡ self.old }
-        ensures live { result ≡ true → reason_of cpu self.old ≡ None }
-        ensures counted { result ≡ true → self.new.taken ≡ self.old.taken + 1 }
-        ensures plan { SamePlan self.old self.new }
-        ensures steps { I.IsStepwise → result ≡ true → SteppedByTable cpu self.old self.new Stepped }
-    {
-        if self.taken == self.room {
-            return false;
-        }
-        let at = &mut self.cpus[usize::from(cpu.0)];
-        if !at.look(&mut self.machine) {
-            return false;
-        }
-        self.taken += 1;
-        true
     }
 
     /// Why `cpu` takes no step.
@@ -167,8 +142,8 @@ where
         at.reason()
     }
 
-    /// Takes steps of `cpu`, which is not halted, where it did not look again: up to `most`, as far as
-    /// they are steps of one message call. Returns how many it took.
+    /// Takes steps of `cpu`, which is not halted: up to `most`, until it is halted or a look at a lock has
+    /// missed. Returns how many it took.
     #[inline(always)]
     fn advance(&mut self, cpu: CpuId, most: usize) -> usize
         requires exists { cpu.0 < length self.old.cpus }
@@ -184,7 +159,7 @@ where
         ensures table { I.IsStepwise → RanByTable self.old (replicate result cpu) self.new }
     {
         let at = &mut self.cpus[usize::from(cpu.0)];
-        let steps = at.go(&mut self.machine, most);
+        let steps = at.go_on(&mut self.machine, most);
         self.taken += steps as u64;
         steps
     }
@@ -237,7 +212,7 @@ where
         ensures table { I.IsStepwise → RanByTable self.old (take result steps.now) self.new }
     {
         let cpu = steps[0];
-        let own = steps_of(cpu, &steps[1..]) + 1;
+        let own = steps_behind(cpu, &steps[1..]) + 1;
         let mut taken = 0;
         while taken < own {
             taken += self.stretch(cpu, &steps[taken..own]);
@@ -245,9 +220,9 @@ where
         own
     }
 
-    /// Takes the first of `steps`, which are steps of `cpu`, and with it those behind it that go on with
-    /// what it does: where it is a look at a lock, those that are looks and miss, and where it is a poll of
-    /// a message call, those of the same call. Returns how many it took.
+    /// Takes the first of `steps`, which are steps of `cpu`, and those behind it as far as they go in one
+    /// stretch: none of a CPU that is halted does anything; else they go on until a look at a lock misses,
+    /// and each that follows such a look is one too. Returns how many it took.
     ///
     /// Requires: there is a step, and the system has a CPU of this number.
     #[inline(always)]
@@ -260,14 +235,12 @@ where
         ensures ran { Ran I.IsStepwise self.old (replicate result cpu) self.new }
         ensures table { I.IsStepwise → RanByTable self.old (replicate result cpu) self.new }
     {
-        if self.looks(cpu) {
-            return self.spins(cpu, &steps[1..]) + 1;
-        }
         if self.reason(cpu).is_some() {
-            return 1;
+            return steps.len();
         }
         let most = self.in_room(steps.len());
-        self.advance(cpu, most)
+        let taken = self.advance(cpu, most);
+        taken + self.spins(cpu, &steps[taken..])
     }
 
     /// How many of so many steps the system has room for.
@@ -447,6 +420,18 @@ where
         ensures { I.IsStepwise → ReturnsAlone self.now }
     {
         let _ = &self.room;
+    }
+}
+
+/// How many of the steps at the front of `steps` are those of `cpu`. The next one is asked first, as a turn
+/// is often one step.
+#[inline(always)]
+fn steps_behind(cpu: CpuId, steps: &[CpuId]) -> usize
+    ensures { BeginWith cpu result steps.now }
+{
+    match steps.first() {
+        Some(next) if *next == cpu => steps_of(cpu, steps),
+        _ => 0,
     }
 }
 

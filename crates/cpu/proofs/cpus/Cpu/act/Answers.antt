@@ -1,6 +1,8 @@
-use Rattle.std.proofs.Common.{refl, ◌∙◌, sym}
-use Rattle.cpu.proofs.{PassSteps.current_within, TableCalls.stopped_steps, CallRuns.one_step, CpuStates.valid_cpu, CpuOverLayer.laws_of, CpuOverLayer.layered}
+use Rattle.std.proofs.Common.{refl, ◌∙◌, sym, arith}
+use Rattle.cpu.specs.CpuSteps.{SteppedAt}
+use Rattle.cpu.proofs.{PassSteps.current_within, TableCalls.stopped_steps, CpuRuns.one_step, CpuStates.valid_cpu, CpuOverLayer.laws_of, CpuOverLayer.layered}
 use Rattle.cpu.proofs.{CpuOverLayer.observed_cpu, CpuOverLayer.observed_outset, CpuOverLayer.left_alone, CpuOverLayer.runs_home}
+use Rattle.cpu.proofs.cpus.Cpu.act.{Given.Over, Goals.After-go}
 use Rattle.cpu.proofs.cpus.Cpu.act.Goals as goal
 
 pub reason-requires : goal.reason-requires
@@ -20,17 +22,21 @@ returns-in-Some-clause-steps g c = λ step.
     let cpu = layered (laws_of g.met.I.CallLayer) m p c.requires.fits c.requires.number c.requires.is c.requires.table in
     stopped_steps (observed_cpu cpu step) _ _ (observed_outset cpu step) c.in-Some.reason (sym (sym c.in-Some.is ∙ c.reason.ensures))
 
+-- the step that it took
+went : (g : Over) (c : After-go g) → SteppedAt g.I.CallLayer c.args.m.now c.args.self.now c.go.new.m c.go.new.self
+went g c = let some = c.go.ensures.some in let few = c.go.ensures.few in one_step c.go.ensures.ran (omega (arith, some, few))
+
 pub returns-clause-fits : goal.returns-clause-fits
-returns-clause-fits g c = (one_step c.go.ensures.ran c.go.ensures.few).fits
+returns-clause-fits g c = (went g (goal.at.returns-clause-fits g c).After-go).fits
 
 pub returns-clause-is : goal.returns-clause-is
-returns-clause-is g c = (one_step c.go.ensures.ran c.go.ensures.few).is
+returns-clause-is g c = (went g (goal.at.returns-clause-is g c).After-go).is
 
 pub returns-clause-leaves : goal.returns-clause-leaves
-returns-clause-leaves g c = (one_step c.go.ensures.ran c.go.ensures.few).leaves
+returns-clause-leaves g c = (went g (goal.at.returns-clause-leaves g c).After-go).leaves
 
 pub returns-clause-table : goal.returns-clause-table
-returns-clause-table g c = (one_step c.go.ensures.ran c.go.ensures.few).table
+returns-clause-table g c = (went g (goal.at.returns-clause-table g c).After-go).table
 
 pub returns-clause-steps : goal.returns-clause-steps
-returns-clause-steps g c = (one_step c.go.ensures.ran c.go.ensures.few).steps
+returns-clause-steps g c = (went g (goal.at.returns-clause-steps g c).After-go).steps

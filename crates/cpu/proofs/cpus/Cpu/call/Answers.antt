@@ -1,7 +1,7 @@
 use Rattle.std.proofs.Common.{◌≡◌, ◌++◌, if◌then◌else◌, Option, None, refl, ap, sym, ◌∙◌, subst}
 use Rattle.layer_traits.specs.{declared.calls.Effect.Effect, BufferLaw.answer_in, BufferLaw.answer_with, BufferLaw.buffer_of, BufferLaw.call_state_of}
 use Rattle.cpu.specs.{Guests.entries_of, Guests.polled, Cpus.fresh_at, Cpus.guest_at, Cpus.stands_at, Cpus.with_guest}
-use Rattle.cpu.proofs.{CallRuns.call_runs, CallRuns.fresh_room, CallSteps.poll_call_states, CallSteps.poll_number, CallSteps.poll_within, CallSteps.polls_at}
+use Rattle.cpu.proofs.{CallRuns.call_runs, CallRuns.fresh_room, CallRuns.polled_some, CallSteps.poll_call_states, CallSteps.poll_number, CallSteps.poll_within, CallSteps.polls_at}
 use Rattle.cpu.proofs.{CpuStates.valid_cpu, CpuOverLayer.IsLayered, CpuOverLayer.laws_of, CpuOverLayer.layered}
 use Rattle.cpu.proofs.{cpus.Cpu.call.Given.Over, cpus.Cpu.call.Goals.Start, cpus.Cpu.call.Goals.After-note_poll-fresh}
 use Rattle.cpu.proofs.cpus.Cpu.call.Goals as goal
@@ -49,6 +49,9 @@ pub note_effect-requires : goal.note_effect-requires
 note_effect-requires g c = λ f some.
     fresh_room (laws_of g.met.I.CallLayer) c.args.m.now c.args.self.now (cpu g (goal.at.note_effect-requires g c).Start) c.requires.live c.args.thread
     c.args.asked c.requires.chosen c.requires.not_full _ f (sym (fresh_now g (goal.at.note_effect-requires g c).After-note_poll-fresh) ∙ some)
+
+pub returns-clause-some : goal.returns-clause-some
+returns-clause-some g c = polled_some g.I.CallLayer c.args.thread c.args.asked (rw c.call_of-call.ensures.call at c.poll_on-run.ensures.polled_on)
 
 pub returns-clause-ran : goal.returns-clause-ran
 returns-clause-ran g c =

@@ -1,5 +1,4 @@
-use Rattle.cpu.specs.CpuSteps.{RunsAt}
-use Rattle.cpu.proofs.{PassSteps.current_within, CpuStates.valid_cpu, CpuOverLayer.laws_of, CpuOverLayer.layered, CpuOverLayer.runs_home}
+use Rattle.cpu.proofs.{CpuRuns.one_run, PassSteps.current_within, CpuStates.valid_cpu, CpuOverLayer.laws_of, CpuOverLayer.layered, CpuOverLayer.runs_home}
 use Rattle.cpu.proofs.cpus.Cpu.go.Goals as goal
 
 pub choice-requires : goal.choice-requires
@@ -10,17 +9,10 @@ choice-requires g c =
     current_within (valid_cpu c.requires.is) (runs_home cpu)
 
 pub returns-in-Passes-clause-ran : goal.returns-in-Passes-clause-ran
-returns-in-Passes-clause-ran g c = RunsAt.one (record {
-  live = c.requires.live;
-  fits = c.pass.ensures.fits;
-  is = c.pass.ensures.is;
-  leaves = c.pass.ensures.leaves;
-  table = c.pass.ensures.table;
-  steps = c.pass.ensures.steps;
-})
+returns-in-Passes-clause-ran g c = one_run c.passes.ensures
 
 pub returns-in-Computes-clause-ran : goal.returns-in-Computes-clause-ran
-returns-in-Computes-clause-ran g c = RunsAt.one (record {
+returns-in-Computes-clause-ran g c = one_run (record {
   live = c.requires.live;
   fits = c.compute.ensures.fits;
   is = c.compute.ensures.is;

@@ -1,6 +1,8 @@
-use Rattle.std.proofs.Common.{ap, subst, refl}
+use Rattle.std.proofs.Common.{Bool, ap, subst, refl, ◌∙◌}
 use Rattle.event_log.specs.declared.ids.CpuId.{CpuId}
 use Rattle.layer_traits.specs.Looks.{Tries}
+use Rattle.layer_traits.specs.Places.{Threads}
+use Rattle.cpu.specs.Cpus.{chosen, halted_at, reason_in}
 use Rattle.cpu.proofs.{CpuStates.valid_cpu, CpuOverLayer.left_framed, StepsBesideGuests.look_grows, StepsBesideGuests.others_same, StepsBesideGuests.others_grow, PassSteps.seen_stays, TableCalls.looked_steps}
 use Rattle.cpu.proofs.cpus.Cpu.look.Goals as goal
 
@@ -40,3 +42,12 @@ returns-clause-steps g c = λ step looked.
     let p = c.args.self.now in
     looked_steps (λ d. I.ActsFor m d) (I.homes_of m) (I.caps m) (I.cpu_of p.part) p.number p.limit (I.own p.part) (I.own c.look.new.self) p.guests.items
     p.trace.items (I.acts m) (I.acts c.look.new.m) c.requires.number (c.look.ensures.own) (c.look.ensures.tries step looked)
+
+pub returns-clause-chosen : goal.returns-clause-chosen
+returns-clause-chosen g c = ap (λ (own : Threads). chosen own c.args.self.now.guests.items) c.look.ensures.threads
+
+pub returns-clause-goes_on : goal.returns-clause-goes_on
+returns-clause-goes_on g c = λ looked.
+    let p = c.args.self.now in
+    let inside = c.look.ensures.inside ∙ c.look.ensures.waits looked in
+    ap (λ (b : Bool). reason_in b (halted_at (g.I.CallLayer.threads c.look.new.self) p.guests.items p.trace.items p.limit)) inside

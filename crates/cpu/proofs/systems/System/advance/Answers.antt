@@ -2,9 +2,9 @@ use Rattle.std.proofs.Common.{◌≡◌, ◌+◌, ◌<◌, ◌≤◌, ℕ, ap, s
 use Rattle.std.specs.Prelude.{Option, Some, slice_get, slice_set}
 use Rattle.layer_traits.specs.declared.steps.Step.TheVariants.{Stepped}
 use Rattle.cpu.specs.{Systems.SteppedByTable, Systems.own_reason, Systems.own_reason_in, Systems.reason_or, Claims.CpuShown, Claims.Shown}
-use Rattle.cpu.proofs.{CallRuns.one_step, CallRuns.runs_some, TableSystems.own_live, ListReads.read_at, ListReads.shows_at}
+use Rattle.cpu.proofs.{CpuRuns.one_step, TableSystems.own_live, ListReads.read_at, ListReads.shows_at}
 use Rattle.cpu.proofs.{RunsOverLayer.MachineLaws, RunsOverLayer.WentSo, RunsOverLayer.by_one, RunsOverLayer.shows, RunsOverLayer.went_so, SystemOverLayer.shown_by}
-use Rattle.cpu.proofs.systems.System.advance.{Given.Over, Goals.After-index_mut-at, Goals.After-go-steps}
+use Rattle.cpu.proofs.systems.System.advance.{Given.Over, Goals.After-index_mut-at, Goals.After-go_on-steps}
 use Rattle.cpu.proofs.systems.System.advance.Goals as goal
 
 -- the CPU that steps is the one at its number
@@ -12,42 +12,42 @@ at : (g : Over) (c : After-index_mut-at g) → slice_get c.self.inside.cpus.item
 at g c = read_at (shown_by g.I.CallLayer) c.self.inside.cpus.items c.args.self.now.cpus c.from.result c.args.cpu.0 c.index_mut-at.result.now
     (ap (λ (s : Shown). s.cpus) c.self.view_is) c.from.ensures c.requires.exists c.index_mut-at.ensures.value
 
-pub go-steps-requires-clause-room : goal.go-steps-requires-clause-room
-go-steps-requires-clause-room g c =
+pub go_on-steps-requires-clause-room : goal.go_on-steps-requires-clause-room
+go_on-steps-requires-clause-room g c =
     let space = rw (← c.self.view_is) at c.requires.room in
     let enough = c.self.invariant.enough in
     omega (arith, space, enough)
 
-pub go-steps-requires-clause-number : goal.go-steps-requires-clause-number
-go-steps-requires-clause-number g c =
-    (c.self.invariant.each c.from.result c.index_mut-at.result.now (at g (goal.at.go-steps-requires-clause-number g c).After-index_mut-at)).holds.1
+pub go_on-steps-requires-clause-number : goal.go_on-steps-requires-clause-number
+go_on-steps-requires-clause-number g c =
+    (c.self.invariant.each c.from.result c.index_mut-at.result.now (at g (goal.at.go_on-steps-requires-clause-number g c).After-index_mut-at)).holds.1
 
-pub go-steps-requires-clause-is : goal.go-steps-requires-clause-is
-go-steps-requires-clause-is g c =
-    (c.self.invariant.each c.from.result c.index_mut-at.result.now (at g (goal.at.go-steps-requires-clause-is g c).After-index_mut-at)).holds.2
+pub go_on-steps-requires-clause-is : goal.go_on-steps-requires-clause-is
+go_on-steps-requires-clause-is g c =
+    (c.self.invariant.each c.from.result c.index_mut-at.result.now (at g (goal.at.go_on-steps-requires-clause-is g c).After-index_mut-at)).holds.2
 
-pub go-steps-requires-clause-table : goal.go-steps-requires-clause-table
-go-steps-requires-clause-table g c =
-    (c.self.invariant.each c.from.result c.index_mut-at.result.now (at g (goal.at.go-steps-requires-clause-table g c).After-index_mut-at)).holds.3
+pub go_on-steps-requires-clause-table : goal.go_on-steps-requires-clause-table
+go_on-steps-requires-clause-table g c =
+    (c.self.invariant.each c.from.result c.index_mut-at.result.now (at g (goal.at.go_on-steps-requires-clause-table g c).After-index_mut-at)).holds.3
 
-pub go-steps-requires-clause-live : goal.go-steps-requires-clause-live
-go-steps-requires-clause-live g c =
+pub go_on-steps-requires-clause-live : goal.go_on-steps-requires-clause-live
+go_on-steps-requires-clause-live g c =
     let k = c.from.result in
     let x = c.index_mut-at.result.now in
     let shown = shown_by g.I.CallLayer in
     let there = subst (λ (j : ℕ). slice_get c.args.self.now.cpus j ≡ Some (shown x)) c.from.ensures
     (subst (λ (s : Shown). slice_get s.cpus k ≡ Some (shown x)) c.self.view_is
-    (shows_at shown c.self.inside.cpus.items k x (at g (goal.at.go-steps-requires-clause-live g c).After-index_mut-at))) in
+    (shows_at shown c.self.inside.cpus.items k x (at g (goal.at.go_on-steps-requires-clause-live g c).After-index_mut-at))) in
     own_live (own_reason (shown x)) c.args.self.now
     (sym (ap (λ (o : Option CpuShown). reason_or (own_reason_in o) c.args.self.now) there) ∙ c.requires.live)
 
 -- the steps that it took
-module _ (g : Over) (c : After-go-steps g) where
+module _ (g : Over) (c : After-go_on-steps g) where
   there : slice_get c.self.inside.cpus.items c.from.result ≡ Some c.index_mut-at.result.now
-  there = at g (goal.at-After-go-steps g c).After-index_mut-at
+  there = at g (goal.at-After-go_on-steps g c).After-index_mut-at
 
-  space : c.self.inside.taken + c.go-steps.result ≤ c.self.inside.room
-  space = let room = rw (← c.self.view_is) at c.requires.room in let few = c.go-steps.ensures.few in omega (arith, room, few)
+  space : c.self.inside.taken + c.go_on-steps.result ≤ c.self.inside.room
+  space = let room = rw (← c.self.view_is) at c.requires.room in let few = c.go_on-steps.ensures.few in omega (arith, room, few)
 
   laws : MachineLaws g.I.CallLayer
   laws = record {
@@ -56,40 +56,36 @@ module _ (g : Over) (c : After-go-steps g) where
   }
 
   went : WentSo g.I.CallLayer laws g.I.Owned.owner c.self.inside.threads c.self.inside.room c.from.result c.args.cpu c.from.ensures c.self.inside.machine
-      c.self.inside.cpus.items c.self.inside.taken c.go-steps.result c.go-steps.new.m c.go-steps.new.self
+      c.self.inside.cpus.items c.self.inside.taken c.go_on-steps.result c.go_on-steps.new.m c.go_on-steps.new.self
   went = went_so g.I.CallLayer laws g.I.Owned.owner c.self.inside.threads c.self.inside.room c.from.result c.args.cpu c.from.ensures c.self.inside.cpus.items
-      c.self.inside.taken c.self.invariant there c.go-steps.ensures.ran space
+      c.self.inside.taken c.self.invariant there c.go_on-steps.ensures.ran space
 
-  by_step : g.I.CallLayer.IsStepwise → c.go-steps.result ≡ 1
+  by_step : g.I.CallLayer.IsStepwise → c.go_on-steps.result ≡ 1
       → SteppedByTable c.args.cpu (shows g.I.CallLayer laws g.I.Owned.owner c.self.inside.threads c.self.inside.room c.from.result c.args.cpu c.from.ensures
       c.self.inside.machine c.self.inside.cpus.items c.self.inside.taken)
-      (shows g.I.CallLayer laws g.I.Owned.owner c.self.inside.threads c.self.inside.room c.from.result c.args.cpu c.from.ensures c.go-steps.new.m
-      (slice_set c.self.inside.cpus.items c.from.result c.go-steps.new.self) (c.self.inside.taken + c.go-steps.result)) Stepped
+      (shows g.I.CallLayer laws g.I.Owned.owner c.self.inside.threads c.self.inside.room c.from.result c.args.cpu c.from.ensures c.go_on-steps.new.m
+      (slice_set c.self.inside.cpus.items c.from.result c.go_on-steps.new.self) (c.self.inside.taken + c.go_on-steps.result)) Stepped
   by_step step is_one =
-      let few : c.go-steps.result ≤ 1 = omega (arith, is_one) in
       let live : c.self.inside.taken < c.self.inside.room = let space = space in omega (arith, space, is_one) in
       subst (λ (done : ℕ). SteppedByTable c.args.cpu (shows g.I.CallLayer laws g.I.Owned.owner c.self.inside.threads c.self.inside.room c.from.result
       c.args.cpu c.from.ensures c.self.inside.machine c.self.inside.cpus.items c.self.inside.taken)
-      (shows g.I.CallLayer laws g.I.Owned.owner c.self.inside.threads c.self.inside.room c.from.result c.args.cpu c.from.ensures c.go-steps.new.m
-      (slice_set c.self.inside.cpus.items c.from.result c.go-steps.new.self) (c.self.inside.taken + done)) Stepped) (sym is_one)
+      (shows g.I.CallLayer laws g.I.Owned.owner c.self.inside.threads c.self.inside.room c.from.result c.args.cpu c.from.ensures c.go_on-steps.new.m
+      (slice_set c.self.inside.cpus.items c.from.result c.go_on-steps.new.self) (c.self.inside.taken + done)) Stepped) (sym is_one)
       (by_one g.I.CallLayer laws g.I.Owned.owner c.self.inside.threads c.self.inside.room c.from.result c.args.cpu c.from.ensures c.self.inside.machine
-      c.go-steps.new.m c.self.inside.cpus.items c.self.inside.taken c.index_mut-at.result.now c.go-steps.new.self c.self.invariant there live
-      (one_step c.go-steps.ensures.ran few) step)
+      c.go_on-steps.new.m c.self.inside.cpus.items c.self.inside.taken c.index_mut-at.result.now c.go_on-steps.new.self c.self.invariant there live
+      (one_step c.go_on-steps.ensures.ran is_one) step)
 
 pub invariant_of-self : goal.invariant_of-self
-invariant_of-self g c = (went g (goal.at.invariant_of-self g c).After-go-steps).keeps
-
-pub returns-clause-some : goal.returns-clause-some
-returns-clause-some g c = runs_some c.go-steps.ensures.ran
+invariant_of-self g c = (went g (goal.at.invariant_of-self g c).After-go_on-steps).keeps
 
 pub returns-clause-plan : goal.returns-clause-plan
-returns-clause-plan g c = rw (← c.self.view_is) (went g (goal.at.returns-clause-plan g c).After-go-steps).leads.plan
+returns-clause-plan g c = rw (← c.self.view_is) (went g (goal.at.returns-clause-plan g c).After-go_on-steps).leads.plan
 
 pub returns-clause-one : goal.returns-clause-one
-returns-clause-one g c = λ step is_one. rw (← c.self.view_is) (by_step g (goal.at.returns-clause-one g c).After-go-steps step is_one)
+returns-clause-one g c = λ step is_one. rw (← c.self.view_is) (by_step g (goal.at.returns-clause-one g c).After-go_on-steps step is_one)
 
 pub returns-clause-ran : goal.returns-clause-ran
-returns-clause-ran g c = rw (← c.self.view_is) (went g (goal.at.returns-clause-ran g c).After-go-steps).leads.ran
+returns-clause-ran g c = rw (← c.self.view_is) (went g (goal.at.returns-clause-ran g c).After-go_on-steps).leads.ran
 
 pub returns-clause-table : goal.returns-clause-table
-returns-clause-table g c = λ step. rw (← c.self.view_is) ((went g (goal.at.returns-clause-table g c).After-go-steps).leads.table step)
+returns-clause-table g c = λ step. rw (← c.self.view_is) ((went g (goal.at.returns-clause-table g c).After-go_on-steps).leads.table step)

@@ -12,7 +12,7 @@ pub loop-taken-preserved : goal.loop-taken-preserved
 loop-taken-preserved g c =
     let all = c.args.steps.now in
     let taken = c.loop-taken.taken in
-    let own = c.steps_of-own.result + 1 in
+    let own = c.steps_behind-own.result + 1 in
     let e = c.stretch-taken.ensures in
     let within = c.loop-taken.invariant.within in
     let few = e.few in
@@ -27,18 +27,18 @@ pub returns-clause-ran : goal.returns-clause-ran
 returns-clause-ran g c =
     let within = c.loop-taken.invariant.within in
     let over = c.loop-taken-test.false in
-    let whole : c.loop-taken.taken ≡ c.steps_of-own.result + 1 = omega (arith, within, over) in
+    let whole : c.loop-taken.taken ≡ c.steps_behind-own.result + 1 = omega (arith, within, over) in
     let first = slice_index_or c.args.steps.now 0 (record { 0 = 0 }) in
     (subst (λ (l : List CpuId). Leads g.I.CallLayer.IsStepwise c.args.self.now l c.loop-taken.self)
-    (ap (λ (n : ℕ). replicate n first) whole ∙ turn_taken c.args.steps.now (record { 0 = 0 }) c.steps_of-own.result c.requires.some c.steps_of-own.ensures)
+    (ap (λ (n : ℕ). replicate n first) whole ∙ turn_taken c.args.steps.now (record { 0 = 0 }) c.steps_behind-own.result c.requires.some c.steps_behind-own.ensures)
     c.loop-taken.invariant.leads).ran
 
 pub returns-clause-table : goal.returns-clause-table
 returns-clause-table g c =
     let within = c.loop-taken.invariant.within in
     let over = c.loop-taken-test.false in
-    let whole : c.loop-taken.taken ≡ c.steps_of-own.result + 1 = omega (arith, within, over) in
+    let whole : c.loop-taken.taken ≡ c.steps_behind-own.result + 1 = omega (arith, within, over) in
     let first = slice_index_or c.args.steps.now 0 (record { 0 = 0 }) in
     (subst (λ (l : List CpuId). Leads g.I.CallLayer.IsStepwise c.args.self.now l c.loop-taken.self)
-    (ap (λ (n : ℕ). replicate n first) whole ∙ turn_taken c.args.steps.now (record { 0 = 0 }) c.steps_of-own.result c.requires.some c.steps_of-own.ensures)
+    (ap (λ (n : ℕ). replicate n first) whole ∙ turn_taken c.args.steps.now (record { 0 = 0 }) c.steps_behind-own.result c.requires.some c.steps_behind-own.ensures)
     c.loop-taken.invariant.leads).table

@@ -1,0 +1,16 @@
+use Rattle.std.proofs.Common.{◌≡◌, ◌-◌, ◌<◌, None}
+use Rattle.layer_traits.specs.declared.passes.Pass.TheVariants.{Drain}
+use Rattle.cpu.specs.{declared.cpus.Choice.TheVariants.Passes, Cpus.chosen, CpuSteps.RunsAt, CpuSteps.stops_at}
+use Rattle.cpu.proofs.cpus.Cpu.drains.Given as goal
+
+-- fewer steps were taken than may be, and the CPU is to drain
+abbrev pub invariant-loop-taken : goal.invariant-loop-taken
+invariant-loop-taken g l = record {
+  few : l.taken < l.most;
+  live : stops_at g.I.CallLayer l.self ≡ None;
+  chosen : chosen (g.I.CallLayer.threads l.self.part) l.self.guests.items ≡ Passes Drain;
+  ran : RunsAt g.I.CallLayer l.initial.m l.initial.self l.taken l.m l.self;
+}
+
+abbrev pub decreases-loop-taken : goal.decreases-loop-taken
+decreases-loop-taken g l = l.most - l.taken
