@@ -1,13 +1,16 @@
 -- Facts on the reading of schedules.
-use Rattle.std.proofs.Common.{◌≡◌, ◌≤◌, ◌<◌, ◌-◌, ◌∙◌, ◌++◌, ◌∷◌, [], ℕ, false, List, Option, Some, None, refl, sym, ap, arith, length, append_assoc}
-use Rattle.std.proofs.Common.{option_map}
-use Rattle.std.specs.Prelude.{option_and_then, replicate}
-use Rattle.std.specs.{List.slice_split, Borrow.Bor}
+use Rattle.std.proofs.Common.{◌≡◌, ◌≢◌, ◌≤◌, ◌<◌, ◌+◌, ◌-◌, ◌*◌, ◌==◌, ◌∙◌, ◌++◌, ◌∷◌, [], ℕ, true, false, List, Option, Some, None, refl, sym, ap, arith, length}
+use Rattle.std.proofs.Common.{append_assoc, drop, get_or, inl, inr, option_map, take, zero-add}
+use Rattle.std.specs.Prelude.{nat_lt, option_and_then, replicate}
+use Rattle.std.specs.{Borrow.Bor, Char.is_ascii_digit, List.AllByRecursion, List.position_or_len, List.slice_split, Str.all_ascii_digits}
+use Rattle.std.proofs.lemmas.{Bool.and_parts, Bool.cases_lt, Bool.Decides.nat_tests, List.drop_more, List.Elements.All-from_recursion, List.get_or-take}
+use Rattle.std.proofs.lemmas.{List.length-take, List.Splits.slice_split_at, List.Sums.position_or_len_is, List.take-append-drop}
 use Rattle.std.proofs.lemmas.{Bool.le-leb, Bool.lt-leb, Bool.ne_eqb, List.Elements.All-from_get_or, List.append-nil, List.length-append, List.length-replicate}
 use Rattle.std.proofs.lemmas.{List.Splits.slice_split_first, List.Splits.slice_split_none, Str.Pattern.IsSplitOnceResult, Str.Pattern.split_once_first}
 use Rattle.std.proofs.lemmas.{Str.Pattern.split_parts}
-use Rattle.event_log.specs.declared.ids.CpuId.{CpuId}
-use Rattle.mctower.specs.{Schedule.if_few, Schedule.is_comma, Schedule.item_of, Schedule.steps_in, declared.schedule.Item.Item}
+use Rattle.event_log.specs.{declared.ids.CpuId.CpuId}
+use Rattle.event_log.proofs.DigitsLemmas.{IsSpelled, ReadsUpTo, ascii_digits, number_to-spelled, read_digits, reads_one_more}
+use Rattle.mctower.specs.{Schedule.has_star, Schedule.if_few, Schedule.is_comma, Schedule.is_star, Schedule.item_of, Schedule.steps_in, declared.schedule.Item.Item}
 use Rattle.mctower.specs.{declared.schedule.TheConstants.MOST_STEPS}
 
 -- a text with no comma is one item
@@ -22,6 +25,78 @@ pub first_piece : (text : List ℕ) (first after : Bor (List ℕ)) → IsSplitOn
 first_piece text first after found =
     let at = split_once_first 44 text (Some (first, after)) found (omega arith) in
     rw (at.1, at.2) (slice_split_first is_comma text 0 at.0)
+
+-- ---- a step that is a number alone
+
+no_digit : (at c : ℕ) → at < 48 → is_ascii_digit c ≡ true → (c == at) ≡ false
+no_digit at c low digit = grind (arith, nat_tests)
+
+-- no digit is a byte below the digits, such as a comma or a star
+digits_lack : (at : ℕ) (cs : List ℕ) → at < 48 → all_ascii_digits cs ≡ true → AllByRecursion (λ b. (b == at) ≡ false) cs
+digits_lack at [] low digits = tt
+digits_lack at (c ∷ cs) low digits =
+    let parts = and_parts (is_ascii_digit c) (all_ascii_digits cs) digits in
+    (no_digit at c low parts.0, digits_lack at cs low parts.1)
+
+-- digits and a comma behind them are the first piece
+digits_cut : (text : List ℕ) (count : ℕ) → all_ascii_digits (take count text) ≡ true → count < length text → get_or text count 0 ≡ 44
+    → slice_split is_comma text ≡ take count text ∷ slice_split is_comma (drop (count + 1) text)
+digits_cut text count digits inside comma =
+    let whole : take count text ++ get_or text count 0 ∷ drop (count + 1) text ≡ text = rw (← drop_more text count 0 inside) (take-append-drop count text) in
+    let joined : take count text ++ 44 ∷ drop (count + 1) text ≡ text = rw comma at whole in
+    let lacks = All-from_recursion (λ b. is_comma b ≡ false) (take count text) (digits_lack 44 (take count text) (omega arith) digits) in
+    ap (slice_split is_comma) (sym joined) ∙ slice_split_at is_comma (take count text) 44 (drop (count + 1) text) lacks refl
+
+-- digits have no star
+no_star : (text : List ℕ) → all_ascii_digits text ≡ true → has_star text ≡ false
+no_star text digits =
+    let lacks = All-from_recursion (λ b. is_star b ≡ false) text (digits_lack 42 text (omega arith) digits) in
+    let end : position_or_len is_star text ≡ length text =
+    position_or_len_is is_star text (length text) 0 (omega arith) (λ k low. lacks k 0 low) (λ low. absurd (omega arith)) in
+    let not : nat_lt (length text) (length text) ≡ false = grind (arith, nat_tests) in
+    ap (λ at. nat_lt at (length text)) end ∙ not
+
+pub digit_small : (c digit : ℕ) → is_ascii_digit c ≡ true → digit ≡ c - 48 → digit ≤ 9
+digit_small c digit is value = grind (arith, nat_tests)
+
+-- the first digit
+pub first_digit : (text : List ℕ) (digit : ℕ) → 0 < length text → is_ascii_digit (get_or text 0 0) ≡ true → digit ≡ get_or text 0 0 - 48
+    → ReadsUpTo 255 text 1 digit
+first_digit text digit inside is value =
+    let small = digit_small (get_or text 0 0) digit is value in
+    let none : ReadsUpTo 255 text 0 0 = record { digits = ascii_digits.to [] refl; value = refl; within = omega arith } in
+    let more = reads_one_more 255 text 0 0 none inside is (omega arith) in
+    rw (value, ← zero-add (get_or text 0 0 - 48)) more
+
+-- a digit more
+pub digit_more : (text : List ℕ) (count number digit : ℕ) → ReadsUpTo 255 text count number → count < length text
+    → is_ascii_digit (get_or text count 0) ≡ true → digit ≡ get_or text count 0 - 48 → number * 10 + digit ≤ 255
+    → ReadsUpTo 255 text (count + 1) (number * 10 + digit)
+digit_more text count number digit read inside is value small =
+    rw value (reads_one_more 255 text count number read inside is (rw value at small))
+
+-- digits at the front of a text, with no leading zero, are one step of the CPU whose number they are
+pub front_item : (text : List ℕ) (count number : ℕ) → ReadsUpTo 255 text count number → 0 < count → count ≤ length text
+    → (1 < count → get_or text 0 0 ≢ 48) → item_of (take count text) ≡ Some (record { cpu = record { 0 = number }; steps = 1 })
+front_item text count number read some inside lead =
+    let front = take count text in
+    let long : length front ≡ count = length-take count text ∙ omega arith in
+    let first : get_or front 0 0 ≡ get_or text 0 0 = get_or-take count text 0 0 some in
+    let alone : get_or front 0 0 ≡ 48 → length front ≡ 1 = λ zero. elim (cases_lt 1 count) [
+      | inl more ↦ absurd (lead more (sym first ∙ zero))
+      | inr one ↦ omega arith
+    ] in
+    let digits = read_digits 255 text count number read in
+    let spelled : IsSpelled front = record { digits = digits; some = omega arith; lead = alone } in
+    let value = read.value in
+    let within = read.within in
+    rw (no_star front digits, number_to-spelled 255 front spelled (omega arith), value) refl
+
+-- such a number and a comma behind it
+pub step_cut : (text : List ℕ) (count : ℕ) (cpu : CpuId) → all_ascii_digits (take count text) ≡ true
+    → item_of (take count text) ≡ Some (record { cpu = cpu; steps = 1 }) → count < length text → get_or text count 0 ≡ 44
+    → steps_in (slice_split is_comma text) ≡ option_map (λ more. cpu ∷ more) (steps_in (slice_split is_comma (drop (count + 1) text)))
+step_cut text count cpu digits item inside comma = rw (digits_cut text count digits inside comma, item) refl
 
 -- ---- the loop over the items
 
